@@ -1,0 +1,12 @@
+-- Definitions: what a reader must believe, in document 01's order.
+pub mod Refusal
+pub mod Least
+pub mod Log
+pub mod Prime
+pub mod Sizes
+pub mod Legal
+pub mod Layout
+pub mod Made
+pub mod Key
+-- What is proved of them.
+pub mod theory

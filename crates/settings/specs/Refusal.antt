@@ -1,0 +1,17 @@
+-- Document 01, "Reply codes": the number of each refusal, by the table's words.
+use Prim.Native.Nat.{ℕ}
+use Rattle.settings.specs.declared.refusal.Refusal.{Refusal}
+use Rattle.settings.specs.declared.refusal.Refusal.the-variants as refusal
+
+abbrev pub numberOf : Refusal → ℕ
+numberOf refusal.Settings = 1
+numberOf refusal.Short = 2
+numberOf refusal.Width = 3
+numberOf refusal.Text = 4
+numberOf refusal.Key = 5
+numberOf refusal.Label = 6
+numberOf refusal.Damage = 7
+numberOf refusal.NoBlock = 8
+numberOf refusal.Output = 9
+numberOf refusal.Marks = 10
+numberOf refusal.Line = 11

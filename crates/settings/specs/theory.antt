@@ -1,0 +1,6 @@
+pub mod Cases
+pub mod Least
+pub mod Logs
+pub mod Tables
+pub mod Primes
+pub mod Legal

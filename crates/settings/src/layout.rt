@@ -1,0 +1,97 @@
+// The layout of the table's bits, computed once a call from the settings.
+ghost use mathlib.Core.Path.{_≡_};
+ghost use Prim.Native.Nat.{_+_, _*_, _^_, _≤_};
+ghost use Rattle.settings.specs.Legal.{Ranges};
+ghost use Rattle.settings.specs.Layout.{layoutOf};
+use crate::log::ceil_log2;
+use crate::log::power;
+use crate::refusal::Refusal;
+use crate::settings::Settings;
+
+// Widths, sizes and places, all in bits but for the last.
+pub struct Layout {
+    pub bie: usize,
+    pub val: usize,
+    pub slot: usize,
+    pub sib: usize,
+    pub nob: usize,
+    pub sio: usize,
+    pub lists: usize,
+    pub link: usize,
+    pub free_start: usize,
+    pub basic_counter: usize,
+    pub basic_block: usize,
+    pub overflow_counter: usize,
+    pub overflow_block: usize,
+    pub overflow_start: usize,
+    pub bits: usize,
+    pub bytes: usize,
+}
+
+pub enum Laid {
+    Layout(Layout),
+    Refused(Refusal),
+}
+
+fn wide(x: u32) -> usize
+    ensures { λ r. ⌜ r ≡ x ⌝ }
+{
+    x as usize
+}
+
+// A block's bits: its counter (and link), and its slots. Products stand in functions of their own,
+// with their bounds, so that all above them is linear.
+fn block_bits(head: usize, slots: usize, slot: usize) -> usize
+    requires { ⌜ (head ≤ 32) × (slots ≤ 255) × (slot ≤ 160) ⌝ }
+    ensures { λ r. ⌜ (r ≡ head + slots * slot) × (r ≤ 40832) ⌝ }
+{
+    head + slots * slot
+}
+
+fn blocks_bits(blocks: usize, block: usize) -> usize
+    requires { ⌜ (blocks ≤ 65536) × (block ≤ 40832) ⌝ }
+    ensures { λ r. ⌜ (r ≡ blocks * block) × (r ≤ 2675965952) ⌝ }
+{
+    blocks * block
+}
+
+impl Layout {
+    pub fn of(s: Settings) -> Layout
+        requires { ⌜ Ranges s ⌝ }
+        ensures { λ r. ⌜ r ≡ layoutOf s ⌝ }
+    {
+        let bie = wide(s.w - s.bii);
+        let val = wide(s.val);
+        let slot = bie + val;
+        let sib = wide(s.sib);
+        let nob = wide(s.nob);
+        let sio = wide(s.sio);
+        let lists = wide(power(wide(s.bii)));
+        let link = ceil_log2(s.nob);
+        let free_start = ceil_log2(1 + s.nob);
+        let basic_counter = ceil_log2(2 + s.sib);
+        let basic_block = block_bits(basic_counter, sib, slot);
+        let overflow_counter = ceil_log2(1 + s.sio);
+        let overflow_block = block_bits(overflow_counter + link, sio, slot);
+        let overflow_start = free_start + blocks_bits(lists, basic_block);
+        let bits = overflow_start + blocks_bits(nob, overflow_block);
+        Layout {
+            bie: bie,
+            val: val,
+            slot: slot,
+            sib: sib,
+            nob: nob,
+            sio: sio,
+            lists: lists,
+            link: link,
+            free_start: free_start,
+            basic_counter: basic_counter,
+            basic_block: basic_block,
+            overflow_counter: overflow_counter,
+            overflow_block: overflow_block,
+            overflow_start: overflow_start,
+            bits: bits,
+            bytes: (bits + 7) / 8,
+        }
+    }
+}

@@ -1,0 +1,38 @@
+// Why a call is refused: document 01's reply codes, a variant each.
+ghost use mathlib.Core.Path.{_≡_};
+ghost use Rattle.settings.specs.Refusal.{numberOf};
+
+pub enum Refusal {
+    Settings,
+    Short,
+    Width,
+    Text,
+    Key,
+    Label,
+    Damage,
+    NoBlock,
+    Output,
+    Marks,
+    Line,
+}
+
+impl Refusal {
+    // The number that document 01 gives the refusal.
+    pub fn number(self) -> u32
+        ensures { λ r. ⌜ r ≡ numberOf self ⌝ }
+    {
+        match self {
+            Refusal::Settings => 1,
+            Refusal::Short => 2,
+            Refusal::Width => 3,
+            Refusal::Text => 4,
+            Refusal::Key => 5,
+            Refusal::Label => 6,
+            Refusal::Damage => 7,
+            Refusal::NoBlock => 8,
+            Refusal::Output => 9,
+            Refusal::Marks => 10,
+            Refusal::Line => 11,
+        }
+    }
+}
