@@ -2,7 +2,15 @@
 use Prim.Native.Nat.{ℕ}
 use Rattle.settings.specs.Sizes.{bie, slotBits, linkBits, freeStartBits, lists, basicCounterBits, basicBlockBits, overflowCounterBits, overflowBlockBits, overflowStart, tableBits, tableBytes}
 use Rattle.settings.specs.declared.settings.Settings.{Settings}
+use Rattle.settings.specs.declared.layout.Blocks.{Blocks}
 use Rattle.settings.specs.declared.layout.Layout.{Layout}
+
+-- the basic blocks stand behind the free start, the overflow blocks behind them
+abbrev pub basicBlocks : Settings → Blocks
+basicBlocks s = record { start = freeStartBits s; counter = basicCounterBits s; bits = basicBlockBits s }
+
+abbrev pub overflowBlocks : Settings → Blocks
+overflowBlocks s = record { start = overflowStart s; counter = overflowCounterBits s; bits = overflowBlockBits s }
 
 unfoldable pub layoutOf : Settings → Layout
 layoutOf s =
@@ -15,12 +23,8 @@ layoutOf s =
       sio = s .sio;
       lists = lists s;
       link = linkBits s;
-      «free_start» = freeStartBits s;
-      «basic_counter» = basicCounterBits s;
-      «basic_block» = basicBlockBits s;
-      «overflow_counter» = overflowCounterBits s;
-      «overflow_block» = overflowBlockBits s;
-      «overflow_start» = overflowStart s;
+      basic = basicBlocks s;
+      overflow = overflowBlocks s;
       bits = tableBits s;
       bytes = tableBytes s;
     }

@@ -7,6 +7,7 @@ pub mod Sizes
 pub mod Legal
 pub mod Layout
 pub mod Made
+pub mod Proper
 pub mod Key
 -- What is proved of them.
 pub mod theory

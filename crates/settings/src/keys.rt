@@ -1,4 +1,12 @@
 // From a key to its list, and back.
+ghost use mathlib.Core.Path.{_≡_};
+ghost use Prim.Native.Nat.{_+_, _*_, _/_, _%_, _^_, _<_, _≤_};
+ghost use lib.Dec.{ltb};
+ghost use Rattle.settings.specs.Prime.{primeAbove};
+ghost use Rattle.settings.specs.Sizes.{bie};
+ghost use Rattle.settings.specs.Legal.{Legal};
+ghost use Rattle.settings.specs.Key.{keyNumber, keyOf, hash, placeOf, rebuilt};
+use crate::settings::Settings;
 
 // A key of up to 128 bits: the number high * 2^64 + low.
 pub struct Key {
@@ -17,4 +25,160 @@ pub struct SlotNumber(pub usize);
 pub struct Place {
     pub list: ListNumber,
     pub entry: Key,
+}
+
+impl Key {
+    // Whether no bit above the low w is set.
+    pub fn within(self, w: u32) -> bool
+        requires { ⌜ w ≤ 128 ⌝ }
+        ensures { λ r. ⌜ r ≡ ltb (keyNumber self) (2 ^ w) ⌝ }
+    {
+        if w == 128 {
+            return true;
+        }
+        if w >= 64 {
+            return self.high < pow(w - 64);
+        }
+        (self.high == 0) & (self.low < pow(w))
+    }
+
+    // Where the key belongs.
+    pub fn place(self, s: Settings) -> Place
+        requires { ⌜ Legal s × (keyNumber self < 2 ^ s .w) ⌝ }
+        ensures { λ r. ⌜ r ≡ placeOf s (keyNumber self) ⌝ }
+    {
+        let n = s.w - s.bii;
+        let entry = self.low_bits(n);
+        let list = self.high_bits(n) ^ hash_of(s, entry);
+        Place {
+            list: ListNumber(list as usize),
+            entry,
+        }
+    }
+
+    // The low n bits.
+    fn low_bits(self, n: u32) -> Key
+        requires { ⌜ n ≤ 128 ⌝ }
+        ensures { λ r. ⌜ r ≡ keyOf (keyNumber self % 2 ^ n) ⌝ }
+    {
+        if n == 128 {
+            return self;
+        }
+        if n >= 64 {
+            return Key {
+                high: self.high % pow(n - 64),
+                low: self.low,
+            };
+        }
+        Key {
+            high: 0,
+            low: self.low % pow(n),
+        }
+    }
+
+    // The bits above the low n, at most 16.
+    fn high_bits(self, n: u32) -> u64
+        requires { ⌜ (1 ≤ n) × (n ≤ 128) × (keyNumber self < 2 ^ (16 + n)) ⌝ }
+        ensures { λ r. ⌜ r ≡ keyNumber self / 2 ^ n ⌝ }
+    {
+        if n == 128 {
+            return 0;
+        }
+        if n >= 64 {
+            return self.high / pow(n - 64);
+        }
+        self.high * pow(64 - n) + self.low / pow(n)
+    }
+
+    // The key with `top` above its low n bits.
+    fn with_top(self, top: u64, n: u32) -> Key
+        requires { ⌜ (1 ≤ n) × (n ≤ 128) × (keyNumber self < 2 ^ n) × (top * 2 ^ n + keyNumber self < 2 ^ 128) ⌝ }
+        ensures { λ r. ⌜ r ≡ keyOf (top * 2 ^ n + keyNumber self) ⌝ }
+    {
+        if n == 128 {
+            return self;
+        }
+        if n >= 64 {
+            return Key {
+                high: top * pow(n - 64) + self.high,
+                low: self.low,
+            };
+        }
+        let room = pow(64 - n);
+        Key {
+            high: top / room,
+            low: top % room * pow(n) + self.low,
+        }
+    }
+}
+
+impl Place {
+    // The key that belongs here.
+    pub fn key(self, s: Settings) -> Key
+        requires { ⌜ Legal s × (self .list .0 < 2 ^ s .bii) × (keyNumber (self .entry) < 2 ^ bie s) ⌝ }
+        ensures { λ r. ⌜ r ≡ keyOf (rebuilt s (self .list .0) (keyNumber (self .entry))) ⌝ }
+    {
+        let list = self.list;
+        let entry = self.entry;
+        let index = (list.0 as u64) ^ hash_of(s, entry);
+        entry.with_top(index, s.w - s.bii)
+    }
+}
+
+// 2^k. A product, a quotient or a remainder by it is compiled to a shift or a mask.
+fn pow(k: u32) -> u64
+    requires { ⌜ k < 64 ⌝ }
+    ensures { λ r. ⌜ r ≡ 2 ^ k ⌝ }
+{
+    1 << k
+}
+
+// The low bii bits of ((a * E + b) mod p).
+fn hash_of(s: Settings, e: Key) -> u64
+    requires { ⌜ Legal s ⌝ }
+    ensures { λ r. ⌜ r ≡ hash s (keyNumber e) ⌝ }
+{
+    remainder(s, e) % pow(s.bii)
+}
+
+// (a * E + b) mod p, with an arm for each p, since a division by a literal is compiled to a multiplication.
+fn remainder(s: Settings, e: Key) -> u64
+    requires { ⌜ Legal s ⌝ }
+    ensures { λ r. ⌜ r ≡ (s .a * keyNumber e + s .b) % primeAbove (s .bii) ⌝ }
+{
+    let bii = s.bii;
+    match bii {
+        0 => folded(s, e, 0, 0, 0) % 2,
+        1 => folded(s, e, 1, 1, 1) % 3,
+        2 => folded(s, e, 1, 1, 1) % 5,
+        3 => folded(s, e, 4, 5, 9) % 11,
+        4 => folded(s, e, 1, 1, 1) % 17,
+        5 => folded(s, e, 7, 12, 10) % 37,
+        6 => folded(s, e, 33, 17, 25) % 67,
+        7 => folded(s, e, 117, 65, 7) % 131,
+        8 => folded(s, e, 1, 1, 1) % 257,
+        9 => folded(s, e, 117, 143, 59) % 521,
+        10 => folded(s, e, 690, 809, 439) % 1031,
+        11 => folded(s, e, 964, 1340, 423) % 2053,
+        12 => folded(s, e, 2304, 211, 2462) % 4099,
+        13 => folded(s, e, 2078, 150, 7967) % 8209,
+        14 => folded(s, e, 11664, 1706, 8652) % 16411,
+        15 => folded(s, e, 36, 1296, 13885) % 32771,
+        _ => folded(s, e, 1, 1, 1) % 65537,
+    }
+}
+
+// A number with the same remainder by p as a * E + b, where c1, c2 and c3 are the remainders of 2^32, 2^64 and 2^96. It
+// is below 2^64.
+fn folded(s: Settings, e: Key, c1: u64, c2: u64, c3: u64) -> u64
+    requires { ⌜ Legal s × (c1 + c2 + c3 ≤ 22022) ⌝ }
+    ensures { λ r. ⌜ r ≡ s .a * (e .low % 2 ^ 32 + e .low / 2 ^ 32 * c1 + e .high % 2 ^ 32 * c2 + e .high / 2 ^ 32 * c3) + s .b ⌝ }
+{
+    let low = e.low;
+    let high = e.high;
+    let sum = low % 4294967296
+        + low / 4294967296 * c1
+        + high % 4294967296 * c2
+        + high / 4294967296 * c3;
+    (s.a as u64) * sum + s.b as u64
 }

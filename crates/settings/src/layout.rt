@@ -8,7 +8,16 @@ use crate::log::power;
 use crate::refusal::Refusal;
 use crate::settings::Settings;
 
-// Widths, sizes and places, all in bits but for the last.
+// Blocks of one kind, one after the other: where block 0 begins, and the bits of a counter and of a
+// whole block.
+pub struct Blocks {
+    pub start: usize,
+    pub counter: usize,
+    pub bits: usize,
+}
+
+// The widths of the fields, the numbers of slots and blocks, and the size of it all. The free start
+// is the bits before the basic blocks.
 pub struct Layout {
     pub bie: usize,
     pub val: usize,
@@ -18,12 +27,8 @@ pub struct Layout {
     pub sio: usize,
     pub lists: usize,
     pub link: usize,
-    pub free_start: usize,
-    pub basic_counter: usize,
-    pub basic_block: usize,
-    pub overflow_counter: usize,
-    pub overflow_block: usize,
-    pub overflow_start: usize,
+    pub basic: Blocks,
+    pub overflow: Blocks,
     pub bits: usize,
     pub bytes: usize,
 }
@@ -69,12 +74,19 @@ impl Layout {
         let lists = wide(power(wide(s.bii)));
         let link = ceil_log2(s.nob);
         let free_start = ceil_log2(1 + s.nob);
-        let basic_counter = ceil_log2(2 + s.sib);
-        let basic_block = block_bits(basic_counter, sib, slot);
-        let overflow_counter = ceil_log2(1 + s.sio);
-        let overflow_block = block_bits(overflow_counter + link, sio, slot);
-        let overflow_start = free_start + blocks_bits(lists, basic_block);
-        let bits = overflow_start + blocks_bits(nob, overflow_block);
+        let counter = ceil_log2(2 + s.sib);
+        let basic = Blocks {
+            start: free_start,
+            counter: counter,
+            bits: block_bits(counter, sib, slot),
+        };
+        let further = ceil_log2(1 + s.sio);
+        let overflow = Blocks {
+            start: free_start + blocks_bits(lists, basic.bits),
+            counter: further,
+            bits: block_bits(further + link, sio, slot),
+        };
+        let bits = overflow.start + blocks_bits(nob, overflow.bits);
         Layout {
             bie: bie,
             val: val,
@@ -84,12 +96,8 @@ impl Layout {
             sio: sio,
             lists: lists,
             link: link,
-            free_start: free_start,
-            basic_counter: basic_counter,
-            basic_block: basic_block,
-            overflow_counter: overflow_counter,
-            overflow_block: overflow_block,
-            overflow_start: overflow_start,
+            basic: basic,
+            overflow: overflow,
             bits: bits,
             bytes: (bits + 7) / 8,
         }

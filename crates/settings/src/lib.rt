@@ -6,7 +6,15 @@ mod log;
 mod refusal;
 mod settings;
 
-pub use keys::{BlockNumber, Key, ListNumber, SlotNumber};
-pub use layout::{Laid, Layout};
+pub use keys::BlockNumber;
+pub use keys::Key;
+pub use keys::ListNumber;
+pub use keys::Place;
+pub use keys::SlotNumber;
+pub use layout::Blocks;
+pub use layout::Laid;
+pub use layout::Layout;
 pub use refusal::Refusal;
-pub use settings::{Made, Settings, Size};
+pub use settings::Made;
+pub use settings::Settings;
+pub use settings::Size;

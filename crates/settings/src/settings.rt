@@ -144,7 +144,7 @@ impl Settings {
         ensures { λ r. ⌜ r ≡ (fits self && belowPrime self) ⌝ }
     {
         let p = prime(self.bii as usize);
-        (g.link <= g.basic_block - g.basic_counter)
+        (g.link <= g.basic.bits - g.basic.counter)
             & (g.bytes <= Settings::BYTES_MAX)
             & ((1 <= self.a) & (self.a < p) & (1 <= self.b) & (self.b < p))
     }

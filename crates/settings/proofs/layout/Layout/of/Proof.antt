@@ -1,6 +1,6 @@
 -- Each number is what its callee's promise says, and all sums are linear.
 use mathlib.Core.Path.{_≡_, ap, _∙_}
-use Prim.Native.Nat.{ℕ, _+_, _-_, _*_, _/_, _^_}
+use Prim.Native.Nat.{ℕ, _+_, _-_, _*_, _/_, _^_, _≤_}
 use native.Mathlib.Omega.{arith}
 use Rattle.settings.specs.Log.{ceilLog2}
 use Rattle.settings.specs.declared.settings.Settings.{Settings}
@@ -64,28 +64,35 @@ add-ceil-log2-3 c = search needs
 ceil-log2-requires-4 : tie.Need-ceil-log2-requires-4
 ceil-log2-requires-4 c κs = search needs
 
-add-block-bits : tie.Need-add-block-bits
-add-block-bits c = search needs
-
-block-bits-requires-2 : tie.Need-block-bits-requires-2
-block-bits-requires-2 c κs = search needs
-
 blocks-bits-requires : tie.Need-blocks-bits-requires
 blocks-bits-requires c κs = search needs
 
-add-overflow-start : tie.Need-add-overflow-start
-add-overflow-start c = search needs
+add-t18 : tie.Need-add-t18
+add-t18 c = search needs
+
+add-block-bits : tie.Need-add-block-bits
+add-block-bits c = search needs
+
+-- what `omega` needs from too far back for it to find
+abbrev early : tie.After-blocks-bits → tie.After-wide5
+early c = c .before .before .before .before .before .before .before .before .before .before .before .before
+
+small : (c : tie.After-wide5)
+    → (c .wide5 .result ≤ 15) × (c .before .wide4 .result ≤ 65535)
+    × (c .before .before .before .before .wide .result + c .before .before .before .wide2 .result ≤ 160)
+small c = omega arith
+
+block-bits-requires-2 : tie.Need-block-bits-requires-2
+block-bits-requires-2 c κs = let h = small (early c) in (omega arith, omega (arith, h .0), omega (arith, h .2))
 
 blocks-bits-requires-2 : tie.Need-blocks-bits-requires-2
-blocks-bits-requires-2 c κs =
-    let sized = c .before .before .before .before .before .before .before .before .before .before .before .before .before in
-    (omega (arith, sized .before .wide4 .ensures), c .before .block-bits2 .ensures .1)
+blocks-bits-requires-2 c κs = (omega (arith, small (early (c .before)) .1), c .block-bits2 .ensures .1)
 
 add-bits : tie.Need-add-bits
 add-bits c = search needs
 
-add-t18 : tie.Need-add-t18
-add-t18 c = search needs
+add-t20 : tie.Need-add-t20
+add-t20 c = search needs
 
 -- the layout from its numbers, each as the code computes it from those before
 laid : (s : Settings) (e v b n o p l f cb bb co ob os z : ℕ)
@@ -101,12 +108,8 @@ laid : (s : Settings) (e v b n o p l f cb bb co ob os z : ℕ)
       sio = o;
       lists = p;
       link = l;
-      «free_start» = f;
-      «basic_counter» = cb;
-      «basic_block» = bb;
-      «overflow_counter» = co;
-      «overflow_block» = ob;
-      «overflow_start» = os;
+      basic = record { start = f; counter = cb; bits = bb };
+      overflow = record { start = os; counter = co; bits = ob };
       bits = z;
       bytes = (z + 7) / 8;
     } ≡ layoutOf s
@@ -116,8 +119,8 @@ laid s e v b n o p l f cb bb co ob os z ee ev eb en eo ep el ef ecb ebb eco eob 
 
 returns : tie.Need-returns
 returns c =
-    let a = c .before .before in
-    let b = a .before .before .before in
+    let z = c .before in
+    let b = z .before .before .before .before .before in
     let d = b .before .before .before .before .before in
     let k = d .before .before .before .before in
     laid _ _ _ _ _ _ _ _ _ _ _ _ _ _ _
@@ -131,10 +134,10 @@ returns c =
     (b .before .before .before .ceil-log22 .ensures .0)
     (b .before .ceil-log23 .ensures .0)
     (b .block-bits .ensures .0)
-    (a .before .ceil-log24 .ensures .0)
-    (a .block-bits2 .ensures .0)
-    (ap (λ (x : ℕ). b .before .before .before .ceil-log22 .result + x) (c .before .blocks-bits .ensures .0))
-    (ap (λ (x : ℕ). b .before .before .before .ceil-log22 .result + c .before .blocks-bits .result + x) (c .blocks-bits2 .ensures .0))
+    (z .before .before .before .ceil-log24 .ensures .0)
+    (z .before .block-bits2 .ensures .0)
+    (ap (λ (x : ℕ). b .before .before .before .ceil-log22 .result + x) (z .before .before .blocks-bits .ensures .0))
+    (ap (λ (x : ℕ). b .before .before .before .ceil-log22 .result + z .before .before .blocks-bits .result + x) (z .blocks-bits2 .ensures .0))
 
 pub of-spec : {M : Type 1} → statement M
 of-spec =
@@ -158,11 +161,11 @@ of-spec =
     block-bits-requires
     add-ceil-log2-3
     ceil-log2-requires-4
+    blocks-bits-requires
+    add-t18
     add-block-bits
     block-bits-requires-2
-    blocks-bits-requires
-    add-overflow-start
     blocks-bits-requires-2
     add-bits
-    add-t18
+    add-t20
     returns)

@@ -15,17 +15,17 @@ use Rattle.settings.proofs.settings.Settings.keeps_rules.Statement.{sta
 use Rattle.settings.proofs.settings.Settings.keeps_rules.Tie as tie
 
 -- the bits of a basic block are its counter's and its slots'
-slots : (s : Settings) (g : Layout) → g ≡ layoutOf s → g .«basic_block» ≡ g .«basic_counter» + s .sib * slotBits s
+slots : (s : Settings) (g : Layout) → g ≡ layoutOf s → g .basic .bits ≡ g .basic .counter + s .sib * slotBits s
 unfolding layoutOf basicBlockBits
 slots s g e = rw e
 
 rules : (s : Settings) (g : Layout) (p : ℕ) → g ≡ layoutOf s → p ≡ primeAbove (s .bii)
-    → (leb (g .link) (g .«basic_block» - g .«basic_counter») && leb (g .bytes) 16777216
+    → (leb (g .link) (g .basic .bits - g .basic .counter) && leb (g .bytes) 16777216
     && (leb 1 (s .a) && ltb (s .a) p && leb 1 (s .b) && ltb (s .b) p))
     ≡ (fits s && belowPrime s)
 unfolding layoutOf fits belowPrime
 rules s g p e f =
-    let h : g .«basic_block» - g .«basic_counter» ≡ s .sib * slotBits s = omega (arith, slots s g e) in
+    let h : g .basic .bits - g .basic .counter ≡ s .sib * slotBits s = omega (arith, slots s g e) in
     rw (h, f, e)
 
 cast-prime : tie.Need-cast-prime

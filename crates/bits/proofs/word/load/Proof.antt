@@ -1,0 +1,24 @@
+-- Eight bytes, lowest first, turned round are the field of their 64 bits (`load-word`).
+use mathlib.Core.Path.{_∙_}
+use native.Mathlib.Omega.{arith}
+use denote.Ref.{now}
+use Rattle.bits.specs.theory.Words.{load-word}
+use borrow.Author.Needs.{needs}
+use Rattle.bits.proofs.word.load.Statement.{statement}
+use Rattle.bits.proofs.word.load.Tie as tie
+
+low-first-requires : tie.Need-low-first-requires
+low-first-requires c κs = search needs
+
+turn-requires : tie.Need-turn-requires
+turn-requires c κs = search needs
+
+returns : tie.Need-returns
+returns c =
+    let k = c .before .before in
+    let a = k .before .args in
+    c .turn .ensures
+    ∙ load-word (now (a .s)) (a .i) (λ j. omega (arith, k .shared-slice-known .given j)) (c .before .low-first .result) (c .before .low-first .ensures)
+
+pub load-spec : {M : Type 1} → statement M
+load-spec = tie.close (tie.spec low-first-requires turn-requires returns)

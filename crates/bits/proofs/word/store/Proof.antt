@@ -1,0 +1,44 @@
+-- The eight bytes of the turned number, set lowest first, are the field of 64 bits written (`store-word`).
+use mathlib.Core.Path.{_∙_}
+use native.Mathlib.Omega.{arith}
+use denote.Ref.{now}
+use Rattle.bits.specs.theory.Words.{store-word}
+use borrow.Author.Needs.{needs}
+use Rattle.bits.proofs.word.store.Statement.{statement}
+use Rattle.bits.proofs.word.store.Tie as tie
+
+turn-requires : tie.Need-turn-requires
+turn-requires c κs = search needs
+
+store-four-requires : tie.Need-store-four-requires
+store-four-requires c κs = search needs
+
+add-store-four : tie.Need-add-store-four
+add-store-four c = search needs
+
+store-four-requires-2 : tie.Need-store-four-requires-2
+store-four-requires-2 c κs = search needs
+
+same-length : tie.Need-same-length
+same-length c = search needs
+
+returns : tie.Need-returns
+returns c =
+    let k = c .before .before in
+    let j = k .before .before .before .before in
+    let t = j .before .before in
+    let a = t .before .before .args in
+    k .store-four2 .ensures
+    ∙ rw (j .store-four .ensures)
+    (store-word (now (a .s)) (a .i) (λ l. omega (arith, t .before .slice-known .given l)) (a .w) (t .turn .result) (omega arith) (t .turn .ensures))
+
+pub store-spec : {M : Type 1} → statement M
+store-spec =
+    tie.close
+    (tie.spec
+    turn-requires
+    store-four-requires
+    add-store-four
+    store-four-requires-2
+    same-length
+    returns)

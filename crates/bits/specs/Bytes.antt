@@ -1,0 +1,8 @@
+-- Lists of bytes. "Bit 0 is the top bit of byte 0; fields are most significant bit first."
+use mathlib.Core.List.{List}
+use Prim.Native.Nat.{ℕ, _<_}
+use lib.ListN.{getD}
+
+-- every element of s is below 256
+abbrev pub Bytes : List ℕ → Type 0
+Bytes s = (i : ℕ) → getD s i 0 < 256

@@ -1,0 +1,7 @@
+-- Definitions, which contracts cite; and, in theory, the laws that hold of them.
+pub mod Field
+pub mod Put
+pub mod Within
+pub mod Bytes
+pub mod Word
+pub mod theory

@@ -1,0 +1,39 @@
+// Some bits of a number. Products, quotients and remainders by a power of two become shifts and
+// masks in machine code.
+ghost use mathlib.Core.Path.{_≡_};
+ghost use Prim.Native.Nat.{_+_, _*_, _/_, _%_, _^_, _≤_, _<_};
+ghost use Rattle.bits.specs.Put.{replaced};
+
+// 2 to the k.
+pub fn pow(k: usize) -> u64
+    requires { ⌜ k < 64 ⌝ }
+    ensures { λ r. ⌜ r ≡ 2 ^ k ⌝ }
+{
+    1 << k
+}
+
+// The m bits of x above its k low ones.
+pub fn part(x: u64, k: usize, m: usize) -> u64
+    requires { ⌜ (0 < m) × (k + m ≤ 64) ⌝ }
+    ensures { λ r. ⌜ r ≡ x / 2 ^ k % 2 ^ m ⌝ }
+{
+    (x << (64 - k - m)) >> (64 - m)
+}
+
+// x, with the m bits above its k low ones replaced by v. The old bits are taken off and the new ones
+// put on, so that it needs no mask.
+pub fn replace(x: u64, k: usize, m: usize, v: u64) -> u64
+    requires { ⌜ (0 < m) × (k + m ≤ 64) × (v < 2 ^ m) ⌝ }
+    ensures { λ r. ⌜ r ≡ replaced x k m v ⌝ }
+{
+    let q = pow(k);
+    x - part(x, k, m) * q + v * q
+}
+
+// x, followed by the t bits of y.
+pub fn join(x: u64, t: usize, y: u64) -> u64
+    requires { ⌜ (t < 64) × (x * 2 ^ t + y < 2 ^ 64) ⌝ }
+    ensures { λ r. ⌜ r ≡ x * 2 ^ t + y ⌝ }
+{
+    x * pow(t) + y
+}

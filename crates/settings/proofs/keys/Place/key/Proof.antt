@@ -1,0 +1,37 @@
+-- The xor with the hash gives the index back, and a rebuilt key is below 2 ^ w.
+use mathlib.Core.Path.{ap, _∙_}
+use Prim.Native.Nat.{ℕ, _+_, _*_, _^_}
+use native.Mathlib.Nat.{lt-of-lt-of-le}
+use native.Mathlib.Omega.{arith}
+use lib.Bits.{bitXor}
+use lib.Pow.{pow-mono}
+use borrow.Author.Needs.{needs}
+use Rattle.settings.specs.Sizes.{bie}
+use Rattle.settings.specs.Key.{keyNumber, keyOf, rebuilt}
+use Rattle.settings.specs.theory.Keys.{rebuilt-below}
+use Rattle.settings.proofs.keys.Place.key.Statement.{statement}
+use Rattle.settings.proofs.keys.Place.key.Tie as tie
+
+hash-of-requires : tie.Need-hash-of-requires
+hash-of-requires c κs = search needs
+
+sub-with-top : tie.Need-sub-with-top
+sub-with-top c = search needs
+
+with-top-requires : tie.Need-with-top-requires
+unfolding rebuilt
+with-top-requires c κs =
+    let pre = c .before .before .before .before .pre in
+    let below = lt-of-lt-of-le (rebuilt-below (pre .0) (pre .1) (pre .2)) (pow-mono (pre .0 .ranges .w-high)) in
+    (omega arith, omega arith, pre .2, rw (c .before .hash-of .ensures) below)
+
+returns : tie.Need-returns
+unfolding rebuilt
+returns c =
+    let a = c .before .before .before .before .before .args in
+    c .with-top .ensures
+    ∙ ap (λ (x : ℕ). keyOf (bitXor (a .self .list .0) x * 2 ^ bie (a .s) + keyNumber (a .self .entry)))
+    (c .before .before .hash-of .ensures)
+
+pub key-spec : {M : Type 1} → statement M
+key-spec = tie.close (tie.spec hash-of-requires sub-with-top with-top-requires returns)

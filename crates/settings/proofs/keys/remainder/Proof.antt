@@ -1,0 +1,133 @@
+-- Each arm is the law `folded-same` at its own prime and coefficients, whose remainders are computed.
+use mathlib.Core.Path.{_≡_, refl, sym, ap, _∙_}
+use Prim.Native.Nat.{ℕ, zero, suc, _+_, _*_, _/_, _%_, _^_, _≤_, zero-le}
+use native.Mathlib.Nat.{le-antisymm}
+use lib.Arith.{lt-of-le-ne}
+use lib.ListN.{getD}
+use borrow.Author.Needs.{needs}
+use Rattle.settings.specs.Prime.{primeAbove}
+use Rattle.settings.specs.Key.{keyNumber}
+use Rattle.settings.specs.theory.Primes.{primes, prime-table}
+use Rattle.settings.specs.theory.Remainders.{folded-same}
+use Rattle.settings.specs.declared.settings.Settings.{Settings}
+use Rattle.settings.specs.declared.keys.Key.{Key}
+use Rattle.settings.proofs.keys.remainder.Statement.{statement}
+use Rattle.settings.proofs.keys.remainder.Tie as tie
+
+-- a number that is none of those below k, one after the other, is at least k
+abbrev NoneOf : ℕ → ℕ → Type 0
+NoneOf zero n = Unit
+NoneOf (suc k) n = NoneOf k n × (n ≡ k → ⊥)
+
+at-least : (k n : ℕ) → NoneOf k n → k ≤ n
+at-least zero n h = zero-le
+at-least (suc k) n h = lt-of-le-ne (at-least k n (h .0)) (λ e. h .1 (sym e))
+
+module _ (start : tie.Start) (k c₁ c₂ c₃ : ℕ) where
+  abbrev p : ℕ
+  p = getD primes k 0
+
+  abbrev s : Settings
+  s = start .args .s
+
+  abbrev e : Key
+  e = start .args .e
+
+  arm : c₁ % p ≡ 2 ^ 32 % p → c₂ % p ≡ 2 ^ 64 % p → c₃ % p ≡ 2 ^ 96 % p → s .bii ≡ k → {r : ℕ}
+      → r ≡ s .a * (e .low % 2 ^ 32 + e .low / 2 ^ 32 * c₁ + e .high % 2 ^ 32 * c₂ + e .high / 2 ^ 32 * c₃) + s .b
+      → r % p ≡ (s .a * keyNumber e + s .b) % primeAbove (s .bii)
+  unfolding keyNumber
+  arm h₁ h₂ h₃ is-k sum =
+      let small : k ≤ 16 = rw is-k at (start .pre .ranges .bii-high) in
+      ap (λ (x : ℕ). x % p) sum ∙ folded-same p c₁ c₂ c₃ h₁ h₂ h₃ (s .a) (s .b) (e .high) (e .low)
+      ∙ ap (λ (x : ℕ). (s .a * keyNumber e + s .b) % x) (sym (ap primeAbove is-k ∙ prime-table k small))
+
+returns : tie.Need-returns
+returns c = arm (c .before .before) 0 0 0 0 refl refl refl (c .before .match .keys1) (c .folded .ensures)
+
+returns-2 : tie.Need-returns-2
+returns-2 c = arm (c .before .before) 1 1 1 1 refl refl refl (c .before .match .keys2) (c .folded2 .ensures)
+
+returns-3 : tie.Need-returns-3
+returns-3 c = arm (c .before .before) 2 1 1 1 refl refl refl (c .before .match .keys3) (c .folded3 .ensures)
+
+returns-4 : tie.Need-returns-4
+returns-4 c = arm (c .before .before) 3 4 5 9 refl refl refl (c .before .match .keys4) (c .folded4 .ensures)
+
+returns-5 : tie.Need-returns-5
+returns-5 c = arm (c .before .before) 4 1 1 1 refl refl refl (c .before .match .keys5) (c .folded5 .ensures)
+
+returns-6 : tie.Need-returns-6
+returns-6 c = arm (c .before .before) 5 7 12 10 refl refl refl (c .before .match .keys6) (c .folded6 .ensures)
+
+returns-7 : tie.Need-returns-7
+returns-7 c = arm (c .before .before) 6 33 17 25 refl refl refl (c .before .match .keys7) (c .folded7 .ensures)
+
+returns-8 : tie.Need-returns-8
+returns-8 c = arm (c .before .before) 7 117 65 7 refl refl refl (c .before .match .keys8) (c .folded8 .ensures)
+
+returns-9 : tie.Need-returns-9
+returns-9 c = arm (c .before .before) 8 1 1 1 refl refl refl (c .before .match .keys9) (c .folded9 .ensures)
+
+returns-10 : tie.Need-returns-10
+returns-10 c = arm (c .before .before) 9 117 143 59 refl refl refl (c .before .match .keys10) (c .folded10 .ensures)
+
+returns-11 : tie.Need-returns-11
+returns-11 c = arm (c .before .before) 10 690 809 439 refl refl refl (c .before .match .keys11) (c .folded11 .ensures)
+
+returns-12 : tie.Need-returns-12
+returns-12 c = arm (c .before .before) 11 964 1340 423 refl refl refl (c .before .match .keys12) (c .folded12 .ensures)
+
+returns-13 : tie.Need-returns-13
+returns-13 c = arm (c .before .before) 12 2304 211 2462 refl refl refl (c .before .match .keys13) (c .folded13 .ensures)
+
+returns-14 : tie.Need-returns-14
+returns-14 c = arm (c .before .before) 13 2078 150 7967 refl refl refl (c .before .match .keys14) (c .folded14 .ensures)
+
+returns-15 : tie.Need-returns-15
+returns-15 c = arm (c .before .before) 14 11664 1706 8652 refl refl refl (c .before .match .keys15) (c .folded15 .ensures)
+
+returns-16 : tie.Need-returns-16
+returns-16 c = arm (c .before .before) 15 36 1296 13885 refl refl refl (c .before .match .keys16) (c .folded16 .ensures)
+
+returns-17 : tie.Need-returns-17
+returns-17 c = arm (c .before .before) 16 1 1 1 refl refl refl (le-antisymm (c .before .before .pre .ranges .bii-high) (at-least 16 _ (c .before .match .rest))) (c .folded17 .ensures)
+
+pub remainder-spec : {M : Type 1} → statement M
+remainder-spec =
+    tie.close
+    (tie.spec
+    (λ c κs. search needs)
+    (λ c κs. search needs)
+    (λ c κs. search needs)
+    (λ c κs. search needs)
+    (λ c κs. search needs)
+    (λ c κs. search needs)
+    (λ c κs. search needs)
+    (λ c κs. search needs)
+    (λ c κs. search needs)
+    (λ c κs. search needs)
+    (λ c κs. search needs)
+    (λ c κs. search needs)
+    (λ c κs. search needs)
+    (λ c κs. search needs)
+    (λ c κs. search needs)
+    (λ c κs. search needs)
+    (λ c κs. search needs)
+    returns
+    returns-2
+    returns-3
+    returns-4
+    returns-5
+    returns-6
+    returns-7
+    returns-8
+    returns-9
+    returns-10
+    returns-11
+    returns-12
+    returns-13
+    returns-14
+    returns-15
+    returns-16
+    returns-17)

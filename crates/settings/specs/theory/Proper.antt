@@ -1,0 +1,45 @@
+-- The layout of legal settings is proper.
+use mathlib.Core.Path.{_≡_, refl, sym}
+use Prim.Native.Nat.{ℕ, suc, _+_, _*_, _^_, _≤_, _<_}
+use native.Mathlib.Omega.{arith}
+use lib.Pow.{pow-pos, pow-mono}
+use Rattle.settings.specs.Log.{ceilLog2}
+use Rattle.settings.specs.Sizes.{linkBits, freeStartBits, basicCounterBits, basicBlockBits, lists, overflowCounterBits, overflowBlockBits, overflowStart, tableBits, tableBytes}
+use Rattle.settings.specs.Legal.{Legal}
+use Rattle.settings.specs.Layout.{layoutOf}
+use Rattle.settings.specs.Proper.{Proper}
+use Rattle.settings.specs.theory.Logs.{log-holds, log-least}
+use Rattle.settings.specs.declared.settings.Settings.{Settings}
+
+pub layout-proper : (s : Settings) → Legal s → Proper (layoutOf s)
+unfolding layoutOf linkBits freeStartBits basicCounterBits basicBlockBits lists overflowCounterBits overflowBlockBits overflowStart tableBits tableBytes
+layout-proper s l =
+    let r = l .ranges in
+    record {
+      slot-is = refl;
+      bie-low = omega arith;
+      bie-high = omega arith;
+      val-high = r .val-high;
+      sib-low = r .sib-low;
+      sib-high = r .sib-high;
+      nob-high = r .nob-high;
+      sio-low = r .sio-low;
+      sio-high = r .sio-high;
+      lists-low = pow-pos (s .bii);
+      lists-high = pow-mono (r .bii-high);
+      link-high = log-least (s .nob) 16 (omega arith);
+      free-high = log-least (1 + s .nob) 16 (omega arith);
+      basic-high = log-least (2 + s .sib) 9 (omega arith);
+      overflow-high = log-least (1 + s .sio) 4 (omega arith);
+      link-fits = l .link-fits;
+      basic-is = refl;
+      overflow-is = refl;
+      start-is = refl;
+      bits-is = refl;
+      bytes-is = refl;
+      bytes-high = l .bytes-high;
+      basic-holds = omega (arith, log-holds (2 + s .sib));
+      overflow-holds = omega (arith, log-holds (1 + s .sio));
+      link-holds = log-holds (s .nob);
+      free-holds = omega (arith, log-holds (1 + s .nob));
+    }
