@@ -1,0 +1,17 @@
+-- The test is the definition's.
+use borrow.Author.Tests.{eq-eqb, ne-eqb}
+use borrow.Author.Needs.{needs}
+use Rattle.address.proofs.writer.zeros_from.Statement.{statement}
+use Rattle.address.proofs.writer.zeros_from.Tie as tie
+
+add-result : tie.Need-add-result
+add-result c = search needs
+
+returns : tie.Need-returns
+returns c = simp (eq-eqb _ _ (c .if1 .taken))
+
+returns-2 : tie.Need-returns-2
+returns-2 c = simp (ne-eqb _ _ (c .if1 .left))
+
+pub zeros-from-spec : {M : Type 1} → statement M
+zeros-from-spec = tie.close (tie.spec add-result returns returns-2)
