@@ -1,8 +1,11 @@
 -- Words that only the contracts of the writer's private functions use.
-use Prim.Native.Nat.{ℕ, _+_, _*_, _/_, _%_}
+use mathlib.Core.Path.{_≡_}
+use Prim.Native.Nat.{ℕ, _+_, _*_, _/_, _%_, _≤_, _<_}
+use mathlib.Core.Bool.{cond}
 use mathlib.Core.List.{List, [], _∷_, _++_}
+use lib.Dec.{leb}
 use Rattle.settings.specs.declared.keys.Key.{Key}
-use Rattle.address.specs.Writing.{groupText, fourGroups}
+use Rattle.address.specs.Writing.{groupText, fourGroups, zeros, longest}
 
 -- the eight groups of a key
 unfoldable pub keyGroups : Key → List ℕ
@@ -19,3 +22,13 @@ unpacked x = x % 256 ∷ x / 256 % 256 ∷ x / 65536 % 256 ∷ x / 16777216 % 25
 unfoldable pub closedText : List ℕ → List ℕ
 closedText [] = []
 closedText (g ∷ l) = groupText g ++ 58 ∷ closedText l
+
+-- a bit for each place of the list, the first in the lowest: n zero groups stand from there on
+unfoldable pub runMarks : ℕ → List ℕ → ℕ
+runMarks n [] = 0
+runMarks n (g ∷ l) = runMarks n l * 2 + cond (leb n (zeros (g ∷ l))) 1 0
+
+-- the run that "::" stands for: fewer than two groups if none does
+pub record Gap (l : List ℕ) (start count : ℕ) : Type 0 where
+  pub none : count < 2 → longest l .1 < 2
+  pub some : 2 ≤ count → (start ≡ longest l .0) × (count ≡ longest l .1)

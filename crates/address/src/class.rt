@@ -1,7 +1,6 @@
 // What each byte of a text is for the reader.
 ghost use mathlib.Core.Path.{_≡_};
 ghost use Prim.Native.Nat.{_<_};
-ghost use lib.ListN.{length};
 ghost use Rattle.address.specs.Class.{classOf};
 ghost use Rattle.address.specs.ReaderSteps.{Classes, classAt};
 

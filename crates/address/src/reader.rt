@@ -1,4 +1,4 @@
-// Reads an address, each byte once, into two halves.
+// Reads an address in one pass. The groups go into two halves of 64 bits as they come; none is stored.
 ghost use mathlib.Core.Path.{_≡_};
 ghost use Prim.Native.Nat.{_+_, _*_, _≤_, _<_};
 ghost use mathlib.Core.Bool.{cond, _&&_};
@@ -34,6 +34,7 @@ struct Groups {
     count: usize,
 }
 
+// Before the first group.
 const NO_GROUPS: Groups = Groups {
     high: 0,
     low: 0,
@@ -49,7 +50,7 @@ enum Part {
     Bad,
 }
 
-// A numeral ends before `next`, if what stands there is the end of its field.
+// The numeral that ends before `next`, if its field ends there too: by the class of the byte at `next`.
 fn ended(value: u64, next: usize, class: u64, end: u64) -> Numeral
     ensures { λ r. ⌜ r ≡ cond (eqb class end) (numeral.Value value next) numeral.Bad ⌝ }
 {
@@ -59,7 +60,7 @@ fn ended(value: u64, next: usize, class: u64, end: u64) -> Numeral
     Numeral::Bad
 }
 
-// The group in the field from `at` on, from the classes of the five bytes that stand there.
+// The group in the field from `at` on, by the classes of the five bytes from there: none is looked up twice.
 fn group_of(text: &[u8], at: usize, a: u64, b: u64, c: u64, d: u64, e: u64) -> Numeral
     requires { ⌜ Five (now text) at a b c d e × (at ≤ length (now text)) ⌝ }
     ensures { λ r. ⌜ r ≡ groupIn (until colon (drop at (now (text .entry)))) at ⌝ }
@@ -79,7 +80,7 @@ fn group_of(text: &[u8], at: usize, a: u64, b: u64, c: u64, d: u64, e: u64) -> N
     ended((a * 16 + b) * 16 + c, at + 3, d, COLON)
 }
 
-// The group in the field from `at` on. Far from the end of the text no byte's place need be tested.
+// The group in the field from `at` on. Only near the end of the text is each place tested.
 fn group(table: &[u8; 256], text: &[u8], at: usize) -> Numeral
     requires { ⌜ Classes (now table) × (at ≤ length (now text)) ⌝ }
     ensures { λ r. ⌜ r ≡ groupIn (until colon (drop at (now (text .entry)))) at ⌝ }
@@ -165,7 +166,7 @@ fn dotted(table: &[u8; 256], text: &[u8], from: usize) -> Numeral
     }
 }
 
-// One group more.
+// One group more. 281474976710656 is 2^48: the first group of the low half goes over to the high half.
 fn pushed(groups: Groups, group: u64) -> Groups
     requires { ⌜ Sized groups × (groups .count ≤ 7) × (group < 65536) ⌝ }
     ensures { λ r. ⌜ r ≡ made (numberOf groups * 65536 + group) (groups .count + 1) ⌝ }
@@ -177,7 +178,7 @@ fn pushed(groups: Groups, group: u64) -> Groups
     }
 }
 
-// The groups, with those of the dotted tail from `at` on.
+// The groups and the two of the dotted tail from `at` on: a field that is no group can only be that.
 fn with_tail(table: &[u8; 256], text: &[u8], at: usize, groups: Groups) -> Part
     requires { ⌜ Classes (now table) × (at ≤ length (now text)) × Sized groups × (groups .count ≤ 8) ⌝ }
     ensures { λ r. ⌜ r ≡ toEnd (numberOf groups) (groups .count) (dottedGroups (drop at (now (text .entry)))) ⌝ }
@@ -229,12 +230,14 @@ fn read_part(table: &[u8; 256], text: &[u8], from: usize) -> Part
     }
 }
 
+// No legal address.
 fn refused() -> Parsed
     ensures { λ r. ⌜ r ≡ parsed.Refused refusal.Text ⌝ }
 {
     Parsed::Refused(Refusal::Text)
 }
 
+// The key of these halves.
 fn found(high: u64, low: u64) -> Parsed
     ensures { λ r. ⌜ r ≡ parsed.Key (record { high = high; low = low }) ⌝ }
 {
@@ -252,7 +255,8 @@ fn eight(groups: Groups) -> Parsed
     refused()
 }
 
-// Zero groups between the head and the tail, so that there are eight: the head moves up.
+// The head's groups first, the tail's last, and zero groups between, so that there are eight. The head moves up by a power
+// of 65536 that is written out for each count: 2^16, 2^32, 2^48, and whole halves.
 fn filled(head: Groups, tail: Groups) -> Parsed
     requires { ⌜ Sized head × Sized tail × (head .count ≤ 8) × (tail .count ≤ 8) ⌝ }
     ensures { λ r. ⌜ r ≡ filledWith (numberOf head) (head .count) (numberOf tail) (tail .count) ⌝ }
@@ -282,7 +286,7 @@ fn filled(head: Groups, tail: Groups) -> Parsed
     }
 }
 
-// The address whose groups before "::" are read: those after it stand from `at` on.
+// The address whose groups before "::" are read. One part follows, or nothing: a second "::" is not legal.
 fn after_gap(table: &[u8; 256], text: &[u8], at: usize, head: Groups) -> Parsed
     requires { ⌜ Classes (now table) × (at ≤ length (now text)) × Sized head × (head .count ≤ 8) ⌝ }
     ensures { λ r. ⌜ r ≡ afterGap (numberOf head) (head .count) (drop at (now (text .entry))) ⌝ }
@@ -310,7 +314,7 @@ fn opens(table: &[u8; 256], text: &[u8]) -> bool
     class(table, text[1]) == COLON
 }
 
-// What stands before "::", which may be nothing, or the whole text.
+// The part before "::", which may be empty, or the whole text.
 fn first_part(table: &[u8; 256], text: &[u8]) -> Part
     requires { ⌜ Classes (now table) ⌝ }
     ensures { λ r. ⌜ (readingOf (now (text .entry)) ≡ headAnswer (now (text .entry)) r) × Fine (length (now (text .entry))) r ⌝ }
@@ -324,6 +328,7 @@ fn first_part(table: &[u8; 256], text: &[u8]) -> Part
     read_part(table, text, 0)
 }
 
+// Reads an address by the class table, which is lent once a call.
 fn read_by(table: &[u8; 256], text: &[u8]) -> Parsed
     requires { ⌜ Classes (now table) ⌝ }
     ensures { λ r. ⌜ r ≡ readingOf (now (text .entry)) ⌝ }

@@ -7,8 +7,8 @@ ghost use mathlib.Core.List.{[], _∷_, _++_};
 ghost use mathlib.Core.Bool.{cond};
 ghost use lib.ListN.{length, take, drop, getD};
 ghost use lib.Dec.{eqb};
-ghost use Rattle.address.specs.Writing.{hexDigit, groupText, partText, longest, textOf};
-ghost use Rattle.address.specs.WriterSteps.{keyGroups, packed, unpacked, closedText};
+ghost use Rattle.address.specs.Writing.{hexDigit, groupText, partText, textOf};
+ghost use Rattle.address.specs.WriterSteps.{Gap, keyGroups, packed, unpacked, closedText, runMarks};
 ghost use Rattle.address.specs.Answers.{writingOf, storedOf};
 use crate::Written;
 use settings::Key;
@@ -18,6 +18,12 @@ use settings::Refusal;
 struct Run {
     start: usize,
     count: usize,
+}
+
+fn wide(x: u32) -> usize
+    ensures { λ r. ⌜ r ≡ x ⌝ }
+{
+    x as usize
 }
 
 fn low_byte(x: u32) -> u8
@@ -51,7 +57,7 @@ fn characters(group: u32) -> u32
     ensures { λ r. ⌜ r ≡ packed (hexDigit (group / 4096)) (hexDigit (group / 256 % 16)) (hexDigit (group / 16 % 16)) (hexDigit (group % 16)) ⌝ }
 {
     let x = digits(group);
-    x + 808464432 + (((x + 101058054) / 16) & 16843009) * 39
+    x + 0x30303030 + (((x + 0x06060606) / 16) & 0x01010101) * 39
 }
 
 // How many digits the text of a group has: one for every four bits that it needs, and one for 0.
@@ -62,6 +68,7 @@ fn digit_count(group: u32) -> u32
     (35 - u32::leading_zeros(group / 2 * 2 + 1)) / 4
 }
 
+// The four bytes of a number, the lowest first.
 fn put_four(text: &mut [u8], at: usize, x: u32)
     requires { ⌜ at + 4 ≤ length (now text) ⌝ }
     ensures { λ r. ⌜ take (at + 4) (now (text .exit)) ≡ take at (now (text .entry)) ++ unpacked x ⌝ }
@@ -121,35 +128,50 @@ fn put_back(text: &mut [u8], at: usize, key: Key, from: usize) -> usize
     put_groups(text, at, key, from, 8) - 1
 }
 
-// How many zero groups a list begins with, where `zeros` stand after its first group.
-fn zeros_from(first: u32, zeros: usize) -> usize
-    requires { ⌜ zeros < 8 ⌝ }
-    ensures { λ r. ⌜ r ≡ cond (eqb first 0) (zeros + 1) 0 ⌝ }
+fn zero_bit(group: u32) -> u32
+    ensures { λ r. ⌜ (r ≡ cond (eqb group 0) 1 0) × (r ≤ 1) ⌝ }
 {
-    if first == 0 {
-        return zeros + 1;
+    if group == 0 {
+        return 1;
     }
     0
 }
 
-// The longest run of zero groups. It is looked for from the end, so that a run as long, but further
-// in front, takes its place.
-fn longest_run(key: Key) -> Run
-    ensures { λ r. ⌜ (r .start ≡ longest (keyGroups key) .0) × (r .count ≡ longest (keyGroups key) .1) ⌝ }
+// A bit for each group, the first in the lowest: 1 for a zero group.
+fn zero_groups(key: Key) -> u32
+    ensures { λ r. ⌜ r ≡ runMarks 1 (keyGroups key) ⌝ }
 {
+    let mut marks: u32 = 0;
     let mut i: usize = 8;
-    let mut zeros: usize = 0;
-    let mut start: usize = 8;
-    let mut count: usize = 0;
     while 0 < i {
         i -= 1;
-        zeros = zeros_from(group_at(key, i), zeros);
-        if count <= zeros {
-            start = i;
-            count = zeros;
-        }
+        marks = marks * 2 + zero_bit(group_at(key, i));
     }
-    Run { start, count }
+    marks
+}
+
+// The longest run of two or more zero groups, the first of equals. `marks` has a bit for each place
+// where a run of `count` begins; a longer run begins where the next place has one too.
+fn longest_run(key: Key) -> Run
+    ensures { λ r. ⌜ Gap (keyGroups key) (r .start) (r .count) ⌝ }
+{
+    let single = zero_groups(key);
+    let mut marks = single & (single / 2);
+    if marks == 0 {
+        return Run { start: 8, count: 0 };
+    }
+    let mut count: usize = 2;
+    let mut longer = marks & (marks / 2);
+    while longer != 0 {
+        marks = longer;
+        count += 1;
+        longer = marks & (marks / 2);
+    }
+    let start = u32::trailing_zeros(marks);
+    Run {
+        start: wide(start),
+        count: count,
+    }
 }
 
 // The text of a key, and its length.
@@ -168,6 +190,7 @@ fn put_text(text: &mut [u8], key: Key) -> usize
     put_back(text, end + 1, key, start + count)
 }
 
+// The first n bytes; the rest of `out` is left as it is.
 fn copy(text: &[u8], n: usize, out: &mut [u8])
     requires { ⌜ (n ≤ length (now text)) × (n ≤ length (now out)) ⌝ }
     ensures { λ r. ⌜ now (out .exit) ≡ take n (now (text .entry)) ++ drop n (now (out .entry)) ⌝ }
@@ -183,7 +206,8 @@ fn copy(text: &[u8], n: usize, out: &mut [u8])
 pub fn write(key: Key, out: &mut [u8]) -> Written
     ensures { λ r. ⌜ (r ≡ writingOf key (now (out .entry))) × (now (out .exit) ≡ storedOf key (now (out .entry))) ⌝ }
 {
-    let mut text = [0u8; 48];
+    // At most 39 bytes, and the colon that is left out again.
+    let mut text = [0u8; 40];
     let n = put_text(&mut text, key);
     if out.len() < n {
         return Written::Refused(Refusal::Output);

@@ -1,7 +1,6 @@
 -- The table's rule, at the byte.
 use borrow.Author.Needs.{needs}
 use mathlib.Core.Path.{_∙_}
-use native.Mathlib.Omega.{arith}
 use Rattle.address.proofs.class.class.Statement.{statement}
 use Rattle.address.proofs.class.class.Tie as tie
 

@@ -1,6 +1,6 @@
 -- A byte's class, or the end's.
 use borrow.Author.Needs.{needs}
-use mathlib.Core.Path.{_∙_, sym}
+use mathlib.Core.Path.{_∙_}
 use borrow.Author.Tests.{lt-ltb, le-ltb}
 use Rattle.address.specs.ReaderSteps.{classAt}
 use lib.ListN.{length}

@@ -1,10 +1,8 @@
--- Each digit goes on with the decimal; the first byte that is none ends it.
+-- The first byte that is no digit ends the decimal; three digits are the most, and none follows a leading zero.
 use borrow.Author.Needs.{needs}
-use Prim.Native.Nat.{_+_, _*_}
 use mathlib.Core.Path.{_∙_, sym}
-use mathlib.Core.Logic.{inl, inr}
 use native.Mathlib.Omega.{arith}
-use Rattle.address.specs.theory.reader.Fields.{decimal-start, decimal-bad, decimal-ended, decimal-leading, decimal-large, one-decimal, two-decimals, three-decimals}
+use Rattle.address.specs.theory.reader.Fields.{decimal-none, decimal-one, decimal-zero, decimal-two, decimal-over, decimal-three}
 use Rattle.address.proofs.reader.decimal.Statement.{statement}
 use Rattle.address.proofs.reader.decimal.Tie as tie
 
@@ -13,9 +11,9 @@ class-at-requires c κs = search needs
 
 returns : tie.Need-returns
 returns c =
-    let o = c .before in
-    let k = o .before .before .args in
-    sym (decimal-start (k .text .now) (k .at) ∙ decimal-bad (k .text .now) (k .at) (omega (arith, o .class-at .ensures)))
+    let a = c .before in
+    let k = a .before .before .args in
+    sym (decimal-none (k .text .now) (k .at) (a .class-at .result) (a .class-at .ensures) (c .if1 .taken))
 
 add-class-at : tie.Need-add-class-at
 add-class-at c = search needs
@@ -34,18 +32,14 @@ returns-2 c =
     let b = c .before .before in
     let a = b .before .before in
     let k = a .before .before .args in
-    c .ended .ensures
-    ∙ sym (one-decimal (k .text .now) (k .at) (a .class-at .result) (a .class-at .ensures) (omega arith)
-    ∙ decimal-ended (k .text .now) (k .at + 1) 1 (a .class-at .result) (omega arith) (omega arith) (omega arith) (inl (omega (arith, b .class-at2 .ensures)))
-    ∙ rw (b .class-at2 .ensures))
+    c .ended .ensures ∙ sym (decimal-one (k .text .now) (k .at) (a .class-at .result) (a .class-at .ensures) (omega arith) (b .class-at2 .result) (b .class-at2 .ensures) (c .before .if2 .taken))
 
 returns-3 : tie.Need-returns-3
 returns-3 c =
     let b = c .before .before in
     let a = b .before .before in
     let k = a .before .before .args in
-    sym (one-decimal (k .text .now) (k .at) (a .class-at .result) (a .class-at .ensures) (omega arith)
-    ∙ decimal-leading (k .text .now) (k .at + 1) 1 (a .class-at .result) (omega arith) (c .if3 .taken) (omega (arith, b .class-at2 .ensures)))
+    sym (decimal-zero (k .text .now) (k .at) (a .class-at .result) (a .class-at .ensures) (omega arith) (b .class-at2 .result) (b .class-at2 .ensures) (omega arith) (c .if3 .taken))
 
 add-class-at-2 : tie.Need-add-class-at-2
 add-class-at-2 c = search needs
@@ -71,10 +65,7 @@ returns-4 c =
     let b = d .before .before .before in
     let a = b .before .before in
     let k = a .before .before .args in
-    c .ended2 .ensures
-    ∙ sym (two-decimals (k .text .now) (k .at) (a .class-at .result) (a .class-at .ensures) (omega arith) (b .class-at2 .result) (b .class-at2 .ensures) (omega arith) (d .before .if3 .left)
-    ∙ decimal-ended (k .text .now) (k .at + 2) 2 (a .class-at .result * 10 + b .class-at2 .result) (omega arith) (omega arith) (omega arith) (inl (omega (arith, d .class-at3 .ensures)))
-    ∙ rw (d .class-at3 .ensures))
+    c .ended2 .ensures ∙ sym (decimal-two (k .text .now) (k .at) (a .class-at .result) (a .class-at .ensures) (omega arith) (b .class-at2 .result) (b .class-at2 .ensures) (omega arith) (d .before .if3 .left) (d .class-at3 .result) (d .class-at3 .ensures) (c .before .if4 .taken))
 
 mul-value : tie.Need-mul-value
 mul-value c = search needs
@@ -94,9 +85,7 @@ returns-5 c =
     let b = d .before .before .before in
     let a = b .before .before in
     let k = a .before .before .args in
-    sym (three-decimals (k .text .now) (k .at) (a .class-at .result) (a .class-at .ensures) (omega arith) (b .class-at2 .result) (b .class-at2 .ensures) (omega arith) (d .before .if3 .left)
-    (d .class-at3 .result) (d .class-at3 .ensures) (omega arith)
-    ∙ decimal-large (k .text .now) (k .at + 3) 3 ((a .class-at .result * 10 + b .class-at2 .result) * 10 + d .class-at3 .result) (omega arith) (c .if5 .taken))
+    sym (decimal-over (k .text .now) (k .at) (a .class-at .result) (a .class-at .ensures) (omega arith) (b .class-at2 .result) (b .class-at2 .ensures) (omega arith) (d .before .if3 .left) (d .class-at3 .result) (d .class-at3 .ensures) (omega arith) (c .if5 .taken))
 
 add-ended-4 : tie.Need-add-ended-4
 add-ended-4 c = search needs
@@ -117,11 +106,7 @@ returns-6 c =
     let b = d .before .before .before in
     let a = b .before .before in
     let k = a .before .before .args in
-    c .ended3 .ensures
-    ∙ sym (three-decimals (k .text .now) (k .at) (a .class-at .result) (a .class-at .ensures) (omega arith) (b .class-at2 .result) (b .class-at2 .ensures) (omega arith) (d .before .if3 .left)
-    (d .class-at3 .result) (d .class-at3 .ensures) (omega arith)
-    ∙ decimal-ended (k .text .now) (k .at + 3) 3 ((a .class-at .result * 10 + b .class-at2 .result) * 10 + d .class-at3 .result) (omega arith) (omega arith) (e .before .if5 .left) (inr (omega arith))
-    ∙ rw (e .class-at4 .ensures))
+    c .ended3 .ensures ∙ sym (decimal-three (k .text .now) (k .at) (a .class-at .result) (a .class-at .ensures) (omega arith) (b .class-at2 .result) (b .class-at2 .ensures) (omega arith) (d .before .if3 .left) (d .class-at3 .result) (d .class-at3 .ensures) (omega arith) (e .before .if5 .left) (e .class-at4 .result) (e .class-at4 .ensures))
 
 pub decimal-spec : {M : Type 1} → statement M
 decimal-spec =

@@ -1,12 +1,11 @@
 -- The text begins with "::", or its first part begins it.
 use borrow.Author.Needs.{needs}
-use mathlib.Core.Path.{refl, sym, ap, _∙_}
+use mathlib.Core.Path.{sym, ap, _∙_}
 use native.Mathlib.Omega.{arith}
-use Prim.Native.Nat.{_+_}
 use native.Mathlib.Nat.{zero-add}
 use lib.ListN.{length}
 use lib.Dec.{lit<}
-use Rattle.address.specs.ReaderSteps.{headAnswer, Fine}
+use Rattle.address.specs.ReaderSteps.{headAnswer}
 use Rattle.address.specs.theory.reader.Parts.{part-fine, read-open, read-plain}
 use Rattle.address.proofs.reader.first_part.Statement.{statement}
 use Rattle.address.proofs.reader.first_part.Tie as tie

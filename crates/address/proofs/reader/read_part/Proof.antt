@@ -1,14 +1,16 @@
 -- What is left of the text, with the groups read so far, gives the answer.
-use Prim.Native.Nat.{ℕ, _+_, _*_, _-_, _≤_, _<_}
+use Prim.Native.Nat.{_+_, _-_, _≤_, _<_}
 use mathlib.Core.Path.{_≡_, refl, sym, ap, _∙_}
 use native.Mathlib.Omega.{arith}
 use borrow.Author.Needs.{needs}
+use mathlib.Core.Option.{some}
 use lib.ListN.{length, drop}
 use lib.Dec.{lit<}
 use Rattle.address.specs.Class.{colon}
+use Rattle.address.specs.Numerals.{group}
 use Rattle.address.specs.ReaderSteps.{until, numberOf, Sized, partFrom}
-use Rattle.address.specs.theory.reader.Splits.{no-group, one-group}
-use Rattle.address.specs.theory.reader.Joined.{group-small, Pushed, pushed-of}
+use Rattle.address.specs.theory.reader.Splits.{Past, no-group, one-group}
+use Rattle.address.specs.theory.reader.Joined.{group-small, pushed-of}
 use Rattle.address.specs.theory.reader.Parts.{part-dotted, turn-many, turn-last, turn-short, turn-gap, turn-more}
 use Rattle.address.specs.declared.reader.Groups.{Groups}
 use Rattle.address.specs.declared.reader.Part.the-variants as answer
@@ -22,6 +24,25 @@ Inv-loop table text from groups₀ at₀ groups at =
 
 abbrev μ-loop : tie.MeasureT-loop
 μ-loop table text from groups₀ at₀ groups at = length text - at
+
+-- the group that was found in the field
+found : (w : tie.After-value Inv-loop μ-loop)
+    → (group (until colon (drop (w .before .before .before .loop .at) (w .before .before .before .before .before .args .text .now))) ≡ some (w .value .given .0 .0))
+    × Past colon (w .before .before .before .before .before .args .text .now) (w .before .before .before .loop .at) (w .value .given .0 .1 .0)
+found w =
+    let o = w .before .before in
+    let a = o .before in
+    one-group (a .before .before .args .text .now) (a .loop .at) (a .loop .inv .0) (w .value .given .0 .0) (w .value .given .0 .1 .0) (sym (o .group .ensures) ∙ w .value .given .1)
+
+small : (w : tie.After-value Inv-loop μ-loop) → w .value .given .0 .0 < 65536
+small w =
+    let a = w .before .before .before in
+    group-small (until colon (drop (a .loop .at) (a .before .before .args .text .now))) (w .value .given .0 .0) (found w .0)
+
+-- a colon and another byte follow
+two-more : (c : tie.Else3 Inv-loop μ-loop)
+    → c .before .before .before .before .before .before .value .given .0 .1 .0 + 1 < length (c .before .before .before .before .before .before .before .before .before .before .before .args .text .now)
+two-more c = omega (arith, found (c .before .before .before .before .before .before) .1 .within, c .before .if2 .left, c .if3 .left)
 
 loop-holds : tie.Need-loop-holds Inv-loop μ-loop
 loop-holds c = (search needs, search needs, record { fits = lit< tt; half = lit< tt }, refl)
@@ -54,160 +75,74 @@ enum-known-value c = search needs
 returns-2 : tie.Need-returns-2 Inv-loop μ-loop
 returns-2 c =
     let w = c .before .before .before in
-    let o = w .before .before in
-    let a = o .before in
-    let k = a .before .before in
-    let s = k .args .text .now in
-    let i = a .loop .at in
-    let g = a .loop .groups in
-    let x = w .value .given .0 .0 in
-    let end = w .value .given .0 .1 .0 in
-    let found = one-group s i (a .loop .inv .0) x end (sym (o .group .ensures) ∙ w .value .given .1) in
-    sym (a .loop .inv .3 ∙ turn-many (numberOf g) (g .count) s i x end (found .0) (found .1) (c .if1 .taken))
+    let a = w .before .before .before in
+    let f = found w in
+    sym (a .loop .inv .3 ∙ turn-many _ _ _ _ _ _ (f .0) (f .1) (c .if1 .taken))
 
 pushed-requires : tie.Need-pushed-requires Inv-loop μ-loop
 pushed-requires c κs =
     let w = c .before .before .before in
-    let o = w .before .before in
-    let a = o .before in
-    let k = a .before .before in
-    let s = k .args .text .now in
-    let i = a .loop .at in
-    let g = a .loop .groups in
-    let x = w .value .given .0 .0 in
-    let end = w .value .given .0 .1 .0 in
-    let found = one-group s i (a .loop .inv .0) x end (sym (o .group .ensures) ∙ w .value .given .1) in
-    (a .loop .inv .2, c .if1 .left, group-small (until colon (drop i s)) x (found .0))
+    (w .before .before .before .loop .inv .2, c .if1 .left, small w)
 
 returns-3 : tie.Need-returns-3 Inv-loop μ-loop
 returns-3 c =
     let w = c .before .before .before .before .before in
-    let o = w .before .before in
-    let a = o .before in
-    let k = a .before .before in
-    let s = k .args .text .now in
-    let i = a .loop .at in
-    let g = a .loop .groups in
-    let x = w .value .given .0 .0 in
-    let end = w .value .given .0 .1 .0 in
-    let found = one-group s i (a .loop .inv .0) x end (sym (o .group .ensures) ∙ w .value .given .1) in
+    let a = w .before .before .before in
+    let f = found w in
     ap answer.Whole (c .before .pushed .ensures)
-    ∙ sym (a .loop .inv .3 ∙ turn-last (numberOf g) (g .count) s i x end (found .0) (found .1) (c .if2 .taken) (c .before .before .if1 .left))
+    ∙ sym (a .loop .inv .3 ∙ turn-last _ _ _ _ _ _ (f .0) (f .1) (c .if2 .taken) (c .before .before .if1 .left))
 
 add-at : tie.Need-add-at Inv-loop μ-loop
 add-at c =
     let w = c .before .before .before .before .before in
-    let o = w .before .before in
-    let a = o .before in
-    let k = a .before .before in
-    let s = k .args .text .now in
-    let i = a .loop .at in
-    let g = a .loop .groups in
-    let x = w .value .given .0 .0 in
-    let end = w .value .given .0 .1 .0 in
-    let found = one-group s i (a .loop .inv .0) x end (sym (o .group .ensures) ∙ w .value .given .1) in
-    omega (arith, found .1 .within, k .good)
+    omega (arith, found w .1 .within, w .before .before .before .before .before .good)
 
 returns-4 : tie.Need-returns-4 Inv-loop μ-loop
 returns-4 c =
     let w = c .before .before .before .before .before .before in
-    let o = w .before .before in
-    let a = o .before in
-    let k = a .before .before in
-    let s = k .args .text .now in
-    let i = a .loop .at in
-    let g = a .loop .groups in
-    let x = w .value .given .0 .0 in
-    let end = w .value .given .0 .1 .0 in
-    let found = one-group s i (a .loop .inv .0) x end (sym (o .group .ensures) ∙ w .value .given .1) in
-    sym (a .loop .inv .3 ∙ turn-short (numberOf g) (g .count) s i x end (found .0) (found .1) (c .if3 .taken))
+    let a = w .before .before .before in
+    let f = found w in
+    sym (a .loop .inv .3 ∙ turn-short _ _ _ _ _ _ (f .0) (f .1) (c .if3 .taken))
 
 shared-slice-read-class : tie.Need-shared-slice-read-class Inv-loop μ-loop
-shared-slice-read-class c =
-    let w = c .before .before .before .before .before .before .before in
-    let o = w .before .before in
-    let a = o .before in
-    let k = a .before .before in
-    let s = k .args .text .now in
-    let i = a .loop .at in
-    let g = a .loop .groups in
-    let x = w .value .given .0 .0 in
-    let end = w .value .given .0 .1 .0 in
-    let found = one-group s i (a .loop .inv .0) x end (sym (o .group .ensures) ∙ w .value .given .1) in
-    omega (arith, found .1 .within, c .before .before .if2 .left, c .before .if3 .left)
+shared-slice-read-class c = two-more (c .before)
 
 class-requires : tie.Need-class-requires Inv-loop μ-loop
 class-requires c κs = c .before .before .before .before .before .before .before .before .before .before .before .before .pre .0
 
 add-t14 : tie.Need-add-t14 Inv-loop μ-loop
 add-t14 c =
-    let w = c .before .before .before .before .before .before .before .before .before in
-    let o = w .before .before in
-    let a = o .before in
-    let k = a .before .before in
-    let s = k .args .text .now in
-    let i = a .loop .at in
-    let g = a .loop .groups in
-    let x = w .value .given .0 .0 in
-    let end = w .value .given .0 .1 .0 in
-    let found = one-group s i (a .loop .inv .0) x end (sym (o .group .ensures) ∙ w .value .given .1) in
-    omega (arith, found .1 .within, k .good)
+    let e = c .before .before .before in
+    omega (arith, two-more e, e .before .before .before .before .before .before .before .before .before .before .before .good)
 
 returns-5 : tie.Need-returns-5 Inv-loop μ-loop
 returns-5 c =
     let w = c .before .before .before .before .before .before .before .before .before in
-    let o = w .before .before in
-    let a = o .before in
-    let k = a .before .before in
-    let s = k .args .text .now in
-    let i = a .loop .at in
-    let g = a .loop .groups in
-    let x = w .value .given .0 .0 in
-    let end = w .value .given .0 .1 .0 in
-    let found = one-group s i (a .loop .inv .0) x end (sym (o .group .ensures) ∙ w .value .given .1) in
-    let e3 = c .before .before .before in
-    let e2 = e3 .before in
-    let q = e2 .before in
-    let h : end + 1 < length s = omega (arith, found .1 .within, e2 .if2 .left, e3 .if3 .left) in
-    ap (λ (p : Groups). answer.Gap p (end + 1 + 1)) (q .pushed .ensures)
-    ∙ sym (a .loop .inv .3 ∙ turn-gap (numberOf g) (g .count) s i x end (found .0) (found .1) h (sym (c .before .class .ensures) ∙ c .if4 .taken) (q .before .if1 .left))
+    let a = w .before .before .before in
+    let f = found w in
+    let e = c .before .before .before in
+    let q = e .before .before in
+    ap (λ (p : Groups). answer.Gap p (w .value .given .0 .1 .0 + 1 + 1)) (q .pushed .ensures)
+    ∙ sym (a .loop .inv .3 ∙ turn-gap _ _ _ _ _ _ (f .0) (f .1) (two-more e) (sym (c .before .class .ensures) ∙ c .if4 .taken) (q .before .if1 .left))
 
 loop-less : tie.Need-loop-less Inv-loop μ-loop
 loop-less c =
-    let w = c .before .before .before .before .before .before .before .before .before in
-    let o = w .before .before in
-    let a = o .before in
-    let k = a .before .before in
-    let s = k .args .text .now in
-    let i = a .loop .at in
-    let g = a .loop .groups in
-    let x = w .value .given .0 .0 in
-    let end = w .value .given .0 .1 .0 in
-    let found = one-group s i (a .loop .inv .0) x end (sym (o .group .ensures) ∙ w .value .given .1) in
-    omega (arith, found .1 .within, found .1 .from, c .before .before .before .before .if2 .left)
+    let e = c .before .before .before in
+    omega (arith, two-more e, found (e .before .before .before .before .before .before) .1 .from)
 
 loop-again : tie.Need-loop-again Inv-loop μ-loop
 loop-again c =
     let w = c .before .before .before .before .before .before .before .before .before in
-    let o = w .before .before in
-    let a = o .before in
-    let k = a .before .before in
-    let s = k .args .text .now in
-    let i = a .loop .at in
-    let g = a .loop .groups in
-    let x = w .value .given .0 .0 in
-    let end = w .value .given .0 .1 .0 in
-    let found = one-group s i (a .loop .inv .0) x end (sym (o .group .ensures) ∙ w .value .given .1) in
-    let e3 = c .before .before .before in
-    let e2 = e3 .before in
-    let q = e2 .before in
-    let h : end + 1 < length s = omega (arith, found .1 .within, e2 .if2 .left, e3 .if3 .left) in
-    let p = pushed-of g x (q .pushed .result) (a .loop .inv .2) (group-small (until colon (drop i s)) x (found .0)) (q .pushed .ensures) in (
-      omega arith,
+    let a = w .before .before .before in
+    let f = found w in
+    let e = c .before .before .before in
+    let q = e .before .before in
+    let p = pushed-of (a .loop .groups) (w .value .given .0 .0) (q .pushed .result) (a .loop .inv .2) (small w) (q .pushed .ensures) in (
+      omega (arith, two-more e),
       omega (arith, p .count, q .before .if1 .left),
       p .sized,
       a .loop .inv .3
-          ∙ turn-more (numberOf g) (g .count) s i x end (found .0) (found .1) h (λ y. c .if4 .left (c .before .class .ensures ∙ y))
+          ∙ turn-more _ _ _ _ _ _ (f .0) (f .1) (two-more e) (λ y. c .if4 .left (c .before .class .ensures ∙ y))
           ∙ rw (p .number, p .count),
     )
 

@@ -1,13 +1,13 @@
 -- The dotted tail is two groups more.
 use borrow.Author.Needs.{needs}
-use Prim.Native.Nat.{_+_, _*_, _/_, _%_}
+use Prim.Native.Nat.{_/_, _%_}
 use mathlib.Core.Path.{_≡_, sym, ap, _∙_}
-use mathlib.Core.Option.{none, some}
+use mathlib.Core.Option.{some}
 use native.Mathlib.Omega.{arith}
 use lib.ListN.{length, drop}
-use Rattle.address.specs.ReaderSteps.{numberOf, made, dottedFrom}
+use Rattle.address.specs.ReaderSteps.{numberOf, dottedFrom}
 use Rattle.address.specs.theory.reader.Splits.{numeral-bad, numeral-some, dotted-below}
-use Rattle.address.specs.theory.reader.Joined.{Pushed, pushed-of, pushed-twice}
+use Rattle.address.specs.theory.reader.Joined.{pushed-of, pushed-twice}
 use Rattle.address.specs.theory.reader.Parts.{tail-many, tail-none, tail-some}
 use Rattle.address.specs.declared.reader.Part.the-variants as answer
 use Rattle.address.proofs.reader.with_tail.Statement.{statement}

@@ -1,99 +1,90 @@
--- The invariant: start and count are the longest run of the groups from i on.
+-- The invariant: the marks are those of runs of `count` groups, and those of longer ones are known. It speaks of any list with these marks,
+-- since the key is not read in the loop.
 use mathlib.Core.Path.{_≡_, sym, ap, _∙_}
-use mathlib.Core.List.{[]}
-use Prim.Native.Nat.{ℕ, _+_, _-_, _≤_, _<_}
-use native.Mathlib.Nat.{zero-add}
+use mathlib.Core.List.{List}
+use Prim.Native.Nat.{ℕ, _+_, _-_, _/_, _≤_, _<_}
+use native.Mathlib.Nat.{lt-of-not-le}
 use native.Mathlib.Omega.{arith}
-use lib.ListN.{length, drop, length-drop, drop-of-length-le}
-use Rattle.address.specs.Writing.{zeros as zerosOf, longest}
-use Rattle.address.specs.WriterSteps.{keyGroups}
+use lib.Bits.{bitAnd}
+use lib.Count.{trailingZeros}
+use borrow.Author.Needs.{needs}
+use Rattle.address.specs.WriterSteps.{keyGroups, runMarks}
 use Rattle.address.specs.theory.writer.Groups.{eight}
-use Rattle.address.specs.theory.writer.Runs.{zeros-run, zeros-step, longest-here, longest-later}
+use Rattle.address.specs.theory.writer.Marks.{marks-none, marks-next, marks-clear, marks-found}
 use Rattle.address.proofs.writer.longest_run.Statement.{statement}
 use Rattle.address.proofs.writer.longest_run.Tie as tie
 
 abbrev Inv-loop : tie.InvT-loop
-Inv-loop key i₀ zeros₀ start₀ count₀ i zeros start count =
-    (i ≤ 8) × (zeros ≤ 8 - i) × (zeros ≡ zerosOf (drop i (keyGroups key))) × (start ≡ i + longest (drop i (keyGroups key)) .0)
-    × (count ≡ longest (drop i (keyGroups key)) .1)
+Inv-loop single marks₀ count₀ longer₀ marks count longer =
+    (2 ≤ count) × (count ≤ 8) × (0 < marks)
+    × ((l : List ℕ) → single ≡ runMarks 1 l → (marks ≡ runMarks count l) × (longer ≡ runMarks (count + 1) l))
 
 abbrev μ-loop : tie.MeasureT-loop
-μ-loop key i₀ zeros₀ start₀ count₀ i zeros start count = i
+μ-loop single marks₀ count₀ longer₀ marks count longer = 8 - count
 
-loop-holds : tie.Need-loop-holds Inv-loop μ-loop
-unfolding zerosOf longest
-loop-holds c =
-    let g = keyGroups (c .args .key) in
-    let d : drop 8 g ≡ [] = drop-of-length-le g {i = 8} (omega (arith, eight (c .args .key))) in
-    (omega arith, omega arith, rw d, rw d, rw d)
+zero-groups-requires : tie.Need-zero-groups-requires Inv-loop μ-loop
+zero-groups-requires c κs = search needs
 
-sub-i : tie.Need-sub-i Inv-loop μ-loop
-sub-i c = omega arith
-
-group-at-requires : tie.Need-group-at-requires Inv-loop μ-loop
-group-at-requires c κs = omega arith
-
-zeros-from-requires : tie.Need-zeros-from-requires Inv-loop μ-loop
-zeros-from-requires c κs = omega arith
-
--- how many zero groups stand from i - 1 on
-counted : (k : tie.After-zeros-from Inv-loop μ-loop) →
-    let a = k .before .before .before in
-    k .zeros-from .result ≡ zerosOf (drop (a .loop .i - 1) (keyGroups (a .before .args .key)))
-counted k =
-    let v = k .before in
-    let a = v .before .before in
-    let g = keyGroups (a .before .args .key) in
-    let i = a .loop .i - 1 in
-    let e : a .loop .i ≡ i + 1 = omega arith in
-    k .zeros-from .ensures
-    ∙ rw (v .group-at .ensures .0, a .loop .inv .2) (sym (zeros-step g i (a .loop .i) e (omega (arith, eight (a .before .args .key)))))
-
-loop-less : tie.Need-loop-less Inv-loop μ-loop
-loop-less c = omega arith
-
-loop-again : tie.Need-loop-again Inv-loop μ-loop
-loop-again c =
-    let k = c .before in
-    let a = k .before .before .before in
-    let g = keyGroups (a .before .args .key) in
-    let i = a .loop .i - 1 in
-    let e : a .loop .i ≡ i + 1 = omega arith in
-    let h : i < length g = omega (arith, eight (a .before .args .key)) in
-    let z = counted k in
-    let r = longest-here g i (a .loop .i) e h (omega (arith, c .if1 .taken)) in (
-      omega arith,
-      omega (arith, zeros-run (drop i g) .within, length-drop i g, eight (a .before .args .key)),
-      z,
-      omega (arith, ap (λ (p : ℕ × ℕ). p .0) r),
-      z ∙ sym (ap (λ (p : ℕ × ℕ). p .1) r),
-    )
-
-loop-less-2 : tie.Need-loop-less-2 Inv-loop μ-loop
-loop-less-2 c = omega arith
-
-loop-again-2 : tie.Need-loop-again-2 Inv-loop μ-loop
-loop-again-2 c =
-    let k = c .before in
-    let a = k .before .before .before in
-    let g = keyGroups (a .before .args .key) in
-    let i = a .loop .i - 1 in
-    let e : a .loop .i ≡ i + 1 = omega arith in
-    let h : i < length g = omega (arith, eight (a .before .args .key)) in
-    let z = counted k in
-    let r = longest-later g i (a .loop .i) e h (omega (arith, c .if1 .left)) in (
-      omega arith,
-      omega (arith, zeros-run (drop i g) .within, length-drop i g, eight (a .before .args .key)),
-      z,
-      omega (arith, ap (λ (p : ℕ × ℕ). p .0) r),
-      a .loop .inv .4 ∙ sym (ap (λ (p : ℕ × ℕ). p .1) r),
-    )
+-- where the marks of a list are those of one whose marks are single's, the next follow
+next : (single marks n : ℕ) → 1 ≤ n → ((l : List ℕ) → single ≡ runMarks 1 l → marks ≡ runMarks n l)
+    → (l : List ℕ) → single ≡ runMarks 1 l → bitAnd marks (marks / 2) ≡ runMarks (n + 1) l
+next single marks n h f l e = ap (λ (x : ℕ). bitAnd x (x / 2)) (f l e) ∙ marks-next n l h
 
 returns : tie.Need-returns Inv-loop μ-loop
 returns c =
+    let z = c .before in
+    let k = keyGroups (z .before .args .key) in
+    let e : runMarks 2 k ≡ 0 = sym (next (z .zero-groups .result) (z .zero-groups .result) 1 (omega arith) (λ l e. e) k (z .zero-groups .ensures)) ∙ c .if1 .taken in
+    record { none = λ h. omega (arith, marks-clear 1 k e); some = λ h. absurd (let z : ⊥ = omega arith in z) }
+
+loop-holds : tie.Need-loop-holds Inv-loop μ-loop
+loop-holds c =
+    let single = c .before .zero-groups .result in
+    let two = next single single 1 (omega arith) (λ l e. e) in
+    let three = next single (bitAnd single (single / 2)) 2 (omega arith) two in
+    (omega arith, omega arith, omega (arith, c .if1 .left), λ l e. (two l e, three l e))
+
+-- a longer run was found, so that there are groups enough
+more : (c : tie.In-loop Inv-loop μ-loop) → c .before .loop .count < 8
+more c =
     let a = c .before in
-    let z : a .loop .i ≡ 0 = omega arith in
-    (a .loop .inv .3 ∙ rw z (zero-add _), a .loop .inv .4 ∙ rw z)
+    let z = a .before .before in
+    let k = z .before .args .key in
+    let m = a .loop .inv .3 (keyGroups k) (z .zero-groups .ensures) in
+    lt-of-not-le (λ l. c .loop-test .taken (m .1 ∙ marks-none (a .loop .count + 1) (keyGroups k) (omega (arith, eight k))))
+
+add-count : tie.Need-add-count Inv-loop μ-loop
+add-count c = omega arith
+
+loop-less : tie.Need-loop-less Inv-loop μ-loop
+loop-less c = let b = more c in omega arith
+
+loop-again : tie.Need-loop-again Inv-loop μ-loop
+loop-again c =
+    let a = c .before in
+    let single = a .before .before .zero-groups .result in
+    let n = a .loop .count in
+    let f = a .loop .inv .3 in
+    (omega arith, omega (arith, more c), omega (arith, c .loop-test .taken), λ l e. (f l e .1, next single (a .loop .longer) (n + 1) (omega arith) (λ m d. f m d .1) l e))
+
+wide-requires : tie.Need-wide-requires Inv-loop μ-loop
+wide-requires c κs = search needs
+
+returns-2 : tie.Need-returns-2 Inv-loop μ-loop
+returns-2 c =
+    let f = c .before in
+    let a = f .before in
+    let z = a .before .before in
+    let k = z .before .args .key in
+    let n = a .loop .count in
+    let m = a .loop .inv .3 (keyGroups k) (z .zero-groups .ensures) in
+    let e : runMarks (n + 1) (keyGroups k) ≡ 0 = sym (m .1) ∙ f .loop-test .left in
+    let p : 0 < runMarks n (keyGroups k) = omega (arith, m .0, a .loop .inv .2) in
+    let r = marks-found 32 n (keyGroups k) (omega (arith, eight k)) (omega arith) e p in
+    record {
+      none = λ h. absurd (let z : ⊥ = omega arith in z);
+      some = λ h. (c .wide .ensures ∙ ap (λ (x : ℕ). trailingZeros 32 x) (m .0) ∙ sym (ap (λ (q : ℕ × ℕ). q .0) r), sym (ap (λ (q : ℕ × ℕ). q .1) r));
+    }
 
 pub longest-run-spec : {M : Type 1} → statement M
 longest-run-spec =
@@ -101,12 +92,11 @@ longest-run-spec =
     (tie.spec
     Inv-loop
     μ-loop
+    zero-groups-requires
+    returns
     loop-holds
-    sub-i
-    group-at-requires
-    zeros-from-requires
+    add-count
     loop-less
     loop-again
-    loop-less-2
-    loop-again-2
-    returns)
+    wide-requires
+    returns-2)

@@ -1,13 +1,13 @@
--- The colon after the last group is left out: `last-off`.
-use mathlib.Core.Path.{_≡_, sym, ap, _∙_}
-use mathlib.Core.List.{List, [], _∷_, _++_, append-assoc, append-nil}
-use Prim.Native.Nat.{ℕ, _-_, _<_}
+-- The colon after the last group is left out: `rest-put`.
+use mathlib.Core.Path.{_≡_, sym}
+use mathlib.Core.List.{_++_, append-nil}
+use Prim.Native.Nat.{_-_, _<_}
 use native.Mathlib.Omega.{arith}
 use lib.ListN.{take, drop}
 use Rattle.address.specs.Writing.{partText}
 use Rattle.address.specs.WriterSteps.{keyGroups}
 use Rattle.address.specs.theory.writer.Groups.{eight}
-use Rattle.address.specs.theory.writer.Texts.{closed-rest, part-none, last-off}
+use Rattle.address.specs.theory.writer.Texts.{part-none, rest-put}
 use borrow.Author.Needs.{needs}
 use Rattle.address.proofs.writer.put_back.Statement.{statement}
 use Rattle.address.proofs.writer.put_back.Tie as tie
@@ -30,12 +30,8 @@ put c =
     let e = c .before .before in
     let s = e .before .before in
     let a = s .args in
-    let t = take (a .at) (a .text .now) in
-    let q : a .from < 8 = omega (arith, s .pre, e .if1 .left) in
-    last-off (c .put-groups .last .0) (t ++ partText (drop (a .from) (keyGroups (a .key)))) (c .put-groups .result) 58
-    (omega (arith, c .put-groups .ensures .0, c .put-groups .kept .0, s .pre))
-    (c .put-groups .ensures .1 ∙ ap (λ (x : List ℕ). t ++ x) (closed-rest (keyGroups (a .key)) (a .from) (eight (s .args .key)) q)
-    ∙ sym (append-assoc t (partText (drop (a .from) (keyGroups (a .key)))) (58 ∷ [])))
+    rest-put (keyGroups (a .key)) (take (a .at) (a .text .now)) (c .put-groups .last .0) (a .from) (c .put-groups .result) (eight (a .key))
+    (omega (arith, s .pre, e .if1 .left)) (omega (arith, c .put-groups .ensures .0, c .put-groups .kept .0, s .pre)) (c .put-groups .ensures .1)
 
 sub-result : tie.Need-sub-result
 sub-result c = put (c .before .before) .0

@@ -27,7 +27,7 @@ gap : (c : tie.Else1) →
 gap c =
     let l = c .before in
     let s = l .before .before in
-    (c .if1 .left, omega (arith, l .longest-run .ensures, longest-run (keyGroups (s .args .key)) .within, eight (s .args .key)))
+    (c .if1 .left, omega (arith, l .longest-run .ensures .some (c .if1 .left), longest-run (keyGroups (s .args .key)) .within, eight (s .args .key)))
 
 -- so there is room for the rest of the text
 room : (c : tie.After-put-front) →
@@ -44,7 +44,7 @@ returns c =
     let l = p .before .before .before in
     let s = l .before .before in (
       omega (arith, p .put-back .ensures .0),
-      p .put-back .ensures .1 ∙ sym (text-plain (keyGroups (s .args .key)) (omega (arith, p .before .before .if1 .taken, l .longest-run .ensures .1))),
+      p .put-back .ensures .1 ∙ sym (text-plain (keyGroups (s .args .key)) (l .longest-run .ensures .none (p .before .before .if1 .taken))),
     )
 
 put-front-requires : tie.Need-put-front-requires
@@ -77,11 +77,12 @@ returns-2 c =
     let e = f .before .before in
     let s = e .before .before .before in
     let r = room f in
-    let l = e .before .longest-run in (
+    let l = e .before .longest-run in
+    let g = l .ensures .some (gap e .0) in (
       omega (arith, b .put-back2 .ensures .0),
       b .put-back2 .ensures .1
-          ∙ gap-put (keyGroups (s .args .key)) (f .put-front .last .0) (f .put-front .result) (l .result .start) (l .result .count) (l .ensures .0)
-          (l .ensures .1) (omega arith) (gap e .0) (f .put-front .ensures .1),
+          ∙ gap-put (keyGroups (s .args .key)) (f .put-front .last .0) (f .put-front .result) (l .result .start) (l .result .count) (g .0)
+          (g .1) (omega arith) (gap e .0) (f .put-front .ensures .1),
     )
 
 pub put-text-spec : {M : Type 1} → statement M

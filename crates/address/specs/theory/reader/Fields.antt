@@ -3,9 +3,9 @@ use Prim.Native.Nat.{ℕ, zero, suc, _+_, _*_, _≤_, _<_, _^_}
 use native.Mathlib.Nat.{zero-add, add-zero, pow-suc, pow-le-pow-right, lt-of-lt-of-le}
 use native.Mathlib.Numerals.{add-one}
 use native.Mathlib.Omega.{arith}
-use mathlib.Core.Path.{_≡_, refl, sym, ap, _∙_}
+use mathlib.Core.Path.{_≡_, refl, sym, _∙_}
 use mathlib.Core.Logic.{_⊎_, inl, inr, ⊎-elim}
-use mathlib.Core.Bool.{Bool, true, false, cond, not, _&&_, true≢false, false≢true}
+use mathlib.Core.Bool.{Bool, true, false, cond, not, _&&_}
 use mathlib.Core.List.{List, [], _∷_}
 use mathlib.Core.Option.{Option, none, some}
 use lib.ListN.{length, drop, getD, drop-of-length-le}
@@ -13,8 +13,8 @@ use lib.Arith.{digits-lt}
 use lib.Bits.{bitOr, or-add-and, or-lt, and-le-l, and-le-r}
 use lib.Seq.{drop-cons}
 use lib.Dec.{leb, ltb, eqb, lit<}
-use borrow.Author.Tests.{ltb-true, ltb-false, leb-true, eqb-true, eqb-false, lt-ltb, le-ltb, le-leb, lt-leb, eq-eqb, ne-eqb}
-use Rattle.settings.specs.theory.Cases.{cases, both-true}
+use borrow.Author.Tests.{ltb-true, ltb-false, eqb-true, eqb-false, lt-ltb, le-ltb, le-leb, lt-leb, eq-eqb, ne-eqb}
+use Rattle.settings.specs.theory.Cases.{cases}
 use Rattle.address.specs.Class.{classOf, colon, dot}
 use Rattle.address.specs.Numerals.{digits, number, group, decimal, noLeadingZero}
 use Rattle.address.specs.ReaderSteps.{classAt, Five, until, numeralOf, groupIn, decimalIn}
@@ -35,7 +35,7 @@ next s i h = rw (add-one, drop-cons s i 0)
 
 -- The field by places ---------------------------------------------------------------------------------------------------
 
-pub until-stop : (k x : ℕ) (s : List ℕ) → classOf x ≡ k → until k (x ∷ s) ≡ []
+until-stop : (k x : ℕ) (s : List ℕ) → classOf x ≡ k → until k (x ∷ s) ≡ []
 unfolding until
 until-stop k x s e = simp (eq-eqb _ _ e)
 
@@ -53,7 +53,7 @@ class-past e s i h = rw (le-ltb i (length s) h)
 
 module _ (k : ℕ) (s : List ℕ) (i : ℕ) where
   -- the field ends where a byte of class k stands, or the text ends
-  pub field-stop : classAt k s i ≡ k → until k (drop i s) ≡ []
+  field-stop : classAt k s i ≡ k → until k (drop i s) ≡ []
   field-stop e = cases (ltb i (length s))
       (λ t. let h : i < length s = ltb-true i (length s) t in rw (next s i h) (until-stop k (getD s i 0) (drop (i + 1) s) (sym (class-here k s i h) ∙ e)))
       (λ t. let h : length s ≤ i = ltb-false i (length s) t in rw (drop-of-length-le s h) (unfold until in refl))
@@ -62,7 +62,7 @@ module _ (k : ℕ) (s : List ℕ) (i : ℕ) where
   pub within : (classAt k s i ≡ k → ⊥) → i < length s
   within n = cases (ltb i (length s)) (λ t. ltb-true i (length s) t) (λ t. absurd (n (class-past k s i (ltb-false i (length s) t))))
 
-  pub field-more : (classAt k s i ≡ k → ⊥) → until k (drop i s) ≡ getD s i 0 ∷ until k (drop (i + 1) s)
+  field-more : (classAt k s i ≡ k → ⊥) → until k (drop i s) ≡ getD s i 0 ∷ until k (drop (i + 1) s)
   field-more n =
       let h : i < length s = within n in
       rw (next s i h) (until-go k (getD s i 0) (drop (i + 1) s) (λ e. n (class-here k s i h ∙ e)))
@@ -267,9 +267,9 @@ decimal-many n v i x f h =
     let a : 3 < n + suc (length f) = omega arith in
     simp (lt-leb _ _ a, and-false)
 
-decimal-zero : (n v i x : ℕ) (f : List ℕ) → 0 < n → v ≡ 0 → decimalRest n v i (x ∷ f) ≡ numeral.Bad
+decimal-second : (n v i x : ℕ) (f : List ℕ) → 0 < n → v ≡ 0 → decimalRest n v i (x ∷ f) ≡ numeral.Bad
 unfolding decimalRest decimalFrom
-decimal-zero n v i x f h e = simp (ne-eqb n 0 (λ z. omega arith), eq-eqb v 0 e, and-false)
+decimal-second n v i x f h e = simp (ne-eqb n 0 (λ z. omega arith), eq-eqb v 0 e, and-false)
 
 decimal-end : (n v i : ℕ) → n ≤ 3 → decimalRest n v i [] ≡ numeralOf (cond (leb 1 n && leb v 255) (some v) none) i
 unfolding decimalRest decimalFrom digits number noLeadingZero
@@ -277,14 +277,14 @@ decimal-end n v i h = simp (add-zero, le-leb _ _ h, and-true, cond-same)
 
 module _ (s : List ℕ) (i : ℕ) where
   -- the decimal in the field of which n digits with the value v stand before i
-  pub decimalAt : ℕ → ℕ → Numeral
+  decimalAt : ℕ → ℕ → Numeral
   decimalAt n v = decimalRest n v i (until dot (drop i s))
 
-  pub decimal-start : decimalIn (until dot (drop i s)) i ≡ decimalAt 0 0
+  decimal-start : decimalIn (until dot (drop i s)) i ≡ decimalAt 0 0
   unfolding decimalIn decimalAt decimalRest decimalFrom decimal
   decimal-start = simp zero-add
 
-  pub decimal-bad : 9 < classAt dot s i → decimalAt 0 0 ≡ numeral.Bad
+  decimal-bad : 9 < classAt dot s i → decimalAt 0 0 ≡ numeral.Bad
   unfolding decimalAt
   decimal-bad h = cases (eqb (classAt dot s i) dot)
       (λ t. rw (field-stop dot s i (eqb-true (classAt dot s i) dot t)) (decimal-end 0 0 i (omega arith)))
@@ -293,7 +293,7 @@ module _ (s : List ℕ) (i : ℕ) where
 
   module _ (n v : ℕ) where
     -- nothing or no digit follows, or three digits are there: the decimal ends here, or there is none
-    pub decimal-ended : 1 ≤ n → n ≤ 3 → v ≤ 255 → (9 < classAt dot s i) ⊎ (2 < n)
+    decimal-ended : 1 ≤ n → n ≤ 3 → v ≤ 255 → (9 < classAt dot s i) ⊎ (2 < n)
         → decimalAt n v ≡ cond (eqb (classAt dot s i) dot) (numeral.Value v i) numeral.Bad
     unfolding decimalAt
     decimal-ended l m b o = cases (eqb (classAt dot s i) dot)
@@ -303,20 +303,20 @@ module _ (s : List ℕ) (i : ℕ) where
         (⊎-elim (λ h. decimal-other n v i (getD s i 0) (until dot (drop (i + 1) s)) (rw (class-more dot s i d) h)) (λ h. decimal-many n v i (getD s i 0) (until dot (drop (i + 1) s)) h) o))
 
     -- a digit after a leading zero
-    pub decimal-leading : 1 ≤ n → v ≡ 0 → classAt dot s i < 10 → decimalAt n v ≡ numeral.Bad
+    decimal-leading : 1 ≤ n → v ≡ 0 → classAt dot s i < 10 → decimalAt n v ≡ numeral.Bad
     unfolding decimalAt
     decimal-leading l e h =
         let d : classAt dot s i ≡ dot → ⊥ = λ z. omega arith in
-        rw (field-more dot s i d) (decimal-zero n v i (getD s i 0) (until dot (drop (i + 1) s)) l e)
+        rw (field-more dot s i d) (decimal-second n v i (getD s i 0) (until dot (drop (i + 1) s)) l e)
 
     -- three digits, and more than 255
-    pub decimal-large : n ≡ 3 → 255 < v → decimalAt n v ≡ numeral.Bad
+    decimal-large : n ≡ 3 → 255 < v → decimalAt n v ≡ numeral.Bad
     unfolding decimalAt
     decimal-large e h = cases (eqb (classAt dot s i) dot)
         (λ t. rw (field-stop dot s i (eqb-true (classAt dot s i) dot t), decimal-end n v i (omega arith), lt-leb v 255 h, and-false))
         (λ t. rw (field-more dot s i (eqb-false (classAt dot s i) dot t)) (decimal-many n v i (getD s i 0) (until dot (drop (i + 1) s)) (omega arith)))
 
-pub decimal-digit : (s : List ℕ) (i n v : ℕ) → classAt dot s i < 10 → v < 10 ^ n → (0 < n → v ≡ 0 → ⊥)
+decimal-digit : (s : List ℕ) (i n v : ℕ) → classAt dot s i < 10 → v < 10 ^ n → (0 < n → v ≡ 0 → ⊥)
     → decimalAt s i n v ≡ decimalAt s (i + 1) (n + 1) (v * 10 + classAt dot s i)
 unfolding decimalAt
 decimal-digit s i n v h b p =
@@ -329,19 +329,44 @@ decimal-on : (s : List ℕ) (f : Numeral) (i n v k j m w : ℕ) → f ≡ decima
     → j ≡ i + 1 → m ≡ n + 1 → w ≡ v * 10 + k → f ≡ decimalAt s j m w
 decimal-on s f i n v k j m w h e l b z ej em ew = h ∙ decimal-digit s i n v (rw (sym e) l) b z ∙ rw (ej, em, ew, e)
 
--- the classes of a decimal's digits, one after the other
-module _ (s : List ℕ) (at a : ℕ) (ea : a ≡ classAt dot s at) (la : a < 10) where
-  pub one-decimal : decimalIn (until dot (drop at s)) at ≡ decimalAt s (at + 1) 1 a
-  one-decimal =
-      decimal-on s (decimalIn (until dot (drop at s)) at) at 0 0 a (at + 1) 1 a (decimal-start s at) ea la (lit< tt) (λ p z. omega arith) refl refl (omega arith)
+decimal-close : (s : List ℕ) (f : Numeral) (i n v k : ℕ) → f ≡ decimalAt s i n v → k ≡ classAt dot s i → 1 ≤ n → n ≤ 3 → v ≤ 255 → (9 < k) ⊎ (2 < n)
+    → f ≡ cond (eqb k dot) (numeral.Value v i) numeral.Bad
+decimal-close s f i n v k h e l m b o = h ∙ decimal-ended s i n v l m b (rw (sym e) o) ∙ rw e
 
-  module _ (b : ℕ) (eb : b ≡ classAt dot s (at + 1)) (lb : b < 10) (na : a ≡ 0 → ⊥) where
-    pub two-decimals : decimalIn (until dot (drop at s)) at ≡ decimalAt s (at + 2) 2 (a * 10 + b)
-    two-decimals =
-        decimal-on s (decimalIn (until dot (drop at s)) at) (at + 1) 1 a b (at + 2) 2 (a * 10 + b) one-decimal eb lb la (λ p z. na z) (omega arith) refl refl
+-- the decimal by the classes of the bytes, one after the other
+module _ (s : List ℕ) (at a : ℕ) (ea : a ≡ classAt dot s at) where
+  abbrev Number : Numeral
+  Number = decimalIn (until dot (drop at s)) at
 
-    pub three-decimals : (c : ℕ) → c ≡ classAt dot s (at + 2) → c < 10
-        → decimalIn (until dot (drop at s)) at ≡ decimalAt s (at + 3) 3 ((a * 10 + b) * 10 + c)
-    three-decimals c ec lc =
-        decimal-on s (decimalIn (until dot (drop at s)) at) (at + 2) 2 (a * 10 + b) c (at + 3) 3 ((a * 10 + b) * 10 + c)
-        two-decimals ec lc (omega arith) (λ p z. na (omega arith)) (omega arith) refl refl
+  pub decimal-none : 9 < a → decimalIn (until dot (drop at s)) at ≡ numeral.Bad
+  decimal-none h = decimal-start s at ∙ decimal-bad s at (rw (sym ea) h)
+
+  module _ (la : a < 10) (b : ℕ) (eb : b ≡ classAt dot s (at + 1)) where
+    one-decimal : Number ≡ decimalAt s (at + 1) 1 a
+    one-decimal = decimal-on s Number at 0 0 a (at + 1) 1 a (decimal-start s at) ea la (lit< tt) (λ p z. omega arith) refl refl (omega arith)
+
+    pub decimal-one : 9 < b → decimalIn (until dot (drop at s)) at ≡ cond (eqb b dot) (numeral.Value a (at + 1)) numeral.Bad
+    decimal-one h = decimal-close s Number (at + 1) 1 a b one-decimal eb (omega arith) (omega arith) (omega arith) (inl h)
+
+    pub decimal-zero : b < 10 → a ≡ 0 → decimalIn (until dot (drop at s)) at ≡ numeral.Bad
+    decimal-zero h e = one-decimal ∙ decimal-leading s (at + 1) 1 a (omega arith) e (rw (sym eb) h)
+
+    module _ (lb : b < 10) (na : a ≡ 0 → ⊥) (c : ℕ) (ec : c ≡ classAt dot s (at + 2)) where
+      two-decimals : Number ≡ decimalAt s (at + 2) 2 (a * 10 + b)
+      two-decimals = decimal-on s Number (at + 1) 1 a b (at + 2) 2 (a * 10 + b) one-decimal eb lb la (λ p z. na z) (omega arith) refl refl
+
+      pub decimal-two : 9 < c → decimalIn (until dot (drop at s)) at ≡ cond (eqb c dot) (numeral.Value (a * 10 + b) (at + 2)) numeral.Bad
+      decimal-two h = decimal-close s Number (at + 2) 2 (a * 10 + b) c two-decimals ec (omega arith) (omega arith) (omega arith) (inl h)
+
+      module _ (lc : c < 10) where
+        three-decimals : Number ≡ decimalAt s (at + 3) 3 ((a * 10 + b) * 10 + c)
+        three-decimals =
+            decimal-on s Number (at + 2) 2 (a * 10 + b) c (at + 3) 3 ((a * 10 + b) * 10 + c)
+            two-decimals ec lc (omega arith) (λ p z. na (omega arith)) (omega arith) refl refl
+
+        pub decimal-over : 255 < (a * 10 + b) * 10 + c → decimalIn (until dot (drop at s)) at ≡ numeral.Bad
+        decimal-over h = three-decimals ∙ decimal-large s (at + 3) 3 ((a * 10 + b) * 10 + c) refl h
+
+        pub decimal-three : (a * 10 + b) * 10 + c ≤ 255 → (d : ℕ) → d ≡ classAt dot s (at + 3)
+            → decimalIn (until dot (drop at s)) at ≡ cond (eqb d dot) (numeral.Value ((a * 10 + b) * 10 + c) (at + 3)) numeral.Bad
+        decimal-three h d ed = decimal-close s Number (at + 3) 3 ((a * 10 + b) * 10 + c) d three-decimals ed (omega arith) (omega arith) h (inr (omega arith))

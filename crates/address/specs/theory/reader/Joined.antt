@@ -3,16 +3,15 @@ use Prim.Native.Nat.{ℕ, zero, suc, _+_, _-_, _*_, _/_, _%_, _^_, _≤_, _<_}
 use native.Mathlib.Nat.{add-zero, zero-add, zero-mul, mul-assoc, mul-right-comm, add-mul, pow-suc, div-add-mod', mod-lt}
 use lib.Pow.{pow-add}
 use lib.Arith.{digits-lt}
-use native.Mathlib.Numerals.{add-one}
 use native.Mathlib.Omega.{arith}
 use mathlib.Core.Path.{_≡_, refl, sym, ap, _∙_}
 use mathlib.Core.Bool.{Bool, true, false, cond, _&&_}
 use mathlib.Core.List.{List, [], _∷_, _++_}
 use mathlib.Core.Option.{Option, none, some}
 use lib.ListN.{length, replicate}
-use lib.Dec.{leb, ltb, eqb, lit<}
+use lib.Dec.{leb, ltb, lit<}
 use borrow.Author.Tests.{ltb-true, leb-true, lt-ltb, le-ltb}
-use Rattle.settings.specs.theory.Cases.{cases, both-true}
+use Rattle.settings.specs.theory.Cases.{both-true}
 use Rattle.settings.specs.Key.{keyOf}
 use Rattle.settings.specs.declared.refusal.Refusal.the-variants as refusal
 use Rattle.address.specs.declared.Parsed.the-variants as parsed
@@ -125,13 +124,6 @@ pub made-sized : (v n : ℕ) → v < 65536 ^ n → Sized (made v n)
 unfolding made
 made-sized v n h = record { fits = rw (made-number v n) h; half = omega arith }
 
-pub made-same : (g : Groups) → g .low < 2 ^ 64 → made (numberOf g) (g .count) ≡ g
-unfolding made
-made-same g h =
-    let a : numberOf g / 2 ^ 64 ≡ g .high = omega arith in
-    let b : numberOf g % 2 ^ 64 ≡ g .low = omega arith in
-    rw (a, b)
-
 pub low-le : (g : Groups) → g .low ≤ numberOf g
 low-le g = omega arith
 
@@ -187,7 +179,7 @@ key-of n h l b e =
     let q : n % 2 ^ 64 ≡ l = omega arith in
     rw (p, q)
 
-pub filled-found : (v n w m h l : ℕ) → n + m < 8 → l < 2 ^ 64 → v * 65536 ^ (8 - n) + w ≡ h * 2 ^ 64 + l
+filled-found : (v n w m h l : ℕ) → n + m < 8 → l < 2 ^ 64 → v * 65536 ^ (8 - n) + w ≡ h * 2 ^ 64 + l
     → filledWith v n w m ≡ parsed.Key (record { high = h; low = l })
 unfolding filledWith
 filled-found v n w m h l lt b e = rw (lt-ltb (n + m) 8 lt, key-of (v * 65536 ^ (8 - n) + w) h l b e)

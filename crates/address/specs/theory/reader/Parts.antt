@@ -3,18 +3,18 @@ use Prim.Native.Nat.{ℕ, suc, _+_, _*_, _/_, _%_, _≤_, _<_}
 use native.Mathlib.Nat.{zero-add}
 use native.Mathlib.Omega.{arith}
 use mathlib.Core.Path.{_≡_, refl, sym, ap, _∙_}
-use mathlib.Core.Bool.{Bool, true, false, cond, _&&_, true≢false, false≢true}
+use mathlib.Core.Bool.{Bool, true, false, cond, _&&_, false≢true}
 use mathlib.Core.List.{List, [], _∷_, _++_}
 use mathlib.Core.Option.{Option, none, some}
 use lib.ListN.{length, drop, getD, length-append, drop-of-length-le}
-use lib.Dec.{leb, ltb, eqb, lit<}
-use borrow.Author.Tests.{eqb-true, eqb-false, leb-true, leb-false, eq-eqb, ne-eqb, lt-ltb, le-ltb, le-leb, lt-leb}
+use lib.Dec.{leb, eqb, lit<}
+use borrow.Author.Tests.{eqb-true, eqb-false, leb-true, leb-false, eq-eqb, ne-eqb, le-ltb, le-leb, lt-leb}
 use Rattle.settings.specs.Key.{keyOf}
 use Rattle.settings.specs.theory.Cases.{cases, both-true}
 use Rattle.settings.specs.declared.refusal.Refusal.the-variants as refusal
-use Rattle.address.specs.Class.{classOf, colon, dot}
-use Rattle.address.specs.Numerals.{digits, group, decimal, number, noLeadingZero}
-use Rattle.address.specs.Reading.{onFirst, split, push, decimals, twoGroups, dotted, orElse, groups, part, Cut, whole, parted, behind, begins, tail, cut, eight, filled, groupsOfCut, groupsOf, joined}
+use Rattle.address.specs.Class.{classOf, colon}
+use Rattle.address.specs.Numerals.{digits, group, decimal}
+use Rattle.address.specs.Reading.{split, push, decimals, twoGroups, dotted, orElse, groups, part, Cut, whole, parted, behind, begins, tail, cut, eight, filled, groupsOfCut, groupsOf, joined}
 use Rattle.address.specs.Answers.{keyed, readingOf}
 use Rattle.address.specs.ReaderSteps.{until, dottedFrom, numberOf, made, Sized, toEnd, toGap, partOfCut, partFrom, filledWith, filledBy, afterGap, Fine, headAnswer}
 use Rattle.address.specs.theory.reader.Fields.{next, and-false}
@@ -22,7 +22,6 @@ use Rattle.address.specs.theory.reader.Splits.{past, later, split-eq, un
 use Rattle.address.specs.theory.reader.Joined.{groups-small, joined-lt, made-number, made-sized, filled-key}
 use Rattle.address.specs.declared.Parsed.{Parsed}
 use Rattle.address.specs.declared.Parsed.the-variants as parsed
-use Rattle.address.specs.declared.reader.Groups.{Groups}
 use Rattle.address.specs.declared.reader.Part.{Part}
 use Rattle.address.specs.declared.reader.Part.the-variants as answer
 
@@ -185,7 +184,7 @@ unfolding toGap push joined
 toGap-push v n next g none = refl
 toGap-push v n next g (some l) = let e : n + suc (length l) ≡ n + 1 + length l = omega arith in rw e
 
-pub toEnd-over : (v n : ℕ) (o : Option (List ℕ)) → 8 < n → toEnd v n o ≡ answer.Bad
+toEnd-over : (v n : ℕ) (o : Option (List ℕ)) → 8 < n → toEnd v n o ≡ answer.Bad
 unfolding toEnd
 toEnd-over v n none h = refl
 toEnd-over v n (some l) h = rw (lt-leb (n + length l) 8 (omega arith))
@@ -231,7 +230,7 @@ module _ (v n : ℕ) (t : List ℕ) (at : ℕ) where
           go false = by-cut c (y ∷ r) p (cut (y ∷ r))
 
   -- a colon at the end
-  pub part-short : (c : ℕ) → past colon t ≡ c ∷ [] → partFrom v n t at ≡ answer.Bad
+  part-short : (c : ℕ) → past colon t ≡ c ∷ [] → partFrom v n t at ≡ answer.Bad
   unfolding partFrom
   part-short c p = rw (cut-eq t, p) (unfold cutPast partOfCut toEnd in rw none-all)
     where
@@ -240,13 +239,13 @@ module _ (v n : ℕ) (t : List ℕ) (at : ℕ) where
 
   module _ (g : ℕ) (e : group (until colon t) ≡ some g) where
     -- the last group
-    pub part-last : past colon t ≡ [] → partFrom v n t at ≡ toEnd v n (some (g ∷ []))
+    part-last : past colon t ≡ [] → partFrom v n t at ≡ toEnd v n (some (g ∷ []))
     unfolding partFrom
     part-last p = rw (cut-eq t, p) (unfold cutPast partOfCut in rw (groups-one true t p, e) (unfold orElse in refl))
 
     module _ (c y : ℕ) (r : List ℕ) (p : past colon t ≡ c ∷ y ∷ r) where
       -- "::"
-      pub part-gap : classOf y ≡ colon → partFrom v n t at ≡ toGap v n (at + length (until colon t) + 2) (some (g ∷ []))
+      part-gap : classOf y ≡ colon → partFrom v n t at ≡ toGap v n (at + length (until colon t) + 2) (some (g ∷ []))
       unfolding partFrom
       part-gap h = rw (cut-eq t, p) (unfold cutPast in rw (eq-eqb (classOf y) colon h) (unfold partOfCut in rw one-alone))
         where
@@ -254,7 +253,7 @@ module _ (v n : ℕ) (t : List ℕ) (at : ℕ) where
           one-alone = groups-one false (until colon t) (alone colon t .1) ∙ rw (alone colon t .0, e) (unfold orElse in refl)
 
       -- a colon
-      pub part-more : (classOf y ≡ colon → ⊥) → partFrom v n t at ≡ partFrom (v * 65536 + g) (n + 1) (y ∷ r) (at + length (until colon t) + 1)
+      part-more : (classOf y ≡ colon → ⊥) → partFrom v n t at ≡ partFrom (v * 65536 + g) (n + 1) (y ∷ r) (at + length (until colon t) + 1)
       unfolding partFrom
       part-more h = rw (cut-eq t, p) (unfold cutPast in rw (ne-eqb (classOf y) colon h) (by-cut (cut (y ∷ r))))
         where
@@ -271,7 +270,7 @@ module _ (v n : ℕ) (t : List ℕ) (at : ℕ) where
                   groups-more false (until colon t ++ c ∷ l) c l (k .1) ∙ rw (k .0, e)
 
     -- a ninth group
-    pub part-many : 7 < n → partFrom v n t at ≡ answer.Bad
+    part-many : 7 < n → partFrom v n t at ≡ answer.Bad
     part-many h = by-past (past colon t) refl
       where
         by-past : (p : List ℕ) → past colon t ≡ p → partFrom v n t at ≡ answer.Bad

@@ -1,22 +1,21 @@
 -- Splitting at separators: the first field, and what stands past it.
-use Prim.Native.Nat.{ℕ, zero, suc, _+_, _*_, _/_, _%_, _≤_, _<_}
+use Prim.Native.Nat.{ℕ, suc, _+_, _*_, _/_, _%_, _≤_, _<_}
 use native.Mathlib.Nat.{zero-add, add-zero}
 use native.Mathlib.Omega.{arith}
 use mathlib.Core.Path.{_≡_, refl, sym, ap, _∙_}
-use mathlib.Core.Bool.{Bool, true, false, cond, _&&_, true≢false, false≢true}
+use mathlib.Core.Bool.{Bool, true, false, cond, _&&_, true≢false}
 use mathlib.Core.List.{List, [], _∷_, _++_}
 use mathlib.Core.Option.{Option, none, some}
 use lib.ListN.{length, drop, getD, length-drop, drop-of-length-le}
 use lib.Seq.{drop-drop}
 use lib.Dec.{leb, ltb, eqb}
-use borrow.Author.Tests.{leb-true, eqb-true, eqb-false, eq-eqb, ne-eqb, le-ltb}
-use Rattle.settings.specs.theory.Cases.{cases, both-true}
+use borrow.Author.Tests.{leb-true, eqb-true, eq-eqb, ne-eqb, le-ltb}
+use Rattle.settings.specs.theory.Cases.{both-true}
 use Rattle.address.specs.Class.{classOf, colon, dot}
 use Rattle.address.specs.Numerals.{digits, number, noLeadingZero, group, decimal}
 use Rattle.address.specs.Reading.{onFirst, split, push, decimals, twoGroups, dotted}
 use Rattle.address.specs.ReaderSteps.{until, numeralOf, groupIn, decimalIn, bytes, four, dottedFrom}
-use Rattle.address.specs.theory.reader.Fields.{next, and-false}
-use Rattle.address.specs.declared.reader.Numeral.{Numeral}
+use Rattle.address.specs.theory.reader.Fields.{next}
 use Rattle.address.specs.declared.reader.Numeral.the-variants as numeral
 
 -- The first field -------------------------------------------------------------------------------------------------------

@@ -1,6 +1,6 @@
 -- The run of zero groups that is written as "::": it is the longest, the first of equals, and has at least two groups.
-use mathlib.Core.Path.{_≡_, refl, _∙_}
-use mathlib.Core.Bool.{false, cond}
+use mathlib.Core.Path.{_≡_, refl}
+use mathlib.Core.Bool.{false}
 use mathlib.Core.List.{List, [], _∷_, _++_}
 use mathlib.Core.Logic.{_⊎_, inl, inr}
 use Prim.Native.Nat.{ℕ, zero, suc, _+_, _≤_, _<_}
@@ -10,7 +10,6 @@ use lib.ListN.{length, take, drop, getD}
 use borrow.Author.Tests.{le-leb, lt-leb, leb-true, leb-false, ltb-true, ltb-false, eqb-true, eq-eqb}
 use Rattle.settings.specs.theory.Cases.{cases}
 use Rattle.address.specs.Writing.{partText, zeros, longest, textOf}
-use Rattle.address.specs.theory.writer.Stores.{drop-next}
 use Rattle.address.specs.theory.writer.Texts.{text-plain, text-gap}
 
 -- n zero groups stand from place i on
@@ -41,15 +40,15 @@ run-longer {g} {l} {n} e r = record { within = omega (arith, r .within); zero-at
 
 -- The run at the start --------------------------------------------------------------------------------------------------
 
-zeros-nil : zeros [] ≡ 0
+pub zeros-nil : zeros [] ≡ 0
 unfolding zeros
 zeros-nil = refl
 
-zeros-more : (g : ℕ) (l : List ℕ) → g ≡ 0 → zeros (g ∷ l) ≡ zeros l + 1
+pub zeros-more : (g : ℕ) (l : List ℕ) → g ≡ 0 → zeros (g ∷ l) ≡ zeros l + 1
 unfolding zeros
 zeros-more g l e = rw (eq-eqb g 0 e)
 
-zeros-none : (g : ℕ) (l : List ℕ) → eqb g 0 ≡ false → zeros (g ∷ l) ≡ 0
+pub zeros-none : (g : ℕ) (l : List ℕ) → eqb g 0 ≡ false → zeros (g ∷ l) ≡ 0
 unfolding zeros
 zeros-none g l e = rw e
 
@@ -71,19 +70,19 @@ zeros-most (g ∷ l) (suc n) r =
 
 -- The longest run -------------------------------------------------------------------------------------------------------
 
-longest-nil : longest [] ≡ (0, 0)
+pub longest-nil : longest [] ≡ (0, 0)
 unfolding longest
 longest-nil = refl
 
-here : (x : ℕ) (l : List ℕ) → longest l .1 ≤ zeros (x ∷ l) → longest (x ∷ l) ≡ (0, zeros (x ∷ l))
+pub here : (x : ℕ) (l : List ℕ) → longest l .1 ≤ zeros (x ∷ l) → longest (x ∷ l) ≡ (0, zeros (x ∷ l))
 unfolding longest
 here x l k = simp (le-leb _ _ k)
 
-there : (x : ℕ) (l : List ℕ) → zeros (x ∷ l) < longest l .1 → longest (x ∷ l) ≡ (longest l .0 + 1, longest l .1)
+pub there : (x : ℕ) (l : List ℕ) → zeros (x ∷ l) < longest l .1 → longest (x ∷ l) ≡ (longest l .0 + 1, longest l .1)
 unfolding longest
 there x l k = simp (lt-leb _ _ k)
 
-by-longest : {A : Type 0} (x : ℕ) (l : List ℕ) → (longest l .1 ≤ zeros (x ∷ l) → A) → (zeros (x ∷ l) < longest l .1 → A) → A
+pub by-longest : {A : Type 0} (x : ℕ) (l : List ℕ) → (longest l .1 ≤ zeros (x ∷ l) → A) → (zeros (x ∷ l) < longest l .1 → A) → A
 by-longest x l f g =
     cases (leb (longest l .1) (zeros (x ∷ l))) (λ e. f (leb-true _ _ e)) (λ e. g (leb-false _ _ e))
 
@@ -120,23 +119,3 @@ pub gap-stands-for-two : (l : List ℕ)
 gap-stands-for-two l =
     cases (ltb (longest l .1) 2) (λ e. inl (text-plain l (ltb-true _ _ e)))
     (λ e. let h : 2 ≤ longest l .1 = ltb-false _ _ e in inr (h, text-gap l h))
-
--- One group more in front, by places --------------------------------------------------------------------------------------
-
-module _ (g : List ℕ) (i j : ℕ) (e : j ≡ i + 1) (h : i < length g) where
-  from-here : drop i g ≡ getD g i 0 ∷ drop j g
-  from-here = drop-next g i h ∙ rw e
-
-  pub zeros-step : zeros (drop i g) ≡ cond (eqb (getD g i 0) 0) (zeros (drop j g) + 1) 0
-  unfolding zeros
-  zeros-step = rw from-here
-
-  pub longest-here : longest (drop j g) .1 ≤ zeros (drop i g) → longest (drop i g) ≡ (0, zeros (drop i g))
-  longest-here k =
-      let q : longest (drop j g) .1 ≤ zeros (getD g i 0 ∷ drop j g) = rw from-here at k in
-      rw from-here (here (getD g i 0) (drop j g) q)
-
-  pub longest-later : zeros (drop i g) < longest (drop j g) .1 → longest (drop i g) ≡ (longest (drop j g) .0 + 1, longest (drop j g) .1)
-  longest-later k =
-      let q : zeros (getD g i 0 ∷ drop j g) < longest (drop j g) .1 = rw from-here at k in
-      rw from-here (there (getD g i 0) (drop j g) q)

@@ -15,7 +15,7 @@ unfolding closedText trailing
 closed-trailing [] = refl
 closed-trailing (g ∷ l) = rw (closed-trailing l) (sym (append-assoc (58 ∷ groupText g) (trailing l) (58 ∷ [])))
 
-pub closed-is : (l : List ℕ) → 0 < length l → closedText l ≡ partText l ++ 58 ∷ []
+closed-is : (l : List ℕ) → 0 < length l → closedText l ≡ partText l ++ 58 ∷ []
 unfolding closedText partText
 closed-is [] h = absurd (let z : ⊥ = omega arith in z)
 closed-is (g ∷ l) h = rw (closed-trailing l) (sym (append-assoc (groupText g) (trailing l) (58 ∷ [])))
@@ -42,7 +42,7 @@ pub turn : (s s′ x l l′ : List ℕ) → s′ ≡ s ++ x → l ≡ x ++ l′ 
 turn s s′ x l l′ p e = rw (p, e) (append-assoc s x l′)
 
 -- the last byte is left out
-pub last-off : (o p : List ℕ) (r v : ℕ) → r ≤ length o → take r o ≡ p ++ v ∷ [] → (0 < r) × (take (r - 1) o ≡ p)
+last-off : (o p : List ℕ) (r v : ℕ) → r ≤ length o → take r o ≡ p ++ v ∷ [] → (0 < r) × (take (r - 1) o ≡ p)
 last-off o p r v h e =
     let n : r ≡ length p + 1 = sym (length-take-le r o h) ∙ ap length e ∙ length-append p (v ∷ []) in
     let m : length p ≡ r - 1 = omega arith in
@@ -59,11 +59,15 @@ module _ (g : List ℕ) where
   unfolding textOf
   text-gap h = rw (le-ltb (longest g .1) 2 h)
 
--- the groups from `from` on, which end the text
-pub closed-rest : (g : List ℕ) (from : ℕ) → length g ≡ 8 → from < 8 → closedText (drop from (take 8 g)) ≡ partText (drop from g) ++ 58 ∷ []
-closed-rest g from e h =
+-- the groups from `from` on, which end the text: the colon after the last is left out
+pub rest-put : (g t o : List ℕ) (from r : ℕ) → length g ≡ 8 → from < 8 → r ≤ length o → take r o ≡ t ++ closedText (drop from (take 8 g))
+    → (0 < r) × (take (r - 1) o ≡ t ++ partText (drop from g))
+rest-put g t o from r e h k p =
     let l : length g ≤ 8 = omega arith in
+    let c : closedText (drop from (take 8 g)) ≡ partText (drop from g) ++ 58 ∷ [] =
     rw (take-all 8 g l) (closed-is (drop from g) (omega (arith, length-drop from g)))
+    in
+    last-off o (t ++ partText (drop from g)) r 58 k (p ∙ rw c (sym (append-assoc t (partText (drop from g)) (58 ∷ []))))
 
 -- the groups before `to`, which begin it
 pub closed-front : (g : List ℕ) (to : ℕ) → to ≤ length g → 0 < to → closedText (take to g) ≡ partText (take to g) ++ 58 ∷ []
