@@ -6,6 +6,7 @@ pub mod Grammar
 pub mod Writing
 pub mod Answers
 pub mod Ascii
+pub mod TextCalls
 -- Words that only private contracts use.
 pub mod ReaderSteps
 pub mod WriterSteps

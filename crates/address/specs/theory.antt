@@ -10,6 +10,7 @@ pub mod Bounds
 pub mod Runs
 pub mod Texts
 pub mod RoundTrip
+pub mod TextCalls
 pub mod Computing
 pub mod Examples
 pub mod reader

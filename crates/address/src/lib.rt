@@ -1,8 +1,12 @@
 // IPv6 text: every legal spelling is read, one is written.
+mod calls;
 mod class;
 mod reader;
 mod writer;
 
+pub use calls::add_text;
+pub use calls::delete_text;
+pub use calls::find_text;
 pub use reader::read;
 use settings::Key;
 use settings::Refusal;

@@ -1,6 +1,6 @@
 -- Document 01, "Bench examples": "Those starred (*) are proved." "Starred examples share one proved list." This is the list.
 use mathlib.Core.Path.{_≡_, refl}
-use mathlib.Core.List.{List, [], _∷_}
+use mathlib.Core.List.{List, [], _∷_, _++_}
 use Prim.Native.Nat.{ℕ, _+_, _*_, _%_}
 use Prim.Native.String.{String}
 use Rattle.settings.specs.Prime.{primeAbove}
@@ -9,12 +9,30 @@ use Rattle.settings.specs.theory.Examples.{remainder-of-7, hash-of-7}
 use Rattle.settings.specs.declared.settings.Settings.{Settings}
 use Rattle.settings.specs.declared.keys.Key.{Key}
 use Rattle.settings.specs.declared.refusal.Refusal.the-variants as refusal
+use Rattle.table.specs.Calls.{makeBytes, addBytes, addAnswer, deleteBytes, findAnswer}
+use Rattle.table.specs.theory.Computing as tables
+use Rattle.table.specs.declared.answers.AddAnswer.{AddAnswer}
+use Rattle.table.specs.declared.answers.AddAnswer.the-variants as adding
+use Rattle.table.specs.declared.answers.FindAnswer.{FindAnswer}
+use Rattle.table.specs.declared.answers.FindAnswer.the-variants as finding
 use Rattle.address.specs.Answers.{readingOf}
 use Rattle.address.specs.Ascii.{ascii}
-use Rattle.address.specs.theory.Computing.{again, computing}
+use Rattle.address.specs.theory.Computing as texts
 use Rattle.address.specs.declared.Parsed.the-variants as parsed
 
+-- Claims ---------------------------------------------------------------------------------------------------------------------
+
 pub data Claim : Type 0 where
+  -- make writes this table into any lent bytes of its size: here into bytes of ones
+  makes : List ℕ → Claim
+  -- adding the keys in turn to the table gives that table
+  adds : List ℕ → List ℕ → List ℕ → Claim
+  -- adding the key to the table is answered so
+  answersAdd : List ℕ → ℕ → AddAnswer → Claim
+  -- deleting the key from the table gives that table
+  deletes : List ℕ → ℕ → List ℕ → Claim
+  -- finding the key in the table is answered so
+  answersFind : List ℕ → ℕ → FindAnswer → Claim
   -- under the settings, the entry's remainder modulo p is this, and its low bii bits are that
   remainderIs : Settings → ℕ → ℕ → ℕ → Claim
   -- the text is legal, and is read as this key
@@ -24,24 +42,65 @@ pub data Claim : Type 0 where
   -- the address that the text is read as is written so
   isWritten : String → String → Claim
 
+-- "Table T: w 6, bii 1, sib 2, nob 2, sio 1, val 0, a 1, b 1; 40 bits."
+abbrev pub T : Settings
+T = record { w = 6; bii = 1; sib = 2; nob = 2; sio = 1; val = 0; a = 1; b = 1 }
+
+abbrev pub key : ℕ → Key
+key n = record { high = 0; low = n }
+
+-- the keys added in turn, each with label 0
+abbrev pub addAll : List ℕ → List ℕ → List ℕ
+addAll t [] = t
+addAll t (k ∷ ks) = addAll (addBytes T t (key k) 0) ks
+
 abbrev pub Holds : Claim → Type 0
+Holds (makes u) = makeBytes T (0xff ∷ 0xff ∷ 0xff ∷ 0xff ∷ 0xff ∷ []) ≡ u
+Holds (adds t ks u) = addAll t ks ≡ u
+Holds (answersAdd t k r) = addAnswer T t (key k) 0 ≡ r
+Holds (deletes t k u) = deleteBytes T t (key k) ≡ u
+Holds (answersFind t k r) = findAnswer T t (key k) ≡ r
 Holds (remainderIs s e r h) = ((s .a * e + s .b) % primeAbove (s .bii) ≡ r) × (hash s e ≡ h)
 Holds (legal x k) = readingOf (ascii x) ≡ parsed.Key k
 Holds (notLegal x) = readingOf (ascii x) ≡ parsed.Refused refusal.Text
-Holds (isWritten x y) = again (readingOf (ascii x)) ≡ ascii y
+Holds (isWritten x y) = texts.again (readingOf (ascii x)) ≡ ascii y
 
 abbrev pub All : List Claim → Type 0
 All [] = Unit {0}
 All (c ∷ l) = Holds c × All l
 
+-- The list -------------------------------------------------------------------------------------------------------------------
+
+abbrev pub new : List ℕ
+new = 0x00 ∷ 0x00 ∷ 0x00 ∷ 0x10 ∷ 0x20 ∷ []
+
+abbrev pub three : List ℕ
+three = 0x70 ∷ 0x88 ∷ 0x00 ∷ 0x02 ∷ 0x20 ∷ []
+
+abbrev pub four : List ℕ
+four = 0xb0 ∷ 0x88 ∷ 0x00 ∷ 0x32 ∷ 0x05 ∷ []
+
+abbrev pub afterDelete : List ℕ
+afterDelete = 0x72 ∷ 0x88 ∷ 0x00 ∷ 0x02 ∷ 0x20 ∷ []
+
 -- table T with three index bits
 abbrev pub threeBits : Settings
 threeBits = record { w = 6; bii = 3; sib = 2; nob = 2; sio = 1; val = 0; a = 1; b = 1 }
 
-abbrev pub starred : List Claim
-starred =
-    remainderIs threeBits 7 8 0
-    ∷ legal "1:2:3:4:5:6:7::" (record { high = 0x0001_0002_0003_0004; low = 0x0005_0006_0007_0000 })
+abbrev pub ofTables : List Claim
+ofTables =
+    makes new
+    ∷ adds new (1 ∷ 2 ∷ 4 ∷ []) three
+    ∷ adds three (5 ∷ []) four
+    ∷ answersAdd four 32 (adding.Refused refusal.NoBlock)
+    ∷ answersAdd four 0 (adding.Added 0 0)
+    ∷ deletes four 1 afterDelete
+    ∷ answersFind afterDelete 4 (finding.Held 0 3)
+    ∷ []
+
+abbrev pub ofTexts : List Claim
+ofTexts =
+    legal "1:2:3:4:5:6:7::" (record { high = 0x0001_0002_0003_0004; low = 0x0005_0006_0007_0000 })
     ∷ notLegal "1:2:3:4:5:6:7:8::"
     ∷ notLegal ":1::"
     ∷ isWritten "2001:0:0:1:0:0:0:1" "2001:0:0:1::1"
@@ -49,10 +108,25 @@ starred =
     ∷ notLegal "::256.0.0.1"
     ∷ []
 
--- every starred example holds
+abbrev pub starred : List Claim
+starred = ofTables ++ (remainderIs threeBits 7 8 0 ∷ []) ++ ofTexts
+
+-- Every starred example holds ------------------------------------------------------------------------------------------------
+
+all-append : (xs ys : List Claim) → All xs → All ys → All (xs ++ ys)
+all-append [] ys a b = b
+all-append (x ∷ xs) ys a b = (a .0, all-append xs ys (a .1) b)
+
+tables-hold : All ofTables
+unfolding tables.computing
+tables-hold = (refl, (refl, (refl, (refl, (refl, (refl, (refl, tt)))))))
+
+remainder-holds : All (remainderIs threeBits 7 8 0 ∷ [])
+remainder-holds = ((remainder-of-7 threeBits refl refl refl, hash-of-7 threeBits refl refl refl), tt)
+
+texts-hold : All ofTexts
+unfolding texts.computing
+texts-hold = (refl, (refl, (refl, (refl, (refl, (refl, tt))))))
+
 pub starred-hold : All starred
-unfolding computing
-starred-hold = (
-  (remainder-of-7 threeBits refl refl refl, hash-of-7 threeBits refl refl refl),
-  (refl, (refl, (refl, (refl, (refl, (refl, tt)))))),
-)
+starred-hold = all-append (ofTables ++ (remainderIs threeBits 7 8 0 ∷ [])) ofTexts (all-append ofTables (remainderIs threeBits 7 8 0 ∷ []) tables-hold remainder-holds) texts-hold

@@ -1,0 +1,10 @@
+pub mod Tests
+pub mod Zeros
+pub mod Steps
+pub mod Marks
+pub mod Trails
+pub mod Doubles
+pub mod Runs
+pub mod Lists
+pub mod Sound
+pub mod Answers

@@ -1,0 +1,64 @@
+// What a block of a list, or of the free chain, says of the way on.
+use crate::bytes::zeros_after;
+use settings::Layout;
+use table::blocks::overflow_counter;
+use table::blocks::overflow_link;
+use table::blocks::overflow_slots;
+ghost use mathlib.Core.Path.{_≡_};
+ghost use Prim.Native.Nat.{_<_};
+ghost use Rattle.table.specs.Decode.{decode};
+ghost use Rattle.table.specs.Table.{Table};
+ghost use Rattle.audit.specs.Walk.{listStep, chainStep, stepOf};
+
+// The end, the block that comes next, or something that a sound table has not.
+pub enum Step {
+    Last,
+    Further(usize),
+    Broken,
+}
+
+// Block b in a list.
+fn list_step(t: &[u8], g: Layout, b: usize) -> Step
+    requires { ⌜ Table g (now t) × (b < g .nob) ⌝ }
+    ensures { λ r. ⌜ r ≡ listStep g (decode g (now (t .entry)) .overflow) b ⌝ }
+{
+    let c = overflow_counter(t, g, b);
+    if c == g.sio {
+        return Step::Further(overflow_link(t, g, b));
+    }
+    if c > g.sio {
+        return Step::Broken;
+    }
+    if zeros_after(t, overflow_slots(g, b), g.slot, c + 1, g.sio) {
+        return Step::Last;
+    }
+    Step::Broken
+}
+
+// Block b in the free chain.
+fn chain_step(t: &[u8], g: Layout, b: usize) -> Step
+    requires { ⌜ Table g (now t) × (b < g .nob) ⌝ }
+    ensures { λ r. ⌜ r ≡ chainStep g (decode g (now (t .entry)) .overflow) b ⌝ }
+{
+    if overflow_counter(t, g, b) != 0 {
+        return Step::Broken;
+    }
+    if !zeros_after(t, overflow_slots(g, b), g.slot, 0, g.sio) {
+        return Step::Broken;
+    }
+    let next = overflow_link(t, g, b);
+    if next == b {
+        return Step::Last;
+    }
+    Step::Further(next)
+}
+
+pub fn way_on(t: &[u8], g: Layout, chain: bool, b: usize) -> Step
+    requires { ⌜ Table g (now t) × (b < g .nob) ⌝ }
+    ensures { λ r. ⌜ r ≡ stepOf g (decode g (now (t .entry)) .overflow) chain b ⌝ }
+{
+    if chain {
+        return chain_step(t, g, b);
+    }
+    list_step(t, g, b)
+}

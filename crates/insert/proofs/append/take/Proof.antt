@@ -1,0 +1,61 @@
+-- Three stores in a row.
+use mathlib.Core.Path.{_∙_}
+use native.Mathlib.Omega.{arith}
+use denote.Ref.{now}
+use borrow.Author.Needs.{needs}
+use Rattle.settings.specs.Key.{keyNumber}
+use Rattle.stores.specs.theory.StoreLaws.{table-kept, slot-lt, overflow-slot-ends}
+use Rattle.insert.specs.theory.AppendLaws.{stored-take}
+use Rattle.insert.proofs.append.take.Statement.{statement}
+use Rattle.insert.proofs.append.take.Tie as tie
+
+renew-requires : tie.Need-renew-requires
+renew-requires c κs =
+    let s = c .before .before .before in
+    (s .pre .0, s .pre .1, s .pre .2)
+
+overflow-slot-requires : tie.Need-overflow-slot-requires
+overflow-slot-requires c κs =
+    let s = c .before .before .before .before .before .before .before in
+    (s .pre .0 .proper, s .pre .1, s .pre .0 .proper .sio-low)
+
+put-slot-requires : tie.Need-put-slot-requires
+put-slot-requires c κs =
+    let s = c .before .before .before .before .before .before .before .before in
+    let F = s .pre .0 .proper in (
+      table-kept _ (c .before .before .before .before .renew .kept .0) (s .pre .0),
+      omega (arith, c .overflow-slot .ensures, overflow-slot-ends (s .args .g) F (s .args .f) (s .pre .1) 0 (F .sio-low)),
+      s .pre .4,
+    )
+
+put-free-start-requires : tie.Need-put-free-start-requires
+put-free-start-requires c κs =
+    let s = c .before .before .before .before .before .before .before .before .before .before .before .before in (
+      table-kept _ (c .before .before .before .put-slot .kept .0 ∙ c .before .before .before .before .before .before .before .before .renew .kept .0) (s .pre .0),
+      omega (arith, s .pre .3, s .pre .0 .proper .free-holds),
+    )
+
+same-length : tie.Need-same-length
+same-length c = search needs
+
+returns : tie.Need-returns
+returns c =
+    let s = c .before .before .before .before .before .before .before .before .before .before .before .before .before .before .before in
+    let v = s .args .v in
+    stored-take (s .args .g) (now (s .args .t)) (s .pre .0) (s .args .f) (s .args .displaced) (s .args .next) _ (s .pre .1) (s .pre .2) (s .pre .3)
+    (slot-lt (s .args .g) (s .pre .0 .proper) (keyNumber (v .entry)) (v .label) (s .pre .4)) _ _ _ _
+    (c .before .before .before .before .before .before .before .before .before .before .before .renew .ensures)
+    (c .before .before .before .before .before .before .before .overflow-slot .ensures)
+    (c .before .before .before .before .before .before .put-slot .ensures)
+    (c .before .before .put-free-start .ensures)
+
+pub take-spec : {M : Type 1} → statement M
+take-spec =
+    tie.close
+    (tie.spec
+    renew-requires
+    overflow-slot-requires
+    put-slot-requires
+    put-free-start-requires
+    same-length
+    returns)

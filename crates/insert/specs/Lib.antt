@@ -1,0 +1,4 @@
+-- Words of contracts.
+pub mod Adds
+-- Laws of them.
+pub mod theory

@@ -1,0 +1,173 @@
+-- The first free block, the blocks of a list, and a list that can be followed.
+use mathlib.Core.Path.{_≡_, sym, ap, ap₂, _∙_}
+use mathlib.Core.Bool.{true, false}
+use mathlib.Core.List.{List, [], _∷_}
+use mathlib.Core.Option.{none, some}
+use Prim.Native.Nat.{ℕ, suc, _+_, _-_, _≤_, _<_}
+use native.Mathlib.Omega.{arith}
+use native.Mathlib.Nat.{zero-add}
+use native.Mathlib.Decide.{decLe}
+use lib.Dec.{eqb, ltb}
+use borrow.Author.Tests.{eq-eqb, ne-eqb, eqb-false, lt-ltb, le-ltb, ltb-true, ltb-false}
+use Rattle.settings.specs.theory.Cases.{cases}
+use Rattle.settings.specs.declared.layout.Layout.{Layout}
+use Rattle.settings.specs.declared.refusal.Refusal.{Refusal}
+use Rattle.settings.specs.declared.refusal.Refusal.the-variants as refusal
+use Rattle.table.specs.State.{Overflow, State, basicAt, overflowAt}
+use Rattle.table.specs.Follow.{cons?, follow, content}
+use Rattle.table.specs.Take.{Done, damage, occurs, nextFree, taking}
+use Rattle.table.specs.Add.{Adding, appended}
+use Rattle.table.specs.Steps.{lastFrom}
+use Rattle.table.specs.theory.Walks.{follow-here, follow-on, Turn, content-high, content-bad}
+use Rattle.table.specs.declared.answers.AddAnswer.the-variants as answer
+use Rattle.insert.specs.Adds.{freeOf, meetsFrom, EndsIn, Readable}
+use Rattle.insert.specs.declared.append.Free.the-variants as free
+
+-- ---- the first free block
+
+-- f is free, and n is the free start once it is taken
+pub record Takes (g : Layout) (st : State) (f n : ℕ) : Type 0 where
+  pub first : f ≡ st .free
+  pub next : n ≡ nextFree g (st .overflow) (st .free)
+  pub low : f < g .nob
+  pub next-low : n ≤ g .nob
+  pub goes : (bs : List ℕ) (y : Done) → ltb 0 (occurs f bs) ≡ false → taking g st bs y ≡ y
+  pub met : (bs : List ℕ) (y : Done) → ltb 0 (occurs f bs) ≡ true → taking g st bs y ≡ damage
+
+module _ (g : Layout) (st : State) where
+  abbrev link : ℕ
+  link = overflowAt (st .overflow) (st .free) .link
+
+  pub free-high : g .nob < st .free → free.Refused refusal.Damage ≡ freeOf g st
+  unfolding freeOf
+  free-high h = rw (lt-ltb (g .nob) (st .free) h)
+
+  pub free-none : st .free ≡ g .nob → free.Refused refusal.NoBlock ≡ freeOf g st
+  unfolding freeOf
+  free-none h = rw (le-ltb (g .nob) (st .free) (omega arith), eq-eqb (st .free) (g .nob) h)
+
+  module _ (f l : ℕ) (ef : f ≡ st .free) (el : l ≡ overflowAt (st .overflow) f .link) (hf : f < g .nob) where
+    link-is : l ≡ link
+    link-is = el ∙ ap (λ (n : ℕ). overflowAt (st .overflow) n .link) ef
+
+    pub free-bad : g .nob ≤ l → free.Refused refusal.Damage ≡ freeOf g st
+    unfolding freeOf
+    free-bad h =
+        rw (le-ltb (g .nob) (st .free) (omega arith), ne-eqb (st .free) (g .nob) (λ q. omega arith), le-ltb link (g .nob) (omega (arith, link-is)))
+
+    pub free-end : l < g .nob → l ≡ f → free.Block f (g .nob) ≡ freeOf g st
+    unfolding freeOf
+    free-end h e =
+        rw (le-ltb (g .nob) (st .free) (omega arith), ne-eqb (st .free) (g .nob) (λ q. omega arith), lt-ltb link (g .nob) (omega (arith, link-is)), eq-eqb link (st .free) (omega (arith, link-is)))
+        (ap (λ (n : ℕ). free.Block n (g .nob)) ef)
+
+    pub free-on : l < g .nob → (l ≡ f → ⊥) → free.Block f l ≡ freeOf g st
+    unfolding freeOf
+    free-on h e =
+        rw (le-ltb (g .nob) (st .free) (omega arith), ne-eqb (st .free) (g .nob) (λ q. omega arith), lt-ltb link (g .nob) (omega (arith, link-is)), ne-eqb link (st .free) (λ q. e (omega (arith, link-is))))
+        (ap₂ free.Block ef link-is)
+
+  not-block : {X : Type 0} (why : Refusal) (f n : ℕ) → free.Refused why ≡ free.Block f n → X
+  not-block why f n e = absurd (let z : _≡_ {A = ℕ} 0 1 = cc in omega arith)
+
+  next-le : ltb link (g .nob) ≡ true → nextFree g (st .overflow) (st .free) ≤ g .nob
+  next-le r =
+      cases (eqb link (st .free))
+      (λ z. rw z (omega arith))
+      (λ z. rw z (omega (arith, ltb-true link (g .nob) r)))
+
+  takes-when : (f n : ℕ) → ltb (g .nob) (st .free) ≡ false → eqb (st .free) (g .nob) ≡ false → ltb link (g .nob) ≡ true
+      → free.Block (st .free) (nextFree g (st .overflow) (st .free)) ≡ free.Block f n → Takes g st f n
+  takes-when f n p q r e =
+      let a : f ≡ st .free = cc in
+      let b : n ≡ nextFree g (st .overflow) (st .free) = cc in
+      let d : st .free ≡ g .nob → ⊥ = eqb-false (st .free) (g .nob) q in
+      record {
+        first = a;
+        next = b;
+        low = omega (arith, ltb-false (g .nob) (st .free) p);
+        next-low = omega (arith, next-le r);
+        goes = λ bs y z. rw (p, q, ap (λ (x : ℕ). ltb 0 (occurs x bs)) (sym a) ∙ z, r);
+        met = λ bs y z. rw (p, q, ap (λ (x : ℕ). ltb 0 (occurs x bs)) (sym a) ∙ z);
+      }
+
+  pub takes : (f n : ℕ) → freeOf g st ≡ free.Block f n → Takes g st f n
+  unfolding freeOf
+  takes f n =
+      cases (ltb (g .nob) (st .free))
+      (λ p. rw p (not-block refusal.Damage f n))
+      (λ p. cases (eqb (st .free) (g .nob))
+      (λ q. rw (p, q) (not-block refusal.NoBlock f n))
+      (λ q. cases (ltb link (g .nob))
+      (λ r. rw (p, q, r) (takes-when f n p q r))
+      (λ r. rw (p, q, r) (not-block refusal.Damage f n))))
+
+  same-why : (why was : Refusal) → free.Refused was ≡ free.Refused why → was ≡ why
+  same-why why was e = cc
+
+  -- where there is no free block, the answer is that refusal, whatever list asks
+  pub no-take : (bs : List ℕ) (y : Done) (label n : ℕ) (why : Refusal) → freeOf g st ≡ free.Refused why
+      → appended g st label n (taking g st bs y) ≡ record { answer = answer.Refused why; after = st }
+  unfolding freeOf
+  no-take bs y label n why =
+      let say : Refusal → Adding g = λ w. record { answer = answer.Refused w; after = st } in
+      cases (ltb (g .nob) (st .free))
+      (λ p. rw p (λ e. ap say (same-why why refusal.Damage e)))
+      (λ p. cases (eqb (st .free) (g .nob))
+      (λ q. rw (p, q) (λ e. ap say (same-why why refusal.NoBlock e)))
+      (λ q. cases (ltb link (g .nob))
+      (λ r. rw (p, q, r) (λ e. not-block why (st .free) (nextFree g (st .overflow) (st .free)) (sym e)))
+      (λ r. rw (p, q, r) (λ e. cases (ltb 0 (occurs (st .free) bs)) (λ z. rw z (ap say (same-why why refusal.Damage e))) (λ z. rw z (ap say (same-why why refusal.Damage e)))))))
+
+-- ---- the blocks of a list
+
+module _ (g : Layout) (os : List Overflow) (f : ℕ) where
+  pub meets-as : (n b : ℕ) (bs : List ℕ) → follow g n os b ≡ some bs → meetsFrom g n os b f ≡ ltb 0 (occurs f bs)
+  unfolding meetsFrom
+  meets-as n b bs e = rw e
+
+  module _ (n b : ℕ) (k : Turn g os n b) where
+    blocks-last : overflowAt os b .counter < g .sio → follow g n os b ≡ some (b ∷ [])
+    blocks-last h = follow-here g os n b (k .fuel) (k .low) h
+
+    blocks-on : (e : overflowAt os b .counter ≡ g .sio) → follow g n os b ≡ some (b ∷ k .on e .blocks)
+    blocks-on e = follow-on g os n (n - 1) b (omega (arith, k .fuel)) (k .low) e ∙ ap (cons? b) (k .on e .are)
+
+    here : (bs : List ℕ) → b ≡ f → true ≡ ltb 0 (occurs f (b ∷ bs))
+    here bs e = rw (eq-eqb f b (sym e)) (sym (lt-ltb 0 (1 + occurs f bs) (omega arith)))
+
+    pub meets-here : b ≡ f → true ≡ meetsFrom g n os b f
+    meets-here e = pick (decLe (g .sio) (overflowAt os b .counter))
+      where
+        pick : Dec (g .sio ≤ overflowAt os b .counter) → true ≡ meetsFrom g n os b f
+        pick (yes l) = let z : overflowAt os b .counter ≡ g .sio = omega (arith, k .count) in here (k .on z .blocks) e ∙ sym (meets-as n b (b ∷ k .on z .blocks) (blocks-on z))
+        pick (no l) = here [] e ∙ sym (meets-as n b (b ∷ []) (blocks-last (omega arith)))
+
+    pub meets-last : (b ≡ f → ⊥) → overflowAt os b .counter < g .sio → false ≡ meetsFrom g n os b f
+    meets-last ne h = sym (meets-as n b (b ∷ []) (blocks-last h) ∙ rw (ne-eqb f b (λ q. ne (sym q))))
+
+    pub meets-on : (b ≡ f → ⊥) → overflowAt os b .counter ≡ g .sio → meetsFrom g (n - 1) os (overflowAt os b .link) f ≡ meetsFrom g n os b f
+    meets-on ne e =
+        meets-as (n - 1) (overflowAt os b .link) (k .on e .blocks) (k .on e .are)
+        ∙ sym (meets-as n b (b ∷ k .on e .blocks) (blocks-on e) ∙ rw (ne-eqb f b (λ q. ne (sym q)), zero-add (occurs f (k .on e .blocks))))
+
+-- ---- a list that can be followed
+
+module _ (g : Layout) (st : State) (i : ℕ) (R : Readable g st i) where
+  not-damaged : {X : Type 0} → content g st i ≡ none → X
+  not-damaged e = absurd (let q = R .is in let z : _≡_ {A = ℕ} 0 1 = cc in omega arith)
+
+  pub ends-in : (c h j : ℕ) → c ≡ basicAt (st .basic) i .counter → g .sib < c → h ≡ basicAt (st .basic) i .head → j ≡ lastFrom g (g .nob) (st .overflow) h
+      → EndsIn g st i h j
+  ends-in c h j ec hc eh ej =
+      record { full = full-is (decLe c (suc (g .sib))); head = eh; last = ej; low = low-is (decLe (g .nob) j) }
+    where
+      full-is : Dec (c ≤ suc (g .sib)) → basicAt (st .basic) i .counter ≡ suc (g .sib)
+      full-is (yes l) = omega arith
+      full-is (no l) = not-damaged (content-high g st i (omega arith))
+
+      low-is : Dec (g .nob ≤ j) → j < g .nob
+      low-is (yes l) =
+          let e : j ≡ lastFrom g (g .nob) (st .overflow) (basicAt (st .basic) i .head) = ej ∙ ap (lastFrom g (g .nob) (st .overflow)) eh in
+          not-damaged (content-bad g st i (full-is (decLe c (suc (g .sib)))) (omega arith))
+      low-is (no l) = omega arith

@@ -1,0 +1,211 @@
+// A slot at the end of a list: into a block that has room, or into a block from the free chain.
+use settings::Key;
+use settings::Layout;
+use settings::Refusal;
+use stores::basic_slot;
+use stores::overflow_slot;
+use stores::put_basic_counter;
+use stores::put_basic_head;
+use stores::put_free_start;
+use stores::put_overflow_counter;
+use stores::put_overflow_link;
+use stores::put_slot;
+use stores::renew;
+use table::AddAnswer;
+use table::blocks::basic_counter;
+use table::blocks::basic_head;
+use table::blocks::free_start;
+use table::blocks::overflow_counter;
+use table::blocks::overflow_link;
+use table::lists::follow;
+ghost use mathlib.Core.Path.{_≡_};
+ghost use Prim.Native.Nat.{suc, _+_, _^_, _≤_, _<_};
+ghost use Rattle.settings.specs.Key.{keyNumber};
+ghost use Rattle.table.specs.State.{mkBasic, mkOverflow, basicAt, overflowAt};
+ghost use Rattle.table.specs.Decode.{decode};
+ghost use Rattle.table.specs.Table.{Table};
+ghost use Rattle.table.specs.Steps.{Followed};
+ghost use Rattle.table.specs.declared.answers.AddAnswer.the-variants as answer;
+ghost use Rattle.stores.specs.Stores.{Slotted};
+ghost use Rattle.stores.specs.theory.StoreLaws.{Stored, overBasic, overOverflow};
+ghost use Rattle.insert.specs.Adds.{slotFor, freeOf, meetsFrom, taken, Appendable, Appended, EndsIn, Readable};
+
+// What is to be appended, once `compared` entries were found not to be it.
+pub struct Item {
+    pub entry: Key,
+    pub label: u32,
+    pub compared: u32,
+}
+
+impl Item {
+    fn added(self) -> AddAnswer
+        ensures { λ r. ⌜ r ≡ answer.Added (self .label) (self .compared) ⌝ }
+    {
+        AddAnswer::Added {
+            label: self.label,
+            compared: self.compared,
+        }
+    }
+}
+
+// The first free block, and the free start once it is taken.
+pub enum Free {
+    Block { number: usize, next: usize },
+    Refused(Refusal),
+}
+
+// "The last free block links to itself", and the free start is "nob if none".
+fn free_block(t: &[u8], g: Layout) -> Free
+    requires { ⌜ Table g (now t) ⌝ }
+    ensures { λ r. ⌜ r ≡ freeOf g (decode g (now (t .entry))) ⌝ }
+{
+    let f = free_start(t, g);
+    if f > g.nob {
+        return Free::Refused(Refusal::Damage);
+    }
+    if f == g.nob {
+        return Free::Refused(Refusal::NoBlock);
+    }
+    let link = overflow_link(t, g, f);
+    if link >= g.nob {
+        return Free::Refused(Refusal::Damage);
+    }
+    if link == f {
+        return Free::Block {
+            number: f,
+            next: g.nob,
+        };
+    }
+    Free::Block {
+        number: f,
+        next: link,
+    }
+}
+
+// Whether block f is one of the list's, from block `first` on.
+fn meets(t: &[u8], g: Layout, first: usize, f: usize) -> bool
+    requires { ⌜ Table g (now t) × Followed g (g .nob) (decode g (now t) .overflow) first ⌝ }
+    ensures { λ r. ⌜ r ≡ meetsFrom g (g .nob) (decode g (now (t .entry)) .overflow) first f ⌝ }
+{
+    let mut b = first;
+    let mut q: usize = 0;
+    while q < g.nob {
+        if b == f {
+            return true;
+        }
+        let c = overflow_counter(t, g, b);
+        if c < g.sio {
+            return false;
+        }
+        b = overflow_link(t, g, b);
+        q += 1;
+    }
+    false
+}
+
+// Block f becomes a last block with one slot. The displaced bits are its link.
+fn take(t: &mut [u8], g: Layout, f: usize, displaced: usize, next: usize, v: Item)
+    requires { ⌜ Table g (now t) × (f < g .nob) × (displaced < 2 ^ g .link) × (next ≤ g .nob) × Slotted g (keyNumber (v .entry)) (v .label) ⌝ }
+    ensures { λ _. ⌜ Stored g (now (t .entry)) (now (t .exit)) (taken g (decode g (now (t .entry))) f displaced next (slotFor g v)) ⌝ }
+{
+    let entry = v.entry;
+    renew(t, g, f, displaced);
+    put_slot(t, g, overflow_slot(g, f, 0), entry, v.label);
+    put_free_start(t, g, next);
+}
+
+// Basic block i overflows into block f.
+fn link_basic(t: &mut [u8], g: Layout, i: usize, f: usize)
+    requires { ⌜ Table g (now t) × (i < g .lists) × (f < g .nob) ⌝ }
+    ensures { λ _. ⌜ Stored g (now (t .entry)) (now (t .exit)) (overBasic i (λ b. mkBasic (suc (g .sib)) f (b .rest)) (decode g (now (t .entry)))) ⌝ }
+{
+    put_basic_counter(t, g, i, g.sib + 1);
+    put_basic_head(t, g, i, f);
+}
+
+// Overflow block j goes on in block f.
+fn link_overflow(t: &mut [u8], g: Layout, j: usize, f: usize)
+    requires { ⌜ Table g (now t) × (j < g .nob) × (f < g .nob) ⌝ }
+    ensures { λ _. ⌜ Stored g (now (t .entry)) (now (t .exit)) (overOverflow j (λ o. mkOverflow (g .sio) f (o .slots)) (decode g (now (t .entry)))) ⌝ }
+{
+    put_overflow_counter(t, g, j, g.sio);
+    put_overflow_link(t, g, j, f);
+}
+
+// The basic block has room.
+fn append_room(t: &mut [u8], g: Layout, i: usize, c: usize, v: Item) -> AddAnswer
+    requires { ⌜ Appendable g (now t) i v × (c < g .sib) × (c ≡ basicAt (decode g (now t) .basic) i .counter) ⌝ }
+    ensures { λ r. ⌜ Appended g (now (t .entry)) (now (t .exit)) i v r ⌝ }
+{
+    let entry = v.entry;
+    put_slot(t, g, basic_slot(g, i, c), entry, v.label);
+    put_basic_counter(t, g, i, c + 1);
+    v.added()
+}
+
+// The basic block is full, and gets its first overflow block.
+fn append_first(t: &mut [u8], g: Layout, i: usize, v: Item) -> AddAnswer
+    requires { ⌜ Appendable g (now t) i v × (basicAt (decode g (now t) .basic) i .counter ≡ g .sib) ⌝ }
+    ensures { λ r. ⌜ Appended g (now (t .entry)) (now (t .exit)) i v r ⌝ }
+{
+    match free_block(t, g) {
+        Free::Block { number, next } => {
+            let displaced = basic_head(t, g, i);
+            link_basic(t, g, i, number);
+            take(t, g, number, displaced, next, v);
+            v.added()
+        }
+        Free::Refused(why) => AddAnswer::Refused(why),
+    }
+}
+
+// The last block, j, is full, and a further one follows it.
+fn append_more(t: &mut [u8], g: Layout, i: usize, h: usize, j: usize, v: Item) -> AddAnswer
+    requires { ⌜ Appendable g (now t) i v × EndsIn g (decode g (now t)) i h j × (g .sio ≤ suc (overflowAt (decode g (now t) .overflow) j .counter)) ⌝ }
+    ensures { λ r. ⌜ Appended g (now (t .entry)) (now (t .exit)) i v r ⌝ }
+{
+    match free_block(t, g) {
+        Free::Block { number, next } => {
+            if meets(t, g, h, number) {
+                return AddAnswer::Refused(Refusal::Damage);
+            }
+            let displaced = overflow_link(t, g, j);
+            link_overflow(t, g, j, number);
+            take(t, g, number, displaced, next, v);
+            v.added()
+        }
+        Free::Refused(why) => AddAnswer::Refused(why),
+    }
+}
+
+// The last block is j. "Counter c below sio means c + 1 entries".
+fn append_overflow(t: &mut [u8], g: Layout, i: usize, h: usize, j: usize, v: Item) -> AddAnswer
+    requires { ⌜ Appendable g (now t) i v × EndsIn g (decode g (now t)) i h j ⌝ }
+    ensures { λ r. ⌜ Appended g (now (t .entry)) (now (t .exit)) i v r ⌝ }
+{
+    let n = overflow_counter(t, g, j) + 1;
+    if n < g.sio {
+        let entry = v.entry;
+        put_slot(t, g, overflow_slot(g, j, n), entry, v.label);
+        put_overflow_counter(t, g, j, n);
+        return v.added();
+    }
+    append_more(t, g, i, h, j, v)
+}
+
+// At the end of list i, which can be followed there.
+pub fn append(t: &mut [u8], g: Layout, i: usize, v: Item) -> AddAnswer
+    requires { ⌜ Appendable g (now t) i v × Readable g (decode g (now t)) i ⌝ }
+    ensures { λ r. ⌜ Appended g (now (t .entry)) (now (t .exit)) i v r ⌝ }
+{
+    let c = basic_counter(t, g, i);
+    if c < g.sib {
+        return append_room(t, g, i, c, v);
+    }
+    if c == g.sib {
+        return append_first(t, g, i, v);
+    }
+    let h = basic_head(t, g, i);
+    let j = follow(t, g, h);
+    append_overflow(t, g, i, h, j, v)
+}

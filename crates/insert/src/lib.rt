@@ -1,0 +1,5 @@
+// Add: a key and its label, at the end of the key's list.
+mod append;
+mod insert;
+
+pub use insert::add;

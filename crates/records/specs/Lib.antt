@@ -1,0 +1,5 @@
+-- Words of private contracts.
+pub mod NewSteps
+pub mod RecordSteps
+-- Laws of them.
+pub mod theory

@@ -1,0 +1,145 @@
+-- What the functions below delete are asked and answer. Only contracts of functions cite these; the call's own does not.
+use Prim.Native.Nat.{ℕ, _-_, _<_, _≤_}
+use mathlib.Core.Path.{_≡_}
+use mathlib.Core.Bool.{Bool, false, cond}
+use mathlib.Core.List.{List, [], _∷_}
+use mathlib.Core.Option.{Option, none, some}
+use lib.ListN.{length, getD, set}
+use lib.Dec.{ltb}
+use Rattle.bits.specs.Field.{field}
+use Rattle.settings.specs.Key.{keyNumber}
+use Rattle.settings.specs.declared.settings.Settings.{Settings}
+use Rattle.settings.specs.declared.keys.Key.{Key}
+use Rattle.settings.specs.declared.layout.Layout.{Layout}
+use Rattle.table.specs.Arrays.{padded}
+use Rattle.table.specs.State.{Overflow, State, mkBasic, mkOverflow, mkState, basicAt, overflowAt, unpack, headOf, restOf, slotOf}
+use Rattle.table.specs.Decode.{decode, written}
+use Rattle.table.specs.Follow.{Seen, lastOf, prevOf, follow, gather, content}
+use Rattle.table.specs.Take.{Done, damage, done, linkFree}
+use Rattle.table.specs.Delete.{poke, shrink, deleteIn}
+use Rattle.table.specs.Calls.{deleteAnswer, deleteBytes}
+use Rattle.table.specs.declared.answers.DeleteAnswer.{DeleteAnswer}
+use Rattle.stores.specs.Stores.{Slotted}
+use Rattle.stores.specs.theory.StoreLaws.{Stored, overBasic, overOverflow, withFree}
+use Rattle.stores.specs.Blocks.{blocksIn}
+use Rattle.remove.specs.declared.poke.Moved.{Moved}
+use Rattle.remove.specs.declared.poke.Spot.{Spot}
+use Rattle.remove.specs.declared.shrink.End.{End}
+
+abbrev pub slotMoved : Layout → Moved → ℕ
+slotMoved g v = slotOf g (keyNumber (v .entry)) (v .label)
+
+-- v is the slot at bit `at`
+pub record Holding (g : Layout) (t : List ℕ) (at : ℕ) (v : Moved) : Type 0 where
+  pub slotted : Slotted g (keyNumber (v .entry)) (v .label)
+  pub is : slotMoved g v ≡ field t at (g .slot)
+
+module _ (g : Layout) where
+  -- the list's overflow blocks from block b on
+  unfoldable pub blocksFrom : List Overflow → ℕ → List ℕ
+  blocksFrom os b = blocksIn (follow g (g .nob) os b)
+
+  -- the last of the blocks, and the one before it; p if there is no other
+  abbrev pub endIn : ℕ → List ℕ → End
+  endIn p [] = record { last = g .nob; before = p }
+  endIn p (c ∷ cs) = record { last = lastOf c cs; before = prevOf p c cs }
+
+  -- place q of the blocks, counted through them
+  abbrev pub spotIn : List ℕ → ℕ → Spot
+  spotIn [] q = record { block = g .nob; slot = q }
+  spotIn (b ∷ bs) q = cond (ltb q (g .sio)) (record { block = b; slot = q }) (spotIn bs (q - g .sio))
+
+  -- the list that goes on at block b has an end
+  pub record Ends (os : List Overflow) (b : ℕ) : Type 0 where
+    pub blocks : List ℕ
+    pub are : follow g (g .nob) os b ≡ some blocks
+
+  -- and place q is in it
+  pub record Reaches (os : List Overflow) (b q : ℕ) : Type 0 where
+    pub ends : Ends os b
+    pub within : q < length (gather g os (blocksFrom os b))
+
+  -- ---- the last slot off
+
+  abbrev pub clipped : ℕ → State → State
+  clipped l = overOverflow l (λ o. mkOverflow (o .counter - 1) (o .link) (set (o .slots) (o .counter) 0))
+
+  -- block l at the front of the free chain
+  abbrev pub released : ℕ → State → State
+  released l st = withFree l (overOverflow l (λ o. mkOverflow 0 (linkFree g (st .free) l) (padded (g .sio) [])) st)
+
+  -- the last slot of list i off, where l is the last block and p the one before it, or nob
+  unfoldable pub shrinkAt : ℕ → ℕ → ℕ → State → State
+  shrinkAt i l p st =
+      let o = overflowAt (st .overflow) l in
+      cond (ltb 0 (o .counter)) (clipped l st)
+      (cond (ltb p (g .nob))
+      (released l (overOverflow p (λ q. mkOverflow (g .sio - 1) (o .link) (q .slots)) st))
+      (released l (overBasic i (λ b. mkBasic (g .sib) (o .link) (b .rest)) st)))
+
+  -- the last block, l, would be freed, and cannot
+  unfoldable pub stuckAt : ℕ → State → Bool
+  stuckAt l st = cond (ltb 0 (overflowAt (st .overflow) l .counter)) false (ltb (g .nob) (st .free))
+
+  pub record Shrinkable (st : State) (l : ℕ) : Type 0 where
+    pub low : l < g .nob
+    pub few : overflowAt (st .overflow) l .counter < g .sio
+    pub free : stuckAt l st ≡ false
+
+  -- ---- a slot into the hole
+
+  abbrev pub pokeBasic : ℕ → ℕ → ℕ → ℕ → State → State
+  pokeBasic i l p x st =
+      let b = basicAt (st .basic) i in
+      let o = overflowAt (st .overflow) l in
+      let body = set (unpack g (o .link) (b .rest)) p x in
+      mkState (st .free)
+      (set (st .basic) i (mkBasic (b .counter) (b .head) (restOf g body)))
+      (set (st .overflow) l (mkOverflow (o .counter) (headOf g body) (o .slots)))
+
+  abbrev pub pokeSpot : Spot → ℕ → State → State
+  pokeSpot s x = overOverflow (s .block) (λ o. mkOverflow (o .counter) (o .link) (set (o .slots) (s .slot) x))
+
+  -- the slot x into place p of list i, whose overflow blocks go from h to l
+  unfoldable pub pokeAt : ℕ → ℕ → ℕ → ℕ → ℕ → State → State
+  pokeAt i h l p x st =
+      cond (ltb p (g .sib)) (pokeBasic i l p x st) (pokeSpot (spotIn (blocksFrom (st .overflow) h) (p - g .sib)) x st)
+
+  pub record Pokable (st : State) (i h l p : ℕ) : Type 0 where
+    pub list : i < g .lists
+    pub last : l < g .nob
+    pub reaches : g .sib ≤ p → Reaches (st .overflow) h (p - g .sib)
+
+  -- ---- both
+
+  abbrev pub removalOf : State → ℕ → ℕ → Option Seen → Done
+  removalOf st i p none = damage
+  removalOf st i p (some v) =
+      let x = getD (v .slots) (length (v .slots) - 1) 0 in
+      shrink g (poke g st i (v .blocks) p x) i (v .blocks)
+
+  -- what the removal of place p from list i comes to
+  unfoldable pub removal : State → ℕ → ℕ → Done
+  removal st i p = removalOf st i p (content g st i)
+
+  -- list i can be followed to its end, and has a place p
+  pub record Placed (st : State) (i p : ℕ) : Type 0 where
+    pub seen : Seen
+    pub is : content g st i ≡ some seen
+    pub within : p < length (seen .slots)
+
+-- u and r are what the removal of place p from list i of t comes to
+pub record Removed (g : Layout) (t u : List ℕ) (i p : ℕ) (r : Bool) : Type 0 where
+  pub state : State
+  pub is : removal g (decode g t) i p ≡ cond r (done state) damage
+  pub stored : Stored g t u (cond r state (decode g t))
+
+-- u and r are what deleting the entry e from list i of t comes to
+pub record Deleted (g : Layout) (t u : List ℕ) (i e : ℕ) (r : DeleteAnswer) : Type 0 where
+  pub answer : r ≡ deleteIn g (decode g t) i e .answer
+  pub bytes : u ≡ written g t (deleteIn g (decode g t) i e .after)
+
+-- what delete answers, and the bytes that it leaves
+pub record DeleteCall (s : Settings) (t u : List ℕ) (key : Key) (r : DeleteAnswer) : Type 0 where
+  pub answer : r ≡ deleteAnswer s t key
+  pub bytes : u ≡ deleteBytes s t key

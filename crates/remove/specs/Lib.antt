@@ -1,0 +1,4 @@
+-- Words of contracts.
+pub mod DeleteSteps
+-- Laws of them.
+pub mod theory

@@ -1,0 +1,6 @@
+// Delete: a key out of its list.
+mod poke;
+mod remove;
+mod shrink;
+
+pub use remove::delete;

@@ -1,0 +1,117 @@
+// Delete: ""none", or "gone" with the label; the list's last slot moves into the hole and the slot left
+// vacant is zeroed."
+use crate::poke::poke;
+use crate::poke::slot_at;
+use crate::shrink::end_of;
+use crate::shrink::shrink;
+use crate::shrink::stuck;
+use settings::Key;
+use settings::Laid;
+use settings::Layout;
+use settings::Refusal;
+use settings::Settings;
+use stores::basic_slot;
+use stores::clear;
+use stores::overflow_slot;
+use stores::put_basic_counter;
+use stores::put_slot;
+use table::DeleteAnswer;
+use table::FindAnswer;
+use table::blocks::basic_counter;
+use table::blocks::basic_head;
+use table::blocks::overflow_counter;
+use table::find_in;
+ghost use mathlib.Core.Path.{_≡_};
+ghost use Prim.Native.Nat.{_^_, _≤_, _<_};
+ghost use Rattle.settings.specs.Key.{keyNumber};
+ghost use Rattle.table.specs.State.{basicAt};
+ghost use Rattle.table.specs.Decode.{decode};
+ghost use Rattle.table.specs.Table.{Table};
+ghost use Rattle.remove.specs.DeleteSteps.{Placed, Removed, Deleted, DeleteCall};
+
+// Place p of list i, which has c slots in use and no overflow blocks.
+fn remove_short(t: &mut [u8], g: Layout, i: usize, c: usize, p: usize) -> bool
+    requires { ⌜ Table g (now t) × (i < g .lists) × Placed g (decode g (now t)) i p × (c ≡ basicAt (decode g (now t) .basic) i .counter) × (c ≤ g .sib) × (p < c) ⌝ }
+    ensures { λ r. ⌜ Removed g (now (t .entry)) (now (t .exit)) i p r ⌝ }
+{
+    let last = basic_slot(g, i, c - 1);
+    let hole = basic_slot(g, i, p);
+    let v = slot_at(t, g, last);
+    let entry = v.entry;
+    put_slot(t, g, hole, entry, v.label);
+    clear(t, last, g.slot);
+    put_basic_counter(t, g, i, c - 1);
+    true
+}
+
+// Place p of list i, which overflows. Whether the last block can be freed is known before the first
+// store: a refusal changes nothing.
+fn remove_long(t: &mut [u8], g: Layout, i: usize, p: usize) -> bool
+    requires { ⌜ Table g (now t) × (i < g .lists) × Placed g (decode g (now t)) i p × (g .sib < basicAt (decode g (now t) .basic) i .counter) ⌝ }
+    ensures { λ r. ⌜ Removed g (now (t .entry)) (now (t .exit)) i p r ⌝ }
+{
+    let first = basic_head(t, g, i);
+    let end = end_of(t, g, first);
+    let last = end.last;
+    if stuck(t, g, last) {
+        return false;
+    }
+    let n = overflow_counter(t, g, last);
+    let v = slot_at(t, g, overflow_slot(g, last, n));
+    poke(t, g, i, first, last, p, v);
+    shrink(t, g, i, last, end.before);
+    true
+}
+
+// Place p of list i: whether nothing prevents it.
+fn remove(t: &mut [u8], g: Layout, i: usize, p: usize) -> bool
+    requires { ⌜ Table g (now t) × (i < g .lists) × Placed g (decode g (now t)) i p ⌝ }
+    ensures { λ r. ⌜ Removed g (now (t .entry)) (now (t .exit)) i p r ⌝ }
+{
+    let c = basic_counter(t, g, i);
+    if c <= g.sib {
+        return remove_short(t, g, i, c, p);
+    }
+    remove_long(t, g, i, p)
+}
+
+// An entry from list i. What find compared is the place of the entry, counted from 1.
+fn delete_in(t: &mut [u8], g: Layout, i: usize, entry: Key) -> DeleteAnswer
+    requires { ⌜ Table g (now t) × (i < g .lists) × (keyNumber entry < 2 ^ g .bie) ⌝ }
+    ensures { λ r. ⌜ Deleted g (now (t .entry)) (now (t .exit)) i (keyNumber entry) r ⌝ }
+{
+    match find_in(t, g, i, entry) {
+        FindAnswer::Held { label, compared } => {
+            if remove(t, g, i, compared as usize - 1) {
+                return DeleteAnswer::Gone {
+                    label: label,
+                    compared: compared,
+                };
+            }
+            DeleteAnswer::Refused(Refusal::Damage)
+        }
+        FindAnswer::None { compared } => DeleteAnswer::None { compared: compared },
+        FindAnswer::Refused(why) => DeleteAnswer::Refused(why),
+    }
+}
+
+// A refusal, and "none", leave every byte.
+pub fn delete(s: Settings, t: &mut [u8], key: Key) -> DeleteAnswer
+    ensures { λ r. ⌜ DeleteCall s (now (t .entry)) (now (t .exit)) key r ⌝ }
+{
+    match s.layout() {
+        Laid::Layout(g) => {
+            if t.len() < g.bytes {
+                return DeleteAnswer::Refused(Refusal::Short);
+            }
+            if !key.within(s.w) {
+                return DeleteAnswer::Refused(Refusal::Key);
+            }
+            let place = key.place(s);
+            let list = place.list;
+            let entry = place.entry;
+            delete_in(t, g, list.0, entry)
+        }
+        Laid::Refused(why) => DeleteAnswer::Refused(why),
+    }
+}

@@ -1,0 +1,127 @@
+// The last slot of an overflowing list off, and its block freed if that was its only one.
+use settings::Layout;
+use stores::clear;
+use stores::overflow_slot;
+use stores::put_basic_counter;
+use stores::put_basic_head;
+use stores::put_free_start;
+use stores::put_overflow_counter;
+use stores::put_overflow_link;
+use stores::renew;
+use table::blocks::free_start;
+use table::blocks::overflow_counter;
+use table::blocks::overflow_link;
+ghost use mathlib.Core.Path.{_≡_};
+ghost use Prim.Native.Nat.{suc, _-_, _^_, _≤_, _<_};
+ghost use Rattle.table.specs.State.{mkBasic, mkOverflow, overflowAt};
+ghost use Rattle.table.specs.Decode.{decode};
+ghost use Rattle.table.specs.Table.{Table};
+ghost use Rattle.table.specs.Take.{linkFree};
+ghost use Rattle.stores.specs.theory.StoreLaws.{Stored, overBasic, overOverflow};
+ghost use Rattle.remove.specs.DeleteSteps.{blocksFrom, endIn, Ends, clipped, released, shrinkAt, stuckAt, Shrinkable};
+
+// The last block of a list, and the one before it; nob, which is no block, if there is none.
+pub struct End {
+    pub last: usize,
+    pub before: usize,
+}
+
+// The end of the list whose overflow blocks start at `first`.
+pub fn end_of(t: &[u8], g: Layout, first: usize) -> End
+    requires { ⌜ Table g (now t) × Ends g (decode g (now t) .overflow) first ⌝ }
+    ensures { λ r. ⌜ r ≡ endIn g (g .nob) (blocksFrom g (decode g (now (t .entry)) .overflow) first) ⌝ }
+{
+    let mut b = first;
+    let mut before = g.nob;
+    let mut k: usize = 0;
+    while k < g.nob {
+        let c = overflow_counter(t, g, b);
+        if c < g.sio {
+            return End { last: b, before };
+        }
+        before = b;
+        b = overflow_link(t, g, b);
+        k += 1;
+    }
+    End { last: b, before }
+}
+
+// Whether the last block, j, would be freed and cannot: "when freeing one, free start above nob".
+pub fn stuck(t: &[u8], g: Layout, j: usize) -> bool
+    requires { ⌜ Table g (now t) × (j < g .nob) ⌝ }
+    ensures { λ r. ⌜ r ≡ stuckAt g j (decode g (now (t .entry))) ⌝ }
+{
+    if overflow_counter(t, g, j) > 0 {
+        return false;
+    }
+    free_start(t, g) > g.nob
+}
+
+// The last slot of block j off, whose counter is n.
+fn clip(t: &mut [u8], g: Layout, j: usize, n: usize)
+    requires { ⌜ Table g (now t) × (j < g .nob) × (0 < n) × (n < g .sio) × (n ≡ overflowAt (decode g (now t) .overflow) j .counter) ⌝ }
+    ensures { λ _. ⌜ Stored g (now (t .entry)) (now (t .exit)) (clipped g j (decode g (now (t .entry)))) ⌝ }
+{
+    put_overflow_counter(t, g, j, n - 1);
+    clear(t, overflow_slot(g, j, n), g.slot);
+}
+
+// The counter of basic block i and the first L bits of its slots become n and h.
+pub fn set_basic(t: &mut [u8], g: Layout, i: usize, n: usize, h: usize)
+    requires { ⌜ Table g (now t) × (i < g .lists) × (n ≤ suc (g .sib)) × (h < 2 ^ g .link) ⌝ }
+    ensures { λ _. ⌜ Stored g (now (t .entry)) (now (t .exit)) (overBasic i (λ b. mkBasic n h (b .rest)) (decode g (now (t .entry)))) ⌝ }
+{
+    put_basic_counter(t, g, i, n);
+    put_basic_head(t, g, i, h);
+}
+
+// The counter and the link of overflow block j become n and l.
+pub fn set_overflow(t: &mut [u8], g: Layout, j: usize, n: usize, l: usize)
+    requires { ⌜ Table g (now t) × (j < g .nob) × (n ≤ g .sio) × (l < 2 ^ g .link) ⌝ }
+    ensures { λ _. ⌜ Stored g (now (t .entry)) (now (t .exit)) (overOverflow j (λ o. mkOverflow n l (o .slots)) (decode g (now (t .entry)))) ⌝ }
+{
+    put_overflow_counter(t, g, j, n);
+    put_overflow_link(t, g, j, l);
+}
+
+// The link of block j at the front of a free chain that starts at f. "The last free block links to itself".
+fn link_free(g: Layout, f: usize, j: usize) -> usize
+    ensures { λ r. ⌜ r ≡ linkFree g f j ⌝ }
+{
+    if f == g.nob {
+        return j;
+    }
+    f
+}
+
+// "An emptied overflow block goes to the front of the free chain."
+fn release(t: &mut [u8], g: Layout, j: usize)
+    requires { ⌜ Table g (now t) × (j < g .nob) × (decode g (now t) .free ≤ g .nob) ⌝ }
+    ensures { λ _. ⌜ Stored g (now (t .entry)) (now (t .exit)) (released g j (decode g (now (t .entry)))) ⌝ }
+{
+    let f = free_start(t, g);
+    renew(t, g, j, link_free(g, f, j));
+    put_free_start(t, g, j);
+}
+
+// The last slot off. An emptied block hands the displaced bits, its link, to the block before it, or
+// back to the basic block.
+pub fn shrink(t: &mut [u8], g: Layout, i: usize, last: usize, before: usize)
+    requires { ⌜ Table g (now t) × (i < g .lists) × Shrinkable g (decode g (now t)) last ⌝ }
+    ensures { λ _. ⌜ Stored g (now (t .entry)) (now (t .exit)) (shrinkAt g i last before (decode g (now (t .entry)))) ⌝ }
+{
+    let n = overflow_counter(t, g, last);
+    if n > 0 {
+        clip(t, g, last, n);
+        return;
+    }
+    if before < g.nob {
+        let link = overflow_link(t, g, last);
+        set_overflow(t, g, before, g.sio - 1, link);
+        release(t, g, last);
+        return;
+    }
+    let head = overflow_link(t, g, last);
+    set_basic(t, g, i, g.sib, head);
+    release(t, g, last);
+}

@@ -1,0 +1,30 @@
+-- The slot ends within the table.
+use native.Mathlib.Omega.{arith}
+use borrow.Author.Needs.{needs}
+use Rattle.table.specs.theory.Changes.{bits-high}
+use Rattle.stores.specs.Stores.{overflowSlot}
+use Rattle.stores.specs.theory.StoreLaws.{overflow-slot-ends}
+use Rattle.stores.proofs.overflow_slot.Statement.{statement}
+use Rattle.stores.proofs.overflow_slot.Tie as tie
+
+overflow-slots-requires : tie.Need-overflow-slots-requires
+overflow-slots-requires c κs = search needs
+
+mul-result : tie.Need-mul-result
+unfolding overflowSlot
+mul-result c =
+    let s = c .before .before in
+    omega (arith, overflow-slot-ends (s .args .g) (s .pre .0) (s .args .j) (s .pre .1) (s .args .p) (s .pre .2), bits-high (s .args .g) (s .pre .0))
+
+add-result : tie.Need-add-result
+unfolding overflowSlot
+add-result c =
+    let s = c .before .before in
+    omega (arith, overflow-slot-ends (s .args .g) (s .pre .0) (s .args .j) (s .pre .1) (s .args .p) (s .pre .2), bits-high (s .args .g) (s .pre .0), c .before .overflow-slots .ensures)
+
+returns : tie.Need-returns
+unfolding overflowSlot
+returns c = omega (arith, c .before .overflow-slots .ensures)
+
+pub overflow-slot-spec : {M : Type 1} → statement M
+overflow-slot-spec = tie.close (tie.spec overflow-slots-requires mul-result add-result returns)

@@ -1,0 +1,50 @@
+-- What the stores leave in a table's bytes: each is a field put at its place.
+use Prim.Native.Nat.{ℕ, _+_, _*_, _^_, _<_}
+use mathlib.Core.Path.{_≡_}
+use mathlib.Core.List.{List}
+use Rattle.bits.specs.Field.{field}
+use Rattle.bits.specs.Put.{putField}
+use Rattle.settings.specs.declared.layout.Layout.{Layout}
+use Rattle.table.specs.Decode.{blockAt, basicSlots, linkAt, overflowSlots}
+
+-- an entry and a label that a slot holds
+pub record Slotted (g : Layout) (e label : ℕ) : Type 0 where
+  pub entry-fits : e < 2 ^ g .bie
+  pub label-fits : label < 2 ^ g .val
+
+module _ (g : Layout) where
+  -- where slot p of a block begins
+  unfoldable pub basicSlot : ℕ → ℕ → ℕ
+  basicSlot i p = basicSlots g i + p * g .slot
+
+  unfoldable pub overflowSlot : ℕ → ℕ → ℕ
+  overflowSlot j p = overflowSlots g j + p * g .slot
+
+module _ (g : Layout) (t : List ℕ) where
+  unfoldable pub freePut : ℕ → List ℕ
+  freePut f = putField t 0 (g .basic .start) f
+
+  unfoldable pub basicCounterPut : ℕ → ℕ → List ℕ
+  basicCounterPut i n = putField t (blockAt (g .basic) i) (g .basic .counter) n
+
+  unfoldable pub headPut : ℕ → ℕ → List ℕ
+  headPut i h = putField t (basicSlots g i) (g .link) h
+
+  unfoldable pub overflowCounterPut : ℕ → ℕ → List ℕ
+  overflowCounterPut j n = putField t (blockAt (g .overflow) j) (g .overflow .counter) n
+
+  unfoldable pub linkPut : ℕ → ℕ → List ℕ
+  linkPut j l = putField t (linkAt g j) (g .link) l
+
+  -- the slot x at bit `at`
+  unfoldable pub slotPut : ℕ → ℕ → List ℕ
+  slotPut at x = putField t at (g .slot) x
+
+  -- overflow block j zeroed, but for its link
+  unfoldable pub renewed : ℕ → ℕ → List ℕ
+  renewed j l = putField (putField t (blockAt (g .overflow) j) (g .overflow .bits) 0) (linkAt g j) (g .link) l
+
+-- u is t with the slot x stored at bit `at` where the L bits from `base` on count as h; these bits themselves stay, and r is what they would be
+pub record Poked (g : Layout) (t u : List ℕ) (base h at x r : ℕ) : Type 0 where
+  pub head : r ≡ field (slotPut g (putField t base (g .link) h) at x) base (g .link)
+  pub bytes : u ≡ putField (slotPut g (putField t base (g .link) h) at x) base (g .link) (field t base (g .link))

@@ -1,0 +1,101 @@
+-- Document 01, "Calls on a table": check, as a test that can be computed. `Sound` says the same in document 01's words, and theory proves it.
+use Prim.Native.Nat.{ℕ, zero, suc, _+_, _-_, _*_, _/_}
+use mathlib.Core.Bool.{Bool, true, false, cond, _&&_}
+use mathlib.Core.List.{List, [], _∷_, _++_}
+use mathlib.Core.Option.{Option, none, some}
+use lib.ListN.{length, drop, replicate}
+use lib.Dec.{eqb, ltb}
+use Rattle.bits.specs.Field.{field}
+use Rattle.settings.specs.declared.layout.Layout.{Layout}
+use Rattle.table.specs.State.{Basic, Overflow, State, overflowAt, unpack, entryOf}
+use Rattle.table.specs.Decode.{decode}
+use Rattle.table.specs.Follow.{Seen, cons?, contentOf}
+use Rattle.table.specs.Take.{occurs}
+
+abbrev pub every : {A : Type 0} → (A → Bool) → List A → Bool
+every f [] = true
+every f (x ∷ xs) = f x && every f xs
+
+abbrev pub everyBelow : ℕ → (ℕ → Bool) → Bool
+everyBelow zero f = true
+everyBelow (suc n) f = f zero && everyBelow n (λ i. f (suc i))
+
+abbrev pub allZero : List ℕ → Bool
+allZero xs = every (λ x. eqb x 0) xs
+
+-- the overflow blocks of a list that was followed
+abbrev pub blocksOf : Option Seen → List ℕ
+blocksOf none = []
+blocksOf (some v) = v .blocks
+
+module _ (g : Layout) where
+  -- "Unused slots .. are zero"
+  abbrev pub basicUnused : Basic → List ℕ → Bool
+  basicUnused b [] = allZero (drop (b .counter) (unpack g (b .head) (b .rest)))
+  basicUnused b (c ∷ cs) = true
+
+  abbrev pub overflowUnused : List Overflow → ℕ → Bool
+  overflowUnused os j = allZero (drop (suc (overflowAt os j .counter)) (overflowAt os j .slots))
+
+  -- "counters and slots of free blocks, are zero"
+  abbrev pub freeZero : List Overflow → ℕ → Bool
+  freeZero os f = eqb (overflowAt os f .counter) 0 && allZero (overflowAt os f .slots)
+
+  -- "no entry twice in a list"
+  abbrev pub hasEntry : ℕ → List ℕ → Bool
+  hasEntry e [] = false
+  hasEntry e (y ∷ ys) = cond (eqb (entryOf g y) e) true (hasEntry e ys)
+
+  abbrev pub noEntryTwice : List ℕ → Bool
+  noEntryTwice [] = true
+  noEntryTwice (x ∷ xs) = cond (hasEntry (entryOf g x) xs) false (noEntryTwice xs)
+
+  -- "no damage in any list", and its zeros and entries as they should be
+  abbrev pub listSound : Basic → List Overflow → Option Seen → Bool
+  listSound b os none = false
+  listSound b os (some v) = basicUnused b (v .blocks) && (every (overflowUnused os) (v .blocks) && noEntryTwice (v .slots))
+
+  abbrev pub listsSound : List Basic → List Overflow → Bool
+  listsSound [] os = true
+  listsSound (b ∷ bs) os = listSound b os (contentOf g b os) && listsSound bs os
+
+  -- the free chain from block f on, to the block that links to itself
+  abbrev pub chainFrom : ℕ → List Overflow → ℕ → Option (List ℕ)
+  chainFrom zero os f = none
+  chainFrom (suc n) os f =
+      let on = cons? f (chainFrom n os (overflowAt os f .link)) in
+      cond (ltb f (g .nob)) (cond (eqb (overflowAt os f .link) f) (some (f ∷ [])) on) none
+
+  abbrev pub freeChain : State → Option (List ℕ)
+  freeChain st =
+      let on = chainFrom (g .nob) (st .overflow) (st .free) in
+      cond (eqb (st .free) (g .nob)) (some []) on
+
+  -- how often block j stands in the lists
+  abbrev pub occursInLists : ℕ → List Basic → List Overflow → ℕ
+  occursInLists j [] os = 0
+  occursInLists j (b ∷ bs) os = occurs j (blocksOf (contentOf g b os)) + occursInLists j bs os
+
+  -- "every overflow block exactly once, in one list or in the free chain"
+  abbrev pub chainSound : State → Option (List ℕ) → Bool
+  chainSound st none = false
+  chainSound st (some fs) =
+      every (freeZero (st .overflow)) fs
+      && everyBelow (g .nob) (λ j. eqb (occursInLists j (st .basic) (st .overflow) + occurs j fs) 1)
+
+  unfoldable pub stateSound : State → Bool
+  stateSound st = listsSound (st .basic) (st .overflow) && chainSound st (freeChain st)
+
+  -- "zero bits to the end of the byte"
+  unfoldable pub fillZero : List ℕ → Bool
+  fillZero t = eqb (field t (g .bits) (8 * g .bytes - g .bits)) 0
+
+  unfoldable pub tableSound : List ℕ → Bool
+  tableSound t = stateSound (decode g t) && fillZero t
+
+  -- "Its lent marks, ⌈nob / 8⌉ bytes, are zero afterwards; lent bytes beyond them are untouched."
+  unfoldable pub markBytes : ℕ
+  markBytes = (g .nob + 7) / 8
+
+  unfoldable pub marksAfter : List ℕ → List ℕ
+  marksAfter m = replicate markBytes 0 ++ drop markBytes m

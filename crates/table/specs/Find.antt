@@ -1,0 +1,40 @@
+-- Document 01, "Calls on a table": an entry in a list's slots, and find.
+use Prim.Native.Nat.{ℕ, suc}
+use mathlib.Core.Bool.{Bool, cond}
+use mathlib.Core.List.{List, [], _∷_}
+use mathlib.Core.Option.{Option, none, some}
+use lib.ListN.{length, getD}
+use lib.Dec.{eqb, ltb}
+use Rattle.settings.specs.declared.layout.Layout.{Layout}
+use Rattle.settings.specs.declared.refusal.Refusal.the-variants as refusal
+use Rattle.table.specs.State.{State, entryOf, labelOf}
+use Rattle.table.specs.Follow.{Seen, content}
+use Rattle.table.specs.declared.answers.FindAnswer.{FindAnswer}
+use Rattle.table.specs.declared.answers.FindAnswer.the-variants as found
+
+module _ (g : Layout) where
+  -- where the entry e stands first, from 0; the list's length if it does not. "If an entry stands twice, the first counts"
+  unfoldable pub position : ℕ → List ℕ → ℕ
+  position e [] = 0
+  position e (x ∷ xs) = cond (eqb (entryOf g x) e) 0 (suc (position e xs))
+
+  abbrev pub isHeld : ℕ → List ℕ → Bool
+  isHeld e es = ltb (position e es) (length es)
+
+  -- the label of the entry e
+  abbrev pub labelAt : ℕ → List ℕ → ℕ
+  labelAt e es = labelOf g (getD es (position e es) 0)
+
+  -- "compared: entries up to and including the match, or the list's length if there is none"
+  abbrev pub comparedIn : ℕ → List ℕ → ℕ
+  comparedIn e es = cond (isHeld e es) (suc (position e es)) (length es)
+
+  -- "Find: "held" with label, or "none""
+  unfoldable pub findSeen : ℕ → Option Seen → FindAnswer
+  findSeen e none = found.Refused refusal.Damage
+  findSeen e (some v) =
+      cond (isHeld e (v .slots)) (found.Held (labelAt e (v .slots)) (comparedIn e (v .slots))) (found.None (comparedIn e (v .slots)))
+
+  -- find of the entry e in list i
+  unfoldable pub findIn : State → ℕ → ℕ → FindAnswer
+  findIn st i e = findSeen e (content g st i)

@@ -1,0 +1,64 @@
+-- Document 01, "Calls on a table": "Add, find and delete follow the key's list to its end before doing anything else."
+use Prim.Native.Nat.{ℕ, zero, suc}
+use mathlib.Core.Bool.{cond}
+use mathlib.Core.List.{List, [], _∷_, _++_}
+use mathlib.Core.Option.{Option, none, some}
+use lib.ListN.{take}
+use lib.Dec.{eqb, ltb}
+use Rattle.settings.specs.declared.layout.Layout.{Layout}
+use Rattle.table.specs.State.{Basic, Overflow, State, basicAt, overflowAt, unpack}
+
+-- the last of a list that is not empty, and the last but one of a list of two or more
+abbrev pub lastOf : ℕ → List ℕ → ℕ
+lastOf b [] = b
+lastOf b (c ∷ cs) = lastOf c cs
+
+abbrev pub prevOf : ℕ → ℕ → List ℕ → ℕ
+prevOf b c [] = b
+prevOf b c (d ∷ ds) = prevOf c d ds
+
+-- what is seen on the way to a list's end: the numbers of its overflow blocks, and its slots in use
+pub record Seen : Type 0 where
+  pub blocks : List ℕ
+  pub slots : List ℕ
+
+abbrev pub seen : List ℕ → List ℕ → Seen
+seen bs es = record { blocks = bs; slots = es }
+
+abbrev pub cons? : ℕ → Option (List ℕ) → Option (List ℕ)
+cons? b none = none
+cons? b (some bs) = some (b ∷ bs)
+
+module _ (g : Layout) where
+  -- the overflow blocks from b to the list's end. None is damage: "an overflow counter above sio, a followed link of nob or more, more than
+  -- nob overflow blocks followed". "Counter c below sio means c + 1 entries; sio means full with a further block."
+  abbrev pub follow : ℕ → List Overflow → ℕ → Option (List ℕ)
+  follow zero os b = none
+  follow (suc n) os b =
+      let on = cons? b (follow n os (overflowAt os b .link)) in
+      cond (ltb b (g .nob))
+      (cond (ltb (overflowAt os b .counter) (g .sio)) (some (b ∷ [])) (cond (eqb (overflowAt os b .counter) (g .sio)) on none))
+      none
+
+  abbrev pub gather : List Overflow → List ℕ → List ℕ
+  gather os [] = []
+  gather os (b ∷ bs) = take (suc (overflowAt os b .counter)) (overflowAt os b .slots) ++ gather os bs
+
+  -- "the bits so displaced stand in the link of the list's last block"
+  abbrev pub contentOver : Basic → List Overflow → Option (List ℕ) → Option Seen
+  contentOver b os none = none
+  contentOver b os (some []) = none
+  contentOver b os (some (c ∷ cs)) =
+      some (seen (c ∷ cs) (unpack g (overflowAt os (lastOf c cs) .link) (b .rest) ++ gather os (c ∷ cs)))
+
+  -- "Counter 0 to sib counts entries; sib + 1 means overflow." None is damage: "a basic counter above sib + 1" too
+  abbrev pub contentOf : Basic → List Overflow → Option Seen
+  contentOf b os =
+      let on = contentOver b os (follow (g .nob) os (b .head)) in
+      cond (ltb (b .counter) (suc (g .sib)))
+      (some (seen [] (take (b .counter) (unpack g (b .head) (b .rest)))))
+      (cond (eqb (b .counter) (suc (g .sib))) on none)
+
+  -- list i, followed to its end
+  unfoldable pub content : State → ℕ → Option Seen
+  content st i = contentOf (basicAt (st .basic) i) (st .overflow)

@@ -1,0 +1,23 @@
+-- Definitions: what a reader must believe, in document 01's order.
+pub mod Arrays
+pub mod State
+pub mod Decode
+pub mod Follow
+pub mod Find
+pub mod Take
+pub mod Add
+pub mod Delete
+pub mod New
+pub mod Rebuilt
+pub mod Record
+pub mod Check
+pub mod Calls
+pub mod Set
+pub mod Sound
+pub mod Plain
+pub mod Same
+-- Words that only the contracts of functions below the calls use.
+pub mod Table
+pub mod Steps
+-- What is proved of them.
+pub mod theory

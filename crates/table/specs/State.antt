@@ -1,0 +1,63 @@
+-- The table's fields, decoded.
+use Prim.Native.Nat.{ℕ, _-_, _*_, _+_, _/_, _%_, _^_}
+use mathlib.Core.List.{List, []}
+use lib.ListN.{getD}
+use Rattle.table.specs.Arrays.{packed, unpacked}
+use Rattle.settings.specs.declared.layout.Layout.{Layout}
+
+-- A basic block's slots are kept as their first L bits, `head`, and the `rest`: "An overflowing basic block has the first block's number in
+-- the first L bits of its slots".
+pub record Basic : Type 0 where
+  pub counter : ℕ
+  pub head : ℕ
+  pub rest : ℕ
+
+pub record Overflow : Type 0 where
+  pub counter : ℕ
+  pub link : ℕ
+  pub slots : List ℕ
+
+pub record State : Type 0 where
+  pub free : ℕ
+  pub basic : List Basic
+  pub overflow : List Overflow
+
+abbrev pub mkBasic : ℕ → ℕ → ℕ → Basic
+mkBasic n h r = record { counter = n; head = h; rest = r }
+
+abbrev pub mkOverflow : ℕ → ℕ → List ℕ → Overflow
+mkOverflow n l es = record { counter = n; link = l; slots = es }
+
+abbrev pub mkState : ℕ → List Basic → List Overflow → State
+mkState f bs os = record { free = f; basic = bs; overflow = os }
+
+abbrev pub basicAt : List Basic → ℕ → Basic
+basicAt bs i = getD bs i (mkBasic 0 0 0)
+
+abbrev pub overflowAt : List Overflow → ℕ → Overflow
+overflowAt os j = getD os j (mkOverflow 0 0 [])
+
+module _ (g : Layout) where
+  -- the bits of a basic block's slots behind its first L
+  abbrev pub restBits : ℕ
+  restBits = g .sib * g .slot - g .link
+
+  -- the slots of a basic block whose first L bits are h and whose others are r, and back
+  unfoldable pub unpack : ℕ → ℕ → List ℕ
+  unpack h r = unpacked (g .slot) (g .sib) (h * 2 ^ restBits + r)
+
+  unfoldable pub headOf : List ℕ → ℕ
+  headOf es = packed (g .slot) es / 2 ^ restBits
+
+  unfoldable pub restOf : List ℕ → ℕ
+  restOf es = packed (g .slot) es % 2 ^ restBits
+
+  -- "A slot is bie + val bits, entry first."
+  abbrev pub entryOf : ℕ → ℕ
+  entryOf x = x / 2 ^ g .val
+
+  abbrev pub labelOf : ℕ → ℕ
+  labelOf x = x % 2 ^ g .val
+
+  abbrev pub slotOf : ℕ → ℕ → ℕ
+  slotOf e label = e * 2 ^ g .val + label

@@ -1,0 +1,239 @@
+-- The test that check computes says what document 01's sentence says, of every table: both ways.
+use mathlib.Core.Path.{_≡_, refl, sym, _∙_}
+use mathlib.Core.Logic.{_≢_}
+use mathlib.Core.Bool.{true, true≢false, _&&_}
+use mathlib.Core.List.{List, [], _∷_}
+use mathlib.Core.Option.{Option, none, some}
+use Prim.Native.Nat.{ℕ, zero, suc, _+_, _-_, _*_, _≤_, _<_}
+use native.Mathlib.Omega.{arith}
+use lib.Dec.{eqb, ltb}
+use lib.ListN.{length, getD, drop}
+use borrow.Author.Tests.{ltb-true, eqb-true, eq-eqb}
+use Rattle.bits.specs.Field.{field}
+use Rattle.settings.specs.theory.Cases.{both-true}
+use Rattle.settings.specs.declared.layout.Layout.{Layout}
+use Rattle.table.specs.State.{Basic, Overflow, State, basicAt, overflowAt, unpack, entryOf}
+use Rattle.table.specs.Decode.{decode}
+use Rattle.table.specs.Follow.{Seen, seen, follow, contentOver, contentOf, content}
+use Rattle.table.specs.Take.{occurs}
+use Rattle.table.specs.Set.{sumBelow}
+use Rattle.table.specs.Check.{
+  every,
+  everyBelow,
+  allZero,
+  basicUnused,
+  overflowUnused,
+  freeZero,
+  noEntryTwice,
+  listSound,
+  listsSound,
+  freeChain,
+  occursInLists,
+  chainSound,
+  stateSound,
+  fillZero,
+  tableSound,
+}
+use Rattle.table.specs.Sound.{SoundState, Sound}
+use Rattle.table.specs.theory.Formed.{Formed, decode-formed}
+use Rattle.table.specs.theory.FormedCalls.{either, Holds, holds-none, holds-some, holds-of, content-fits}
+use Rattle.table.specs.theory.Every.{true-both, below-at, below-all, every-at, every-all, zeros-at, zeros-all, single-at, single-all}
+use Rattle.table.specs.theory.Occurs.{sum-ext, sum-add, sum-one, sum-swap, sum-occurs}
+use Rattle.table.specs.theory.Chain.{FreeChain, free-chain, chain-below, chain-free}
+
+module _ (g : Layout) where
+  -- ---- each list
+
+  -- a basic block that does not overflow has no overflow blocks behind it, and no other has none
+  record Overflows (b : Basic) (v : Seen) : Type 0 where
+    from-none : v .blocks ≡ [] → b .counter ≤ g .sib
+    to-none : b .counter ≤ g .sib → v .blocks ≡ []
+
+  not-none : {c : ℕ} {cs : List ℕ} → c ∷ cs ≡ [] → ⊥
+  not-none q = let z : _≡_ {A = ℕ} 0 1 = cc in omega arith
+
+  over-overflows : (b : Basic) (os : List Overflow) (o : Option (List ℕ)) → b .counter ≡ suc (g .sib) → Holds (Overflows b) (contentOver g b os o)
+  over-overflows b os none e = holds-none
+  over-overflows b os (some []) e = holds-none
+  over-overflows b os (some (c ∷ cs)) e =
+      holds-some (record { from-none = λ q. absurd (not-none q); to-none = λ h. absurd (omega arith) })
+
+  content-overflows : (b : Basic) (os : List Overflow) → Holds (Overflows b) (contentOf g b os)
+  content-overflows b os =
+      either (Holds (Overflows b)) (ltb (b .counter) (suc (g .sib)))
+      (λ e. let l = ltb-true (b .counter) (suc (g .sib)) e in holds-some (record { from-none = λ q. omega arith; to-none = λ h. refl }))
+      (λ e. either (Holds (Overflows b)) (eqb (b .counter) (suc (g .sib)))
+      (λ c. over-overflows b os (follow g (g .nob) os (b .head)) (eqb-true (b .counter) (suc (g .sib)) c))
+      (λ c. holds-none))
+
+  -- the unused slots of a basic block
+  unused-at : (b : Basic) (bs : List ℕ) → basicUnused g b bs ≡ true → bs ≡ [] → allZero (drop (b .counter) (unpack g (b .head) (b .rest))) ≡ true
+  unused-at b bs e q = rw q at e
+
+  unused-all : (b : Basic) (bs : List ℕ) → (bs ≡ [] → allZero (drop (b .counter) (unpack g (b .head) (b .rest))) ≡ true) → basicUnused g b bs ≡ true
+  unused-all b [] h = h refl
+  unused-all b (c ∷ cs) h = refl
+
+  -- "no damage", and the zeros and entries of one list, in document 01's words
+  record SoundList (b : Basic) (os : List Overflow) (v : Seen) : Type 0 where
+    undamaged : contentOf g b os ≡ some v
+    basic-zero : (k : ℕ) → b .counter ≤ g .sib → b .counter ≤ k → getD (unpack g (b .head) (b .rest)) k 0 ≡ 0
+    overflow-zero : (j k : ℕ) → 0 < occurs j (v .blocks) → overflowAt os j .counter < k → getD (overflowAt os j .slots) k 0 ≡ 0
+    single : (p q : ℕ) → p < q → q < length (v .slots) → entryOf g (getD (v .slots) p 0) ≢ entryOf g (getD (v .slots) q 0)
+
+  -- what is seen of a list; nothing where there is damage
+  seenOf : Option Seen → Seen
+  seenOf none = seen [] []
+  seenOf (some v) = v
+
+  list-at : (b : Basic) (os : List Overflow) → listSound g b os (contentOf g b os) ≡ true → SoundList b os (seenOf (contentOf g b os))
+  unfolding seenOf
+  list-at b os = go (contentOf g b os) refl (content-overflows b os)
+    where
+      go : (o : Option Seen) → contentOf g b os ≡ o → Holds (Overflows b) o → listSound g b os o ≡ true → SoundList b os (seenOf o)
+      go none q h e = absurd (true≢false (sym e))
+      go (some v) q h e =
+          let a = both-true (basicUnused g b (v .blocks)) (every (overflowUnused g os) (v .blocks) && noEntryTwice g (v .slots)) e in
+          let c = both-true (every (overflowUnused g os) (v .blocks)) (noEntryTwice g (v .slots)) (a .1) in
+          record {
+            undamaged = q;
+            basic-zero = λ k l m. zeros-at (unpack g (b .head) (b .rest)) (b .counter) k (unused-at b (v .blocks) (a .0) (holds-of h refl .to-none l)) m;
+            overflow-zero = λ j k l m. zeros-at (overflowAt os j .slots) (suc (overflowAt os j .counter)) k (every-at (overflowUnused g os) (v .blocks) j (c .0) l) m;
+            single = λ p q. single-at g (v .slots) p q (c .1);
+          }
+
+  list-all : {b : Basic} {os : List Overflow} {v : Seen} → SoundList b os v → listSound g b os (contentOf g b os) ≡ true
+  list-all {b} {os} {v} s =
+      rw (s .undamaged)
+      (true-both
+      (unused-all b (v .blocks) (λ q. zeros-all (unpack g (b .head) (b .rest)) (b .counter) (λ k m. s .basic-zero k (holds-of (content-overflows b os) (s .undamaged) .from-none q) m)))
+      (true-both
+      (every-all (overflowUnused g os) (v .blocks) (λ j l. zeros-all (overflowAt os j .slots) (suc (overflowAt os j .counter)) (λ k m. s .overflow-zero j k l m)))
+      (single-all g (v .slots) (s .single))))
+
+  -- ---- all lists
+
+  -- the lists one by one, by their numbers
+  lists-at : (bs : List Basic) (os : List Overflow) (i : ℕ) → listsSound g bs os ≡ true → i < length bs
+      → listSound g (basicAt bs i) os (contentOf g (basicAt bs i) os) ≡ true
+  lists-at [] os i e h = absurd (omega arith)
+  lists-at (b ∷ bs) os zero e h = both-true (listSound g b os (contentOf g b os)) (listsSound g bs os) e .0
+  lists-at (b ∷ bs) os (suc i) e h = lists-at bs os i (both-true (listSound g b os (contentOf g b os)) (listsSound g bs os) e .1) (omega arith)
+
+  lists-all : (bs : List Basic) (os : List Overflow) → ((i : ℕ) → i < length bs → listSound g (basicAt bs i) os (contentOf g (basicAt bs i) os) ≡ true)
+      → listsSound g bs os ≡ true
+  lists-all [] os h = refl
+  lists-all (b ∷ bs) os h = true-both (h 0 (omega arith)) (lists-all bs os (λ i l. h (suc i) (omega arith)))
+
+  -- a block stands in the lists as often as in each, summed by the lists' numbers
+  occurs-sum : (j : ℕ) (bs : List Basic) (os : List Overflow) (lists : ℕ → Seen)
+      → ((i : ℕ) → i < length bs → contentOf g (basicAt bs i) os ≡ some (lists i))
+      → occursInLists g j bs os ≡ sumBelow (length bs) (λ i. occurs j (lists i .blocks))
+  occurs-sum j [] os lists h = refl
+  occurs-sum j (b ∷ bs) os lists h =
+      rw (h 0 (omega arith), occurs-sum j bs os (λ i. lists (suc i)) (λ i l. h (suc i) (omega arith)))
+
+  -- ---- states
+
+  -- how often block j stands in the lists and in a free chain, as the test counts it
+  abbrev stands : State → List ℕ → ℕ → ℕ
+  stands st fs j = occursInLists g j (st .basic) (st .overflow) + occurs j fs
+
+  -- what the test counts is what the sentence counts
+  stands-sum : (st : State) → length (st .basic) ≡ g .lists → (fs : List ℕ) (j : ℕ) (lists : ℕ → Seen)
+      → ((i : ℕ) → i < g .lists → content g st i ≡ some (lists i)) → stands st fs j ≡ sumBelow (g .lists) (λ i. occurs j (lists i .blocks)) + occurs j fs
+  unfolding content
+  stands-sum st sized fs j lists h = omega (arith, rw sized at (occurs-sum j (st .basic) (st .overflow) lists (λ i l. h i (omega arith))))
+
+  module _ {st : State} (sized : length (st .basic) ≡ g .lists) where
+    chain-state : {o : Option (List ℕ)} → listsSound g (st .basic) (st .overflow) ≡ true → Holds (FreeChain g st) o → chainSound g st o ≡ true → SoundState g st
+    unfolding content
+    chain-state e holds-none t = absurd (true≢false (sym t))
+    chain-state e (holds-some {a = fs} c) t =
+        let two = both-true (every (freeZero g (st .overflow)) fs) (everyBelow (g .nob) (λ j. eqb (stands st fs j) 1)) t in
+        record {
+          lists = found;
+          chain = fs;
+          undamaged = λ i h. each i h .undamaged;
+          start = c .start;
+          linked = c .linked;
+          once = λ j h. sym (stands-sum st sized fs j found (λ i l. each i l .undamaged)) ∙ eqb-true (stands st fs j) 1 (below-at (g .nob) (λ j. eqb (stands st fs j) 1) j (two .1) h);
+          basic-zero = λ i k h. each i h .basic-zero k;
+          overflow-zero = λ i j k h. each i h .overflow-zero j k;
+          free-counter = λ j h. eqb-true (overflowAt (st .overflow) j .counter) 0 (free j (two .0) h .0);
+          free-zero = λ j k h. zeros-at (overflowAt (st .overflow) j .slots) 0 k (free j (two .0) h .1) (omega arith);
+          single = λ i p q h. each i h .single p q;
+        }
+      where
+        found : ℕ → Seen
+        found i = seenOf (contentOf g (basicAt (st .basic) i) (st .overflow))
+
+        each : (i : ℕ) → i < g .lists → SoundList (basicAt (st .basic) i) (st .overflow) (found i)
+        each i h = list-at (basicAt (st .basic) i) (st .overflow) (lists-at (st .basic) (st .overflow) i e (omega arith))
+
+        free : (j : ℕ) → every (freeZero g (st .overflow)) fs ≡ true → 0 < occurs j fs
+            → (eqb (overflowAt (st .overflow) j .counter) 0 ≡ true) × (allZero (overflowAt (st .overflow) j .slots) ≡ true)
+        free j z h =
+            both-true (eqb (overflowAt (st .overflow) j .counter) 0) (allZero (overflowAt (st .overflow) j .slots))
+            (every-at (freeZero g (st .overflow)) fs j z h)
+
+    -- the test of a state, and what document 01 says of it
+    pub test-state : stateSound g st ≡ true → SoundState g st
+    unfolding stateSound
+    test-state t =
+        let two = both-true (listsSound g (st .basic) (st .overflow)) (chainSound g st (freeChain g st)) t in
+        chain-state (two .0) (free-chain g st) (two .1)
+
+    pub state-test : SoundState g st → stateSound g st ≡ true
+    unfolding stateSound content
+    state-test s =
+        true-both
+        (lists-all (st .basic) (st .overflow) (λ i l. list-all (each i (omega arith))))
+        (rw (chain-free g st (s .chain) (s .linked) (λ j l. omega (arith, s .once j l)))
+        (true-both
+        (every-all (freeZero g (st .overflow)) (s .chain) (λ j l.
+        true-both (eq-eqb (overflowAt (st .overflow) j .counter) 0 (s .free-counter j l))
+        (zeros-all (overflowAt (st .overflow) j .slots) 0 (λ k m. s .free-zero j k l))))
+        (below-all (g .nob) (λ j. eqb (stands st (s .chain) j) 1) (λ j l.
+        eq-eqb (stands st (s .chain) j) 1 (stands-sum st sized (s .chain) j (s .lists) (s .undamaged) ∙ s .once j l)))))
+      where
+        each : (i : ℕ) → i < g .lists → SoundList (basicAt (st .basic) i) (st .overflow) (s .lists i)
+        each i h =
+            record {
+              undamaged = s .undamaged i h;
+              basic-zero = λ k. s .basic-zero i k h;
+              overflow-zero = λ j k. s .overflow-zero i j k h;
+              single = λ p q. s .single i p q h;
+            }
+
+  -- ---- tables
+
+  -- check finds a table sound exactly if it is
+  pub test-sound : {t : List ℕ} → tableSound g t ≡ true → Sound g t
+  unfolding tableSound fillZero
+  test-sound {t} e =
+      let two = both-true (stateSound g (decode g t)) (fillZero g t) e in
+      record {
+        state = test-state (decode-formed g t .basic .long) (two .0);
+        fill = eqb-true (field t (g .bits) (8 * g .bytes - g .bits)) 0 (two .1);
+      }
+
+  pub sound-test : {t : List ℕ} → Sound g t → tableSound g t ≡ true
+  unfolding tableSound fillZero
+  sound-test {t} s =
+      true-both (state-test (decode-formed g t .basic .long) (s .state))
+      (eq-eqb (field t (g .bits) (8 * g .bytes - g .bits)) 0 (s .fill))
+
+  -- "So blocks in lists and blocks in the chain make nob."
+  pub blocks-make-nob : {st : State} → Formed g st → (s : SoundState g st) → sumBelow (g .lists) (λ i. length (s .lists i .blocks)) + length (s .chain) ≡ g .nob
+  blocks-make-nob {st} f s =
+      omega (
+        arith,
+        sum-ext (g .nob) (λ j. sumBelow (g .lists) (λ i. occurs j (s .lists i .blocks)) + occurs j (s .chain)) (λ j. 1) (s .once),
+        sum-one (g .nob),
+        sum-add (g .nob) (λ j. sumBelow (g .lists) (λ i. occurs j (s .lists i .blocks))) (λ j. occurs j (s .chain)),
+        sum-swap (g .nob) (g .lists) (λ i j. occurs j (s .lists i .blocks)),
+        sum-ext (g .lists) (λ i. sumBelow (g .nob) (λ j. occurs j (s .lists i .blocks))) (λ i. length (s .lists i .blocks)) (λ i h.
+            sum-occurs (g .nob) (content-fits g i f (s .undamaged i h) .blocks .below)),
+        sum-occurs (g .nob) (chain-below g (st .overflow) (st .free) (s .chain) (s .linked)),
+      )

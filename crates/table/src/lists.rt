@@ -1,0 +1,83 @@
+// A list's blocks: following them to the last, and the slots of each.
+use crate::blocks::basic_slots;
+use crate::blocks::overflow_counter;
+use crate::blocks::overflow_link;
+use crate::blocks::overflow_slots;
+use crate::slots::Slots;
+use settings::Layout;
+ghost use mathlib.Core.Path.{_≡_};
+ghost use Prim.Native.Nat.{_<_, _≤_, min};
+ghost use Rattle.settings.specs.Proper.{Proper};
+ghost use Rattle.table.specs.Decode.{decode};
+ghost use Rattle.table.specs.Table.{Table};
+ghost use Rattle.table.specs.Steps.{lastFrom, basicRun, displacedRun, overflowRun};
+
+// The last block of the list whose overflow blocks start at `first`; nob, which is no block, if there
+// is damage. At most nob blocks are followed, so that it ends on any bytes.
+pub fn follow(t: &[u8], g: Layout, first: usize) -> usize
+    requires { ⌜ Table g (now t) ⌝ }
+    ensures { λ r. ⌜ r ≡ lastFrom g (g .nob) (decode g (now (t .entry)) .overflow) first ⌝ }
+{
+    let mut b = first;
+    let mut k: usize = 0;
+    while k < g.nob {
+        if b >= g.nob {
+            return g.nob;
+        }
+        let c = overflow_counter(t, g, b);
+        if c < g.sio {
+            return b;
+        }
+        if c > g.sio {
+            return g.nob;
+        }
+        b = overflow_link(t, g, b);
+        k += 1;
+    }
+    g.nob
+}
+
+fn least(a: usize, b: usize) -> usize
+    ensures { λ r. ⌜ r ≡ min a b ⌝ }
+{
+    if a < b { a } else { b }
+}
+
+// The first n slots of basic block i, as they stand: those of a list that has no overflow blocks.
+pub fn basic_run(g: Layout, i: usize, n: usize) -> Slots
+    requires { ⌜ Proper g × (i < g .lists) ⌝ }
+    ensures { λ r. ⌜ r ≡ basicRun g i n ⌝ }
+{
+    Slots {
+        start: basic_slots(g, i),
+        count: n,
+        link: 0,
+        head: 0,
+    }
+}
+
+// The slots of basic block i, whose first L bits count as h: those of a list that has overflow blocks.
+pub fn displaced_run(g: Layout, i: usize, h: usize) -> Slots
+    requires { ⌜ Proper g × (i < g .lists) ⌝ }
+    ensures { λ r. ⌜ r ≡ displacedRun g i h ⌝ }
+{
+    Slots {
+        start: basic_slots(g, i),
+        count: g.sib,
+        link: g.link,
+        head: h as u64,
+    }
+}
+
+// The slots in use of overflow block j, whose counter is c. "Counter c below sio means c + 1 entries".
+pub fn overflow_run(g: Layout, j: usize, c: usize) -> Slots
+    requires { ⌜ Proper g × (j < g .nob) × (c ≤ g .sio) ⌝ }
+    ensures { λ r. ⌜ r ≡ overflowRun g j c ⌝ }
+{
+    Slots {
+        start: overflow_slots(g, j),
+        count: least(c + 1, g.sio),
+        link: 0,
+        head: 0,
+    }
+}
