@@ -1,14 +1,5 @@
--- Definitions: what a reader must believe, in document 01's order.
-pub mod Class
-pub mod Numerals
-pub mod Reading
-pub mod Grammar
-pub mod Writing
-pub mod Answers
-pub mod Ascii
+-- Definitions: what a reader must believe.
 pub mod TextCalls
--- Words that only private contracts use.
-pub mod ReaderSteps
-pub mod WriterSteps
--- What is proved of them.
+pub mod Ascii
+-- What is proved of them, and of reading and writing together.
 pub mod theory

@@ -15,9 +15,9 @@ use Rattle.table.specs.declared.answers.AddAnswer.{AddAnswer}
 use Rattle.table.specs.declared.answers.AddAnswer.the-variants as adding
 use Rattle.table.specs.declared.answers.DeleteAnswer.{DeleteAnswer}
 use Rattle.table.specs.declared.answers.DeleteAnswer.the-variants as deleting
-use Rattle.address.specs.Answers.{readingOf}
-use Rattle.address.specs.declared.Parsed.{Parsed}
-use Rattle.address.specs.declared.Parsed.the-variants as parsed
+use Rattle.reader.specs.Answers.{readingOf}
+use Rattle.reader.specs.declared.Parsed.{Parsed}
+use Rattle.reader.specs.declared.Parsed.the-variants as parsed
 
 -- what a call comes to, given what was read
 abbrev pub byReading : {A : Type 0} → (Refusal → A) → Parsed → (Key → A) → A

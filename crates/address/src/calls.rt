@@ -1,6 +1,6 @@
 // The calls on a table with texts. They know the table only by what its own calls answer.
-use crate::Parsed;
-use crate::reader::read;
+use reader::Parsed;
+use reader::read;
 use settings::Laid;
 use settings::Refusal;
 use settings::Settings;

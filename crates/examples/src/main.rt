@@ -1,10 +1,10 @@
 // Reads each line of standard input as an address and writes it again, or the number of the refusal.
 // Its input is the RFCs' and document 01's examples; what it must write was made by other readers.
-use address::Parsed;
-use address::Written;
 use libc::STDIN_FILENO;
 use libc::STDOUT_FILENO;
+use reader::Parsed;
 use settings::Refusal;
+use writer::Written;
 ghost use Prim.Native.Nat.{_≤_};
 ghost use lib.ListN.{length};
 
@@ -15,11 +15,11 @@ fn refuse(why: Refusal) {
 }
 
 fn answer(line: &[u8]) {
-    match address::read(line) {
+    match reader::read(line) {
         Parsed::Refused(why) => refuse(why),
         Parsed::Key(key) => {
             let mut text = [0u8; 39];
-            match address::write(key, &mut text) {
+            match writer::write(key, &mut text) {
                 Written::Refused(why) => refuse(why),
                 Written::Length(n) => {
                     io::write_all(STDOUT_FILENO, &text[..n]);

@@ -11,16 +11,16 @@ use Rattle.settings.specs.Key.{keyNumber}
 use Rattle.settings.specs.Layout.{layoutOf}
 use Rattle.table.specs.Decode.{decode}
 use Rattle.table.specs.Rebuilt.{Pair, rebuiltPairs}
-use Rattle.table.specs.Set.{Given, Call, Answer, Step, setStep}
+use Rattle.table.specs.Set.{Call, Answer, Step, setStep}
 use Rattle.table.specs.Set as set
 use Rattle.table.specs.Same.{SamePairs, NoKeyTwice}
 use Rattle.table.specs.Plain.{plainFind, plainAdd, plainDelete}
 use Rattle.table.specs.Check.{tableSound}
 use Rattle.table.specs.Calls.{findAnswer, addAnswer, addBytes, deleteAnswer, deleteBytes}
-use Rattle.address.specs.Answers.{readingOf}
+use Rattle.reader.specs.Answers.{readingOf}
+use Rattle.reader.specs.declared.Parsed.{Parsed}
+use Rattle.reader.specs.declared.Parsed.the-variants as parsed
 use Rattle.address.specs.TextCalls.{findTextAnswer, addTextAnswer, addTextBytes, deleteTextAnswer, deleteTextBytes}
-use Rattle.address.specs.declared.Parsed.{Parsed}
-use Rattle.address.specs.declared.Parsed.the-variants as parsed
 
 -- A call as the router makes it: with a key or a text, whatever it is, and any label -----------------------------------------
 

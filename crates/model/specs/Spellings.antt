@@ -11,7 +11,7 @@ use Rattle.table.specs.Calls.{findAnswer, addAnswer, deleteAnswer}
 use Rattle.table.specs.declared.answers.FindAnswer.{FindAnswer}
 use Rattle.table.specs.declared.answers.AddAnswer.{AddAnswer}
 use Rattle.table.specs.declared.answers.DeleteAnswer.{DeleteAnswer}
-use Rattle.address.specs.Answers.{readingOf}
+use Rattle.reader.specs.Answers.{readingOf}
 use Rattle.address.specs.TextCalls.{findTextAnswer, addTextAnswer, addTextBytes, deleteTextAnswer, deleteTextBytes}
 use Rattle.model.specs.Claim.{Asked, find, add, delete, findText, addText, deleteText, Lending, tableAnswer, tableBytesAfter, memoryAfter}
 

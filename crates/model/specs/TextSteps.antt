@@ -19,11 +19,11 @@ use Rattle.settings.specs.theory.Cases.{cases}
 use Rattle.settings.specs.theory.Legal.{legal-if}
 use Rattle.table.specs.Rebuilt.{Pair}
 use Rattle.table.specs.Set.{refused, step, setStep}
-use Rattle.address.specs.Reading.{groupsOf}
-use Rattle.address.specs.Answers.{keyed, readingOf}
+use Rattle.reader.specs.Reading.{groupsOf}
+use Rattle.reader.specs.Answers.{keyed, readingOf}
+use Rattle.reader.specs.declared.Parsed.{Parsed}
+use Rattle.reader.specs.declared.Parsed.the-variants as parsed
 use Rattle.address.specs.TextCalls.{findTextAnswer, addTextAnswer, addTextBytes, deleteTextAnswer, deleteTextBytes}
-use Rattle.address.specs.declared.Parsed.{Parsed}
-use Rattle.address.specs.declared.Parsed.the-variants as parsed
 use Rattle.model.specs.Claim.{Asked, find, add, delete, findText, addText, deleteText, tableAnswer, tableBytesAfter, asRead, given}
 use Rattle.model.specs.Refusals.{text-key, refused-width, refused-text}
 use Rattle.model.specs.Agree.{Agree}

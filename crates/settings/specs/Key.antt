@@ -5,7 +5,6 @@ use Rattle.settings.specs.Prime.{primeAbove}
 use Rattle.settings.specs.Sizes.{bie}
 use Rattle.settings.specs.declared.settings.Settings.{Settings}
 use Rattle.settings.specs.declared.keys.Key.{Key}
-use Rattle.settings.specs.declared.keys.ListNumber.{ListNumber}
 use Rattle.settings.specs.declared.keys.Place.{Place}
 
 -- the number that a key is, and the key that a number below 2 ^ 128 is

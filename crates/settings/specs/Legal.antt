@@ -1,5 +1,5 @@
 -- Document 01, "Settings": every range and rule, in its order. Refusal 1 is given "exactly if a range or rule above is broken".
-use Prim.Native.Nat.{ℕ, _*_, _≤_, _<_}
+use Prim.Native.Nat.{_*_, _≤_, _<_}
 use mathlib.Core.Bool.{Bool, _&&_}
 use lib.Dec.{leb, ltb}
 use Rattle.settings.specs.Prime.{primeAbove}

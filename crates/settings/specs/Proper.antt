@@ -1,6 +1,6 @@
 -- What holds of the layout of legal settings: the facts that the functions on a table start from.
 use mathlib.Core.Path.{_≡_}
-use Prim.Native.Nat.{ℕ, suc, _+_, _*_, _/_, _^_, _≤_, _<_}
+use Prim.Native.Nat.{suc, _+_, _*_, _/_, _^_, _≤_, _<_}
 use Rattle.settings.specs.declared.layout.Layout.{Layout}
 
 pub record Proper (g : Layout) : Type 0 where

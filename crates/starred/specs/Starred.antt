@@ -15,10 +15,10 @@ use Rattle.table.specs.declared.answers.AddAnswer.{AddAnswer}
 use Rattle.table.specs.declared.answers.AddAnswer.the-variants as adding
 use Rattle.table.specs.declared.answers.FindAnswer.{FindAnswer}
 use Rattle.table.specs.declared.answers.FindAnswer.the-variants as finding
-use Rattle.address.specs.Answers.{readingOf}
+use Rattle.reader.specs.Answers.{readingOf}
+use Rattle.reader.specs.declared.Parsed.the-variants as parsed
 use Rattle.address.specs.Ascii.{ascii}
 use Rattle.address.specs.theory.Computing as texts
-use Rattle.address.specs.declared.Parsed.the-variants as parsed
 
 -- Claims ---------------------------------------------------------------------------------------------------------------------
 

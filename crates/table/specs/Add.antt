@@ -1,10 +1,10 @@
 -- Document 01, "Calls on a table": add. ""held" with the old label, nothing changed; else "added" with its label, at the list's end."
-use Prim.Native.Nat.{ℕ, suc, _+_, _*_}
+use Prim.Native.Nat.{ℕ, suc}
 use mathlib.Core.Bool.{cond}
 use mathlib.Core.List.{List, [], _∷_}
 use mathlib.Core.Option.{Option, none, some}
-use lib.ListN.{length, set}
-use lib.Dec.{eqb, ltb}
+use lib.ListN.{set}
+use lib.Dec.{ltb}
 use Rattle.settings.specs.declared.layout.Layout.{Layout}
 use Rattle.settings.specs.declared.refusal.Refusal.the-variants as refusal
 use Rattle.table.specs.Arrays.{padded}

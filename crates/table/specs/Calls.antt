@@ -1,7 +1,7 @@
 -- Document 01, "Calls on a table" and "Reply codes": what each call answers and leaves in the lent bytes, for any settings, key, label, number
 -- and bytes. "The lowest number wins, except that 9 and 10 precede 7".
 use Prim.Native.Nat.{ℕ, _^_}
-use mathlib.Core.Bool.{Bool, cond}
+use mathlib.Core.Bool.{cond}
 use mathlib.Core.List.{List}
 use lib.ListN.{length}
 use lib.Dec.{leb, ltb}

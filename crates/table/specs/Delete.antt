@@ -1,11 +1,11 @@
 -- Document 01, "Calls on a table": delete. ""none", or "gone" with the label; the list's last slot moves into the hole and the slot left vacant
 -- is zeroed. An emptied overflow block goes to the front of the free chain."
-use Prim.Native.Nat.{ℕ, suc, _-_}
+use Prim.Native.Nat.{ℕ, _-_}
 use mathlib.Core.Bool.{cond}
 use mathlib.Core.List.{List, [], _∷_}
 use mathlib.Core.Option.{Option, none, some}
 use lib.ListN.{length, getD, set}
-use lib.Dec.{eqb, ltb}
+use lib.Dec.{ltb}
 use Rattle.settings.specs.declared.layout.Layout.{Layout}
 use Rattle.settings.specs.declared.refusal.Refusal.the-variants as refusal
 use Rattle.table.specs.Arrays.{padded}

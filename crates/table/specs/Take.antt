@@ -1,8 +1,7 @@
 -- Document 01, "Calls on a table": taking a block from the free chain, and giving one back.
-use Prim.Native.Nat.{ℕ}
+use Prim.Native.Nat.{ℕ, _+_}
 use mathlib.Core.Bool.{cond}
 use mathlib.Core.List.{List, [], _∷_}
-use Prim.Native.Nat.{_+_}
 use lib.Dec.{eqb, ltb}
 use Rattle.settings.specs.declared.layout.Layout.{Layout}
 use Rattle.table.specs.State.{Overflow, State, overflowAt}

@@ -9,10 +9,10 @@ use native.Mathlib.Omega.{arith}
 use lib.ListN.{length, take, drop, replicate, length-append, length-replicate}
 use lib.Arith.{digits-lt}
 use lib.Dec.{lit<}
-use Rattle.address.specs.Reading.{groupsOf, joined}
-use Rattle.address.specs.Grammar.{Group, hex1, hex2, hex3, hex4, Decimal, dec1, dec2, dec3, four, Groups, one, two, more, Side, empty, full, Spells, plain, gap}
-use Rattle.address.specs.theory.Bytes.{digit-below}
-use Rattle.address.specs.theory.Grammar.{read-spells}
+use Rattle.reader.specs.Reading.{groupsOf, joined}
+use Rattle.reader.specs.Grammar.{Group, hex1, hex2, hex3, hex4, Decimal, dec1, dec2, dec3, four, Groups, one, two, more, Side, empty, full, Spells, plain, gap}
+use Rattle.reader.specs.theory.Bytes.{digit-below}
+use Rattle.reader.specs.theory.Grammar.{read-spells}
 
 -- every group is below 2 ^ 16
 abbrev pub Small : List ℕ → Type 0

@@ -2,14 +2,14 @@
 use mathlib.Core.List.{List, []}
 use Prim.Native.Nat.{ℕ}
 use Rattle.settings.specs.Key.{keyOf}
-use Rattle.address.specs.Class.{classOf}
-use Rattle.address.specs.Numerals.{digits, number, group, noLeadingZero, decimal}
-use Rattle.address.specs.Reading.{onFirst, split, push, decimals, twoGroups, dotted, orElse, groups, part, behind, begins, tail, cut, eight, filled, groupsOfCut, groupsOf, joined}
-use Rattle.address.specs.Writing.{hexDigit, trimmed, groupText, trailing, partText, zeros, longest, textOf, fourGroups, written}
-use Rattle.address.specs.Answers.{keyed, readingOf}
+use Rattle.reader.specs.Class.{classOf}
+use Rattle.reader.specs.Numerals.{digits, number, group, noLeadingZero, decimal}
+use Rattle.reader.specs.Reading.{onFirst, split, push, decimals, twoGroups, dotted, orElse, groups, part, behind, begins, tail, cut, eight, filled, groupsOfCut, groupsOf, joined}
+use Rattle.reader.specs.Answers.{keyed, readingOf}
+use Rattle.reader.specs.declared.Parsed.{Parsed}
+use Rattle.reader.specs.declared.Parsed.the-variants as parsed
+use Rattle.writer.specs.Writing.{hexDigit, trimmed, groupText, trailing, partText, zeros, longest, textOf, fourGroups, written}
 use Rattle.address.specs.Ascii.{ascii}
-use Rattle.address.specs.declared.Parsed.{Parsed}
-use Rattle.address.specs.declared.Parsed.the-variants as parsed
 
 -- the text that an address is written as, once it is read; nothing for what is refused
 abbrev pub again : Parsed → List ℕ

@@ -4,8 +4,8 @@ use mathlib.Core.List.{List, [], _∷_, map}
 use mathlib.Core.Option.{none, some}
 use Prim.Native.Nat.{ℕ}
 use Prim.Native.String.{String}
-use Rattle.address.specs.Reading.{groupsOf}
-use Rattle.address.specs.Answers.{readingOf}
+use Rattle.reader.specs.Reading.{groupsOf}
+use Rattle.reader.specs.Answers.{readingOf}
 use Rattle.address.specs.Ascii.{ascii}
 use Rattle.address.specs.theory.Computing.{again, computing}
 

@@ -9,11 +9,11 @@ use native.Mathlib.Omega.{arith}
 use lib.Dec.{lit<}
 use Rattle.settings.specs.Key.{keyNumber, keyOf}
 use Rattle.settings.specs.declared.keys.Key.{Key}
-use Rattle.address.specs.Reading.{groupsOf, joined}
-use Rattle.address.specs.Writing.{fourGroups, written}
-use Rattle.address.specs.Answers.{keyed, readingOf}
-use Rattle.address.specs.declared.Parsed.the-variants as parsed
-use Rattle.address.specs.theory.Grammar.{spells-read}
+use Rattle.reader.specs.Reading.{groupsOf, joined}
+use Rattle.reader.specs.Answers.{keyed, readingOf}
+use Rattle.reader.specs.declared.Parsed.the-variants as parsed
+use Rattle.reader.specs.theory.Grammar.{spells-read}
+use Rattle.writer.specs.Writing.{fourGroups, written}
 use Rattle.address.specs.theory.Bounds.{Small, small-append, legal-below}
 use Rattle.address.specs.theory.Texts.{text-spells}
 

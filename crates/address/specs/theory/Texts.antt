@@ -9,10 +9,10 @@ use lib.Seq.{drop-drop}
 use lib.Dec.{ltb, eqb}
 use borrow.Author.Tests.{ltb-true, ltb-false, eqb-true}
 use Rattle.settings.specs.theory.Cases.{cases}
-use Rattle.address.specs.Grammar.{HexDigit, decimalDigit, lowerCase, Group, hex1, hex2, hex3, hex4, Groups, one, more, Side, empty, full, Spells, plain, gap}
-use Rattle.address.specs.Writing.{hexDigit, trimmed, groupText, trailing, partText, zeros, longest, textOf}
+use Rattle.reader.specs.Grammar.{HexDigit, decimalDigit, lowerCase, Group, hex1, hex2, hex3, hex4, Groups, one, more, Side, empty, full, Spells, plain, gap}
+use Rattle.writer.specs.Writing.{hexDigit, trimmed, groupText, trailing, partText, zeros, longest, textOf}
+use Rattle.writer.specs.theory.Runs.{zeros-le, zeros-take, longest-is}
 use Rattle.address.specs.theory.Bounds.{Small, small-take, small-drop}
-use Rattle.address.specs.theory.Runs.{zeros-le, zeros-take, longest-is}
 
 -- a digit's byte is a hexadecimal digit of its value
 digit-written : (n : ℕ) → n < 16 → HexDigit (hexDigit n) n

@@ -1,5 +1,5 @@
 -- Laws of tests: of every number below n, and of two tests that stand or fall together.
-use mathlib.Core.Path.{_≡_, refl, sym, ap₂, _∙_}
+use mathlib.Core.Path.{_≡_, refl, sym, _∙_}
 use mathlib.Core.Bool.{Bool, true, false, _&&_}
 use mathlib.Core.List.{List}
 use mathlib.Core.Option.{none, some}
@@ -49,7 +49,3 @@ every-if (suc n) f h =
 pub every-not : (n : ℕ) (f : ℕ → Bool) (j : ℕ) → j < n → f j ≡ false → everyBelow n f ≡ false
 every-not n f j h e =
     cases (everyBelow n f) (λ p. let q : false ≡ true = sym e ∙ every-at n f p j h in no q) (λ p. p)
-
-pub every-ext : (n : ℕ) (f h : ℕ → Bool) → ((j : ℕ) → j < n → f j ≡ h j) → everyBelow n f ≡ everyBelow n h
-every-ext zero f h e = refl
-every-ext (suc n) f h e = ap₂ _&&_ (e zero (omega arith)) (every-ext n (λ i. f (suc i)) (λ i. h (suc i)) (λ j l. e (suc j) (omega arith)))

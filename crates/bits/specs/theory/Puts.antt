@@ -12,7 +12,7 @@ use lib.Pow.{pow-pos, high, low, shr-shr}
 use Rattle.bits.specs.Bytes.{Bytes}
 use Rattle.bits.specs.Field.{bitAt, field}
 use Rattle.bits.specs.Put.{replaced, putBit, putField}
-use Rattle.bits.specs.theory.Fields.{bit-lt, field-lt, field-ext, first-field, last-field, bits-ext}
+use Rattle.bits.specs.theory.Fields.{bit-lt, field-ext, first-field, last-field, bits-ext}
 use Rattle.bits.specs.theory.Numbers.{
   low-halves,
   low-half,

@@ -3,7 +3,7 @@ use mathlib.Core.Path.{sym, _∙_}
 use Prim.Native.Nat.{_≤_}
 use native.Mathlib.Omega.{arith}
 use lib.ListN.{length, length-take}
-use Rattle.address.specs.theory.writer.Answered.{length-fits}
+use Rattle.writer.specs.theory.writer.Answered.{length-fits}
 use borrow.Author.Needs.{needs}
 use Rattle.examples.proofs.answer.Statement.{statement}
 use Rattle.examples.proofs.answer.Tie as tie

@@ -1,6 +1,6 @@
 -- What legal settings keep, as facts; and what the answers to settings tell.
-use mathlib.Core.Path.{_≡_, refl, sym, ap, _∙_}
-use mathlib.Core.Bool.{Bool, true, false, cond, _&&_}
+use mathlib.Core.Path.{_≡_}
+use mathlib.Core.Bool.{true, false}
 use Prim.Native.Nat.{ℕ, _*_}
 use native.Mathlib.Omega.{arith}
 use lib.Dec.{leb, ltb}
@@ -13,7 +13,6 @@ use Rattle.settings.specs.Made.{laidOf}
 use Rattle.settings.specs.theory.Cases.{cases, both-true}
 use Rattle.settings.specs.declared.settings.Settings.{Settings}
 use Rattle.settings.specs.declared.layout.Layout.{Layout}
-use Rattle.settings.specs.declared.layout.Laid.{Laid}
 use Rattle.settings.specs.declared.layout.Laid.the-variants as laid
 use Rattle.settings.specs.declared.refusal.Refusal.{Refusal}
 use Rattle.settings.specs.declared.refusal.Refusal.the-variants as refusal

@@ -1,13 +1,11 @@
 -- ⌈log2 n⌉ is what its name says: the least k with n ≤ 2 ^ k.
-use mathlib.Core.Path.{_≡_, refl, sym, ap, _∙_}
-use mathlib.Core.Bool.{Bool, true, false}
-use Prim.Native.Nat.{ℕ, zero, suc, _+_, _≤_, _<_, _^_}
+use mathlib.Core.Path.{_≡_}
+use Prim.Native.Nat.{ℕ, zero, suc, _≤_, _<_, _^_}
 use native.Mathlib.Nat.{pow-suc}
 use native.Mathlib.Omega.{arith}
 use native.Mathlib.Decide.{decLt}
 use lib.Dec.{leb}
-use borrow.Author.Tests.{le-leb, lt-leb, leb-true}
-use Rattle.settings.specs.Least.{leastFrom}
+use borrow.Author.Tests.{le-leb, leb-true}
 use Rattle.settings.specs.Log.{ceilLog2}
 use Rattle.settings.specs.theory.Least.{least-le, least-holds}
 

@@ -8,7 +8,7 @@ use native.Mathlib.Nat.{le-refl, eq-or-lt-of-le, lt-of-not-le, mul-mod-right, di
 use native.Mathlib.Omega.{arith}
 use lib.Dec.{T, leb, ltb, eqb, leb→le}
 use lib.ListN.{getD}
-use borrow.Author.Tests.{ltb-true, ltb-false, leb-true, le-leb, eq-eqb, ne-eqb, eqb-true, eqb-false, not-true}
+use borrow.Author.Tests.{ltb-true, ltb-false, leb-true, le-leb, ne-eqb, eqb-true, eqb-false, not-true}
 use Rattle.settings.specs.Prime.{noneDivides, isPrime, primeAbove}
 use Rattle.settings.specs.theory.Cases.{cases, both-true}
 use Rattle.settings.specs.theory.Least.{least-from, least-le, least-at}

@@ -1,9 +1,8 @@
 -- The layout of legal settings is proper.
-use mathlib.Core.Path.{_≡_, refl, sym}
-use Prim.Native.Nat.{ℕ, suc, _+_, _*_, _^_, _≤_, _<_}
+use mathlib.Core.Path.{refl}
+use Prim.Native.Nat.{_+_}
 use native.Mathlib.Omega.{arith}
 use lib.Pow.{pow-pos, pow-mono}
-use Rattle.settings.specs.Log.{ceilLog2}
 use Rattle.settings.specs.Sizes.{linkBits, freeStartBits, basicCounterBits, basicBlockBits, lists, overflowCounterBits, overflowBlockBits, overflowStart, tableBits, tableBytes}
 use Rattle.settings.specs.Legal.{Legal}
 use Rattle.settings.specs.Layout.{layoutOf}

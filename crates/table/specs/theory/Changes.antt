@@ -1,19 +1,18 @@
 -- What a change of bits within one block, or of the free start, does to the decoded state.
-use mathlib.Core.Path.{_≡_, refl, sym, ap, ap₂, _∙_}
+use mathlib.Core.Path.{_≡_}
 use mathlib.Core.Logic.{_≢_, _⊎_, inl, inr, ⊎-elim}
-use mathlib.Core.List.{List, [], _∷_}
-use Prim.Native.Nat.{ℕ, zero, suc, _+_, _-_, _*_, _/_, _%_, _^_, _≤_, _<_}
+use mathlib.Core.List.{List, []}
+use Prim.Native.Nat.{ℕ, suc, _+_, _-_, _*_, _^_, _≤_, _<_}
 use native.Mathlib.Omega.{arith}
-use native.Mathlib.Nat.{zero-add, mul-le-mul-right}
+use native.Mathlib.Nat.{mul-le-mul-right}
 use native.Mathlib.Decide.{decLe}
-use lib.ListN.{length, getD, set}
-use Rattle.bits.specs.Field.{bitAt, field}
+use lib.ListN.{set}
+use Rattle.bits.specs.Field.{field}
 use Rattle.settings.specs.Proper.{Proper}
 use Rattle.settings.specs.declared.layout.Layout.{Layout}
-use Rattle.table.specs.Arrays.{tabulate}
-use Rattle.table.specs.State.{Basic, Overflow, State, mkBasic, mkOverflow, mkState, basicAt, overflowAt, restBits}
+use Rattle.table.specs.State.{mkBasic, mkOverflow, mkState, basicAt, overflowAt, restBits}
 use Rattle.table.specs.Decode.{blockAt, basicSlots, linkAt, overflowSlots, readBasic, readOverflow, decode}
-use Rattle.table.specs.theory.Arrays.{length-tab, getD-tab, tab-ext, tab-set}
+use Rattle.table.specs.theory.Arrays.{getD-tab, tab-ext, tab-set}
 use Rattle.table.specs.theory.Decode.{Only, only-field}
 
 module _ (g : Layout) (F : Proper g) where

@@ -14,7 +14,7 @@ use Rattle.settings.specs.Proper.{Proper}
 use Rattle.settings.specs.declared.layout.Layout.{Layout}
 use Rattle.table.specs.Arrays.{unpacked, padded}
 use Rattle.table.specs.State.{Basic, Overflow, State, mkBasic, mkOverflow, basicAt, overflowAt, restBits, unpack, headOf, restOf, slotOf}
-use Rattle.table.specs.Follow.{lastOf, prevOf, Seen, seen, cons?, follow, gather, contentOver, content}
+use Rattle.table.specs.Follow.{lastOf, prevOf, Seen, cons?, follow, gather, contentOver, content}
 use Rattle.table.specs.Find.{position, isHeld, labelAt, comparedIn}
 use Rattle.table.specs.Take.{Done, damage, noBlock, done, occurs, nextFree, taking, linkFree}
 use Rattle.table.specs.Add.{append, Adding, appended, addSeen, addIn}
@@ -64,13 +64,6 @@ pub data Ends (P : State → Type 0) : Done → Type 0 where
   ends-damage : Ends P damage
   ends-full : Ends P noBlock
   ends-done : {u : State} → P u → Ends P (done u)
-
-module _ {P : State → Type 0} where
-  of-done : {u : State} → Ends P (done u) → P u
-  of-done (ends-done p) = p
-
-  pub ends-of : {d : Done} {u : State} → Ends P d → d ≡ done u → P u
-  ends-of h e = of-done (subst (Ends P) e h)
 
 -- ---- rows
 
@@ -326,18 +319,6 @@ module _ (g : Layout) (F : Proper g) where
             (each-set (f .overflow) (prevOf c d ds) (record { counter = omega (arith, F .overflow-holds); link = fits .link; slots = prev .slots }))
             (lastOf d ds) (freed-fits (st .free) k last);
       })))
-
-  -- ---- the changes of a list that was followed
-
-  pub append-formed : {st u : State} {i x : ℕ} {bs es : List ℕ} → Formed g st → i < g .lists → Fits (g .slot) x → content g st i ≡ some (seen bs es)
-      → append g st i bs x ≡ done u → Formed g u
-  append-formed {i = i} f h p c e = ends-of (append-ends i f h (content-fits g i f c .blocks .below) p) e
-
-  pub shrink-formed : {st u : State} {i y : ℕ} {bs es : List ℕ} (k : ℕ) → Formed g st → i < g .lists → Fits (g .slot) y → content g st i ≡ some (seen bs es)
-      → shrink g (poke g st i bs k y) i bs ≡ done u → Formed g u
-  shrink-formed {i = i} k f h p c e =
-      let bl = content-fits g i f c .blocks .below in
-      ends-of (shrink-ends i (poke-formed i k f h bl p) h bl) e
 
   -- ---- the calls
 

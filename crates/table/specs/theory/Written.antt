@@ -10,7 +10,7 @@ use lib.Arith.{digits-lt}
 use Rattle.bits.specs.Bytes.{Bytes}
 use Rattle.bits.specs.Field.{field}
 use Rattle.bits.specs.Put.{putField}
-use Rattle.bits.specs.theory.Puts.{put-same, put-own, put-out, put-put, put-length, put-bytes}
+use Rattle.bits.specs.theory.Puts.{put-same, put-own, put-out, put-length, put-bytes}
 use Rattle.settings.specs.Proper.{Proper}
 use Rattle.settings.specs.declared.layout.Layout.{Layout}
 use Rattle.table.specs.Arrays.{packed}
@@ -143,11 +143,6 @@ module _ (g : Layout) (t : List ℕ) where
   pub written-bytes : (st : State) → Bytes t → Bytes (written g t st)
   unfolding written
   written-bytes st b = put-bytes t 0 (g .bits) (image g st) b
-
-  -- of two states written, the second counts
-  pub written-twice : (u v : State) → Bytes t → g .bits ≤ 8 * length t → written g (written g t u) v ≡ written g t v
-  unfolding written
-  written-twice u v b l = put-put t 0 (g .bits) (image g u) (image g v) b (omega arith)
 
   -- the bits behind the table stay
   pub written-outside : (st : State) (o m : ℕ) → g .bits ≤ 8 * length t → g .bits ≤ o → field (written g t st) o m ≡ field t o m

@@ -9,9 +9,9 @@ use Rattle.table.specs.Calls.{addAnswer, addBytes}
 use Rattle.table.specs.declared.answers.AddAnswer.{AddAnswer}
 use Rattle.table.specs.declared.answers.AddAnswer.the-variants as adding
 use Rattle.settings.specs.declared.refusal.Refusal.{Refusal}
+use Rattle.reader.specs.declared.Parsed.{Parsed}
 use Rattle.address.specs.TextCalls.{byReading, admittedOf, addTextAnswer, addTextBytes}
 use Rattle.address.specs.theory.TextCalls.{with-admitted}
-use Rattle.address.specs.declared.Parsed.{Parsed}
 use Rattle.address.proofs.calls.add_text.Statement.{statement}
 use Rattle.address.proofs.calls.add_text.Tie as tie
 

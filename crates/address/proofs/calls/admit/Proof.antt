@@ -10,10 +10,10 @@ use Rattle.settings.specs.Layout.{layoutOf}
 use Rattle.settings.specs.theory.Legal.{laid-layout, laid-refused}
 use Rattle.settings.specs.declared.refusal.Refusal.the-variants as refusal
 use Rattle.table.specs.theory.Opened.{opened-illegal, opened-short, opened-on}
-use Rattle.address.specs.Answers.{readingOf}
+use Rattle.reader.specs.Answers.{readingOf}
+use Rattle.reader.specs.declared.Parsed.{Parsed}
+use Rattle.reader.specs.declared.Parsed.the-variants as parsed
 use Rattle.address.specs.TextCalls.{admittedOf}
-use Rattle.address.specs.declared.Parsed.{Parsed}
-use Rattle.address.specs.declared.Parsed.the-variants as parsed
 use Rattle.address.proofs.calls.admit.Statement.{statement}
 use Rattle.address.proofs.calls.admit.Tie as tie
 

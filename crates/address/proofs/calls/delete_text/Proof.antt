@@ -9,9 +9,9 @@ use Rattle.table.specs.Calls.{deleteAnswer, deleteBytes}
 use Rattle.table.specs.declared.answers.DeleteAnswer.{DeleteAnswer}
 use Rattle.table.specs.declared.answers.DeleteAnswer.the-variants as deleting
 use Rattle.settings.specs.declared.refusal.Refusal.{Refusal}
+use Rattle.reader.specs.declared.Parsed.{Parsed}
 use Rattle.address.specs.TextCalls.{byReading, admittedOf, deleteTextAnswer, deleteTextBytes}
 use Rattle.address.specs.theory.TextCalls.{with-admitted}
-use Rattle.address.specs.declared.Parsed.{Parsed}
 use Rattle.address.proofs.calls.delete_text.Statement.{statement}
 use Rattle.address.proofs.calls.delete_text.Tie as tie
 

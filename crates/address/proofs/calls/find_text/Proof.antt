@@ -7,9 +7,9 @@ use borrow.Author.Needs.{needs}
 use Rattle.settings.specs.declared.keys.Key.{Key}
 use Rattle.table.specs.Calls.{findAnswer}
 use Rattle.table.specs.declared.answers.FindAnswer.the-variants as finding
+use Rattle.reader.specs.declared.Parsed.{Parsed}
 use Rattle.address.specs.TextCalls.{byReading, findTextAnswer}
 use Rattle.address.specs.theory.TextCalls.{with-admitted}
-use Rattle.address.specs.declared.Parsed.{Parsed}
 use Rattle.address.proofs.calls.find_text.Statement.{statement}
 use Rattle.address.proofs.calls.find_text.Tie as tie
 

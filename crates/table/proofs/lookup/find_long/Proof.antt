@@ -5,7 +5,7 @@ use denote.Ref.{now}
 use Rattle.settings.specs.Key.{keyNumber}
 use Rattle.table.specs.Decode.{decode}
 use Rattle.table.specs.Steps.{Run, displacedRun}
-use Rattle.table.specs.theory.Reads.{displaced-run-within, link-lt}
+use Rattle.table.specs.theory.Reads.{displaced-run-within, head-lt, link-lt}
 use Rattle.table.specs.theory.Walks.{followed}
 use Rattle.table.specs.theory.Finds.{find-bad, find-first, find-rest}
 use Rattle.table.specs.declared.slots.Slots.{Slots}
@@ -20,8 +20,8 @@ run-within c =
     let s = k .before .before .before .before .before in
     let f = link-lt (s .args .g) (now (s .args .t)) (s .pre .0) (k .before .before .before .follow .result) (omega arith) in
     rw (c .displaced-run .ensures)
-    (displaced-run-within (s .args .g) (now (s .args .t)) (s .pre .0) (s .args .i) (k .overflow-link .result) (s .pre .1)
-    (rw (k .overflow-link .ensures) f))
+    (displaced-run-within (s .args .g) (now (s .args .t)) (s .pre .0) (s .args .i) _ (s .pre .1)
+    (omega (arith, k .overflow-link .ensures, f, s .pre .2 .head, head-lt (s .args .g) (now (s .args .t)) (s .pre .0) (s .args .i) (s .pre .1))))
 
 follow-requires : tie.Need-follow-requires
 follow-requires c κs = search needs
