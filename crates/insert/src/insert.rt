@@ -28,7 +28,7 @@ fn held(label: u32, compared: u32) -> AddAnswer
 }
 
 // An entry with its label, to list i.
-fn add_in(t: &mut [u8], g: Layout, i: usize, entry: Key, label: u32) -> AddAnswer
+pub fn add_in(t: &mut [u8], g: Layout, i: usize, entry: Key, label: u32) -> AddAnswer
     requires { ⌜ Table g (now t) × (i < g .lists) × Slotted g (keyNumber entry) label ⌝ }
     ensures { λ r. ⌜ Added g (now (t .entry)) (now (t .exit)) i (keyNumber entry) label r ⌝ }
 {

@@ -3,3 +3,4 @@ mod append;
 mod insert;
 
 pub use insert::add;
+pub use insert::add_in;

@@ -329,7 +329,7 @@ fn first_part(table: &[u8; 256], text: &[u8]) -> Part
 }
 
 // Reads an address by the class table, which is lent once a call.
-fn read_by(table: &[u8; 256], text: &[u8]) -> Parsed
+pub fn read_by(table: &[u8; 256], text: &[u8]) -> Parsed
     requires { ⌜ Classes (now table) ⌝ }
     ensures { λ r. ⌜ r ≡ readingOf (now (text .entry)) ⌝ }
 {

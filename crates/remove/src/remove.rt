@@ -76,7 +76,7 @@ fn remove(t: &mut [u8], g: Layout, i: usize, p: usize) -> bool
 }
 
 // An entry from list i. What find compared is the place of the entry, counted from 1.
-fn delete_in(t: &mut [u8], g: Layout, i: usize, entry: Key) -> DeleteAnswer
+pub fn delete_in(t: &mut [u8], g: Layout, i: usize, entry: Key) -> DeleteAnswer
     requires { ⌜ Table g (now t) × (i < g .lists) × (keyNumber entry < 2 ^ g .bie) ⌝ }
     ensures { λ r. ⌜ Deleted g (now (t .entry)) (now (t .exit)) i (keyNumber entry) r ⌝ }
 {

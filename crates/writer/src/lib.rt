@@ -2,6 +2,7 @@
 mod writer;
 
 use settings::Refusal;
+pub use writer::put_text;
 pub use writer::write;
 
 // How a text was written: its length, or not at all.

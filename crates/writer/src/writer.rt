@@ -175,7 +175,7 @@ fn longest_run(key: Key) -> Run
 }
 
 // The text of a key, and its length.
-fn put_text(text: &mut [u8], key: Key) -> usize
+pub fn put_text(text: &mut [u8], key: Key) -> usize
     requires { ⌜ 40 ≤ length (now text) ⌝ }
     ensures { λ r. ⌜ (r ≤ 40) × (take r (now (text .exit)) ≡ textOf (keyGroups key)) ⌝ }
 {

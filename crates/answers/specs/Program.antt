@@ -1,0 +1,5 @@
+-- Document 01, "The program": "Settings: w 128, bii 8, sib 4, nob 64, sio 3, val 8, a 97, b 31 (156,935 bits)."
+use Rattle.settings.specs.declared.settings.Settings.{Settings}
+
+abbrev pub program : Settings
+program = record { w = 128; bii = 8; sib = 4; nob = 64; sio = 3; val = 8; a = 97; b = 31 }

@@ -1,0 +1,26 @@
+-- How long the parts of an answer are.
+use Prim.Native.Nat.{ℕ, _^_, _≤_, _<_}
+use mathlib.Core.List.{[], _∷_, _++_}
+use native.Mathlib.Omega.{arith}
+use lib.ListN.{length, length-append}
+use lib.Dec.{lit≤}
+use Rattle.address.specs.Ascii.{ascii}
+use Rattle.answers.specs.Answer.{wordText, numbersText}
+use Rattle.answers.specs.Decimal.{decimalText}
+use Rattle.answers.specs.theory.Decimal.{decimal-short}
+use Rattle.answers.specs.declared.outcome.Word.{Word}
+use Rattle.answers.specs.declared.outcome.Word.the-variants as word
+
+pub word-short : (w : Word) → length (wordText w) ≤ 7
+unfolding wordText ascii
+word-short word.Added = lit≤ tt
+word-short word.Held = lit≤ tt
+word-short word.Gone = lit≤ tt
+word-short word.None = lit≤ tt
+
+pub numbers-short : (label compared : ℕ) → label < 2 ^ 32 → compared < 2 ^ 32 → length (numbersText label compared) ≤ 22
+unfolding numbersText
+numbers-short label compared l c =
+    let x = length-append (decimalText label ++ 32 ∷ decimalText compared) (10 ∷ []) in
+    let y = length-append (decimalText label) (32 ∷ decimalText compared) in
+    omega (arith, x, y, decimal-short label l, decimal-short compared c)

@@ -1,0 +1,99 @@
+// The answer to a line.
+use crate::outcome::Outcome;
+use crate::outcome::Word;
+use crate::outcome::apply;
+use crate::text::put;
+use crate::text::put_decimal;
+use commands::Asked;
+use commands::Request;
+use commands::parse;
+use commands::unread;
+use reader::Parsed;
+use settings::Key;
+use settings::Refusal;
+ghost use mathlib.Core.Path.{_≡_};
+ghost use Prim.Native.Nat.{_+_, _≤_};
+ghost use lib.ListN.{length};
+ghost use Rattle.reader.specs.ReaderSteps.{Classes};
+ghost use Rattle.writer.specs.Writing.{written};
+ghost use Rattle.answers.specs.Answer.{wordText, numbersText, refusedText, saidText};
+ghost use Rattle.answers.specs.Steps.{Put, Wrote, AnsweredKey, Answered};
+
+// Room for any answer: an address of at most 39 bytes, a word, two numbers of at most ten digits.
+pub const ANSWER_MAX: usize = 80;
+
+fn put_word(w: Word, out: &mut [u8], at: usize) -> usize
+    requires { ⌜ at + 7 ≤ length (now out) ⌝ }
+    ensures { λ r. ⌜ Put (wordText w) (now (out .entry)) at (now (out .exit)) r ⌝ }
+{
+    match w {
+        Word::Added => put(b" added ", out, at),
+        Word::Held => put(b" held ", out, at),
+        Word::Gone => put(b" gone ", out, at),
+        Word::None => put(b" none ", out, at),
+    }
+}
+
+// "refused" and the number.
+pub fn refuse(why: Refusal, out: &mut [u8]) -> usize
+    requires { ⌜ 80 ≤ length (now out) ⌝ }
+    ensures { λ r. ⌜ Wrote (refusedText why) (now (out .exit)) r ⌝ }
+{
+    let n = put(b"refused ", out, 0);
+    let m = put_decimal(why.number(), out, n);
+    put(b"\n", out, m)
+}
+
+// The label and the number compared, behind the word.
+fn put_numbers(label: u32, compared: u32, out: &mut [u8], at: usize) -> usize
+    requires { ⌜ at + 22 ≤ length (now out) ⌝ }
+    ensures { λ r. ⌜ Put (numbersText label compared) (now (out .entry)) at (now (out .exit)) r ⌝ }
+{
+    let n = put_decimal(label, out, at);
+    let m = put(b" ", out, n);
+    let k = put_decimal(compared, out, m);
+    put(b"\n", out, k)
+}
+
+// Address, word, label, compared.
+fn say(key: Key, word: Word, label: u32, compared: u32, out: &mut [u8]) -> usize
+    requires { ⌜ 80 ≤ length (now out) ⌝ }
+    ensures { λ r. ⌜ Wrote (saidText (written (key .high) (key .low)) word label compared) (now (out .exit)) r ⌝ }
+{
+    let n = writer::put_text(out, key);
+    let m = put_word(word, out, n);
+    put_numbers(label, compared, out, m)
+}
+
+// The answer to a command whose address was read.
+fn answer_key(q: Request, key: Key, t: &mut [u8], out: &mut [u8]) -> usize
+    requires { ⌜ (19617 ≤ length (now t)) × (80 ≤ length (now out)) ⌝ }
+    ensures { λ r. ⌜ AnsweredKey q key (now (t .entry)) (now (t .exit)) (now (out .exit)) r ⌝ }
+{
+    let op = q.op;
+    match apply(op, q.label, t, key) {
+        Outcome::Said {
+            word,
+            label,
+            compared,
+        } => say(key, word, label, compared, out),
+        Outcome::Refused(why) => refuse(why, out),
+    }
+}
+
+// The answer to a line, and what the line does to the table.
+pub fn answer_line(classes: &[u8; 256], line: &[u8], t: &mut [u8], out: &mut [u8]) -> usize
+    requires { ⌜ Classes (now classes) × (19617 ≤ length (now t)) × (80 ≤ length (now out)) ⌝ }
+    ensures { λ r. ⌜ Answered (now (line .entry)) (now (t .entry)) (now (t .exit)) (now (out .exit)) r ⌝ }
+{
+    match parse(line) {
+        Asked::Request(q) => {
+            let end = q.end;
+            match reader::read_by(classes, &line[2..end]) {
+                Parsed::Key(key) => answer_key(q, key, t, out),
+                Parsed::Refused(_) => refuse(unread(line, end), out),
+            }
+        }
+        Asked::Malformed => refuse(Refusal::Line, out),
+    }
+}
