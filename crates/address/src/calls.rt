@@ -11,7 +11,7 @@ ghost use mathlib.Core.Path.{_≡_};
 ghost use Rattle.address.specs.TextCalls.{admittedOf, findTextAnswer, addTextAnswer, addTextBytes, deleteTextAnswer, deleteTextBytes};
 
 // The key of a text that goes to the lent table, or the first of refusals 1 to 4 that is due.
-fn admit(s: Settings, t: &[u8], text: &[u8]) -> Parsed
+pub fn admit(s: Settings, t: &[u8], text: &[u8]) -> Parsed
     ensures { λ r. ⌜ r ≡ admittedOf s (now (t .entry)) (now (text .entry)) ⌝ }
 {
     match s.layout() {

@@ -8,7 +8,8 @@ ghost use Rattle.settings.specs.Legal.{Legal};
 ghost use Rattle.settings.specs.Key.{keyNumber, keyOf, hash, placeOf, rebuilt};
 use crate::settings::Settings;
 
-// A key of up to 128 bits: the number high * 2^64 + low.
+// A key of up to 128 bits: the number high * 2^64 + low. Laid out as C lays it out, for C callers.
+#[repr(C)]
 pub struct Key {
     pub high: u64,
     pub low: u64,

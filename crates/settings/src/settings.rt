@@ -39,6 +39,8 @@ pub fn prime(k: usize) -> u32
     PRIMES[k]
 }
 
+// Laid out as C lays it out, since C callers hand it over as it is.
+#[repr(C)]
 pub struct Settings {
     pub w: u32,
     pub bii: u32,

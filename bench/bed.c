@@ -1,0 +1,139 @@
+#include "bed.h"
+
+#include <stdlib.h>
+#include <string.h>
+
+static void compare_tables(const Bed *bed)
+{
+    if (memcmp(bed->table[PRODUCT], bed->table[BASELINE], bed->size) != 0) fail("the tables differ");
+}
+
+static void compare_answers(const Bed *bed)
+{
+    if (memcmp(bed->got[PRODUCT], bed->got[BASELINE], sizeof bed->got[PRODUCT]) != 0) fail("the answers differ");
+}
+
+static uint64_t label_of(const Bed *bed, unsigned i)
+{
+    return bed->settings.val == 0 ? 0 : i & ((1u << (bed->settings.val < 8 ? bed->settings.val : 8)) - 1);
+}
+
+static void fill(Bed *bed, unsigned n)
+{
+    for (unsigned tries = 0; bed->n < n; tries++) {
+        Key key = random_key(bed->settings.w);
+        Answer a[LIBRARIES];
+        for (int k = 0; k < LIBRARIES; k++)
+            a[k] = libraries[k].add(bed->settings, bed->table[k], bed->size, key, label_of(bed, bed->n));
+        if (memcmp(&a[PRODUCT], &a[BASELINE], sizeof a[PRODUCT]) != 0) fail("the answers differ");
+        if (a[PRODUCT].word == SHELFEGRET_ADDED) bed->in[bed->n++] = key;
+        if (tries > 2 * n) fail("the table is too small");
+    }
+    compare_tables(bed);
+}
+
+static void choose_misses(Bed *bed)
+{
+    for (unsigned i = 0; i < bed->n;) {
+        Key key = random_key(bed->settings.w);
+        Answer a = libraries[BASELINE].find(bed->settings, bed->table[BASELINE], bed->size, key);
+        if (a.word == SHELFEGRET_NONE) bed->out[i++] = key;
+    }
+}
+
+Bed *new_bed(Settings s, unsigned n)
+{
+    restart_random();
+    Bed *bed = room(sizeof *bed);
+    memset(bed, 0, sizeof *bed);
+    bed->settings = s;
+    bed->size = libraries[PRODUCT].size(s).number;
+    if (bed->size == 0 || bed->size != libraries[BASELINE].size(s).number) fail("the sizes differ");
+    for (int k = 0; k < LIBRARIES; k++) {
+        bed->table[k] = room(bed->size);
+        libraries[k].make(s, bed->table[k], bed->size);
+    }
+    bed->in = room(n * sizeof *bed->in);
+    bed->out = room(n * sizeof *bed->out);
+    bed->marks_size = (s.nob + 7) / 8;
+    bed->marks = room(bed->marks_size + 1);
+    fill(bed, n);
+    choose_misses(bed);
+    return bed;
+}
+
+void free_bed(Bed *bed)
+{
+    for (int k = 0; k < LIBRARIES; k++) free(bed->table[k]);
+    free(bed->in);
+    free(bed->out);
+    free(bed->marks);
+    free(bed);
+}
+
+/* inline, so that callgrind counts it as the operation's own */
+static inline void find_all(Bed *bed, int k, const Key *keys)
+{
+    for (unsigned i = 0; i < CHUNK; i++)
+        bed->got[k][i] = libraries[k].find(bed->settings, bed->table[k], bed->size, keys[i]);
+}
+
+void op_find_hit(Bed *bed, int k, unsigned at)
+{
+    find_all(bed, k, bed->in + at);
+}
+
+void op_find_miss(Bed *bed, int k, unsigned at)
+{
+    find_all(bed, k, bed->out + at);
+}
+
+void op_add(Bed *bed, int k, unsigned at)
+{
+    for (unsigned i = 0; i < CHUNK; i++)
+        bed->got[k][i] = libraries[k].add(bed->settings, bed->table[k], bed->size, bed->in[at + i],
+                                          label_of(bed, at + i));
+}
+
+void op_delete(Bed *bed, int k, unsigned at)
+{
+    for (unsigned i = 0; i < CHUNK; i++)
+        bed->got[k][i] = libraries[k].remove(bed->settings, bed->table[k], bed->size, bed->in[at + i]);
+}
+
+void op_check(Bed *bed, int k, unsigned at)
+{
+    (void)at;
+    bed->got[k][0] = libraries[k].check(bed->settings, bed->table[k], bed->size, bed->marks, bed->marks_size);
+}
+
+static void run_both(Bed *bed, Operation *operation, unsigned at)
+{
+    if (!operation) return;
+    for (int k = 0; k < LIBRARIES; k++) operation(bed, k, at);
+    compare_answers(bed);
+}
+
+void race(Bed *bed, Operation *before, Operation *timed, Operation *after, unsigned rounds, Clock *clock,
+          double ns[LIBRARIES])
+{
+    double *times[LIBRARIES];
+    for (int k = 0; k < LIBRARIES; k++) times[k] = room(rounds * sizeof *times[k]);
+    for (unsigned r = 0; r < rounds; r++) {
+        unsigned at = (unsigned)(random_bits() % (bed->n - CHUNK + 1));
+        run_both(bed, before, at);
+        for (unsigned j = 0; j < LIBRARIES; j++) {
+            int k = (int)((r + j) % LIBRARIES); /* neither is always the first */
+            double start = clock();
+            timed(bed, k, at);
+            times[k][r] = clock() - start;
+        }
+        compare_answers(bed);
+        run_both(bed, after, at);
+    }
+    compare_tables(bed);
+    for (int k = 0; k < LIBRARIES; k++) {
+        ns[k] = median(times[k], rounds);
+        free(times[k]);
+    }
+}

@@ -1,0 +1,36 @@
+/* A test bed: one table, kept alike by both libraries, and operations on it that are timed or counted. */
+#ifndef BED_H
+#define BED_H
+
+#include "common.h"
+
+/* An operation makes CHUNK calls, so that reading the clock weighs little, and stays short, so that both libraries
+ * meet the same state of a busy machine. */
+enum { CHUNK = 64 };
+
+typedef struct {
+    Settings settings;
+    size_t size;
+    uint8_t *table[LIBRARIES];
+    unsigned n;     /* entries */
+    Key *in, *out;  /* n keys that it holds, n that it does not */
+    uint8_t *marks;
+    size_t marks_size;
+    Answer got[LIBRARIES][CHUNK]; /* what the last operation answered */
+} Bed;
+
+/* Random keys are added until n are held; those that the table refuses are left out. */
+Bed *new_bed(Settings s, unsigned n);
+void free_bed(Bed *bed);
+
+/* CHUNK calls of one library, on the keys from `at` on; op_check makes one call. Their names start with op_ so that
+ * callgrind's counts can be picked out. */
+typedef void Operation(Bed *bed, int library, unsigned at);
+Operation op_find_hit, op_find_miss, op_add, op_delete, op_check;
+
+/* Runs `timed` for both libraries in turn, `rounds` times, and gives each library's median ns. `before` prepares the
+ * table and `after` puts it back, untimed; either may be NULL. Ends the program if the answers or the tables differ. */
+void race(Bed *bed, Operation *before, Operation *timed, Operation *after, unsigned rounds, Clock *clock,
+          double ns[LIBRARIES]);
+
+#endif

@@ -1,0 +1,103 @@
+/* Calls on a table, product beside baseline.
+ *   calls time ROUNDS            ns of each call on each table below, as a Markdown table
+ *   calls count LIBRARY TABLE    each operation once a round, for callgrind to count; prints the calls of each
+ *   calls tables                 the names that count takes */
+#include <stdio.h>
+#include <stdlib.h>
+#include <string.h>
+
+#include "bed.h"
+
+static const struct {
+    const char *name;
+    unsigned n;
+    Settings settings;
+} tables[] = {
+    /*                                    w   bii sib  nob  sio val  a   b */
+    { "the program's, n 800", 800,     { 128,  8,  4,   64, 3,  8, 97, 31 } },
+    { "n 10^4, short lists",  10000,   { 128, 10, 10, 1500, 3,  8, 97, 31 } },
+    { "n 10^4, long lists",   10000,   { 128,  8, 39,  500, 3,  8, 97, 31 } },
+    { "n 10^5",               100000,  { 128, 13, 12, 8000, 3,  8, 97, 31 } },
+    { "w 48, n 10^4",         10000,   {  48,  8, 39,  500, 3,  0, 97, 31 } },
+};
+enum { TABLES = sizeof tables / sizeof tables[0] };
+
+/* An add needs its keys out of the table first, and a delete puts them back. */
+static const struct {
+    const char *name;
+    Operation *before, *timed, *after;
+} operations[] = {
+    { "find, hit", NULL, op_find_hit, NULL },
+    { "find, miss", NULL, op_find_miss, NULL },
+    { "add", op_delete, op_add, NULL },
+    { "delete", NULL, op_delete, op_add },
+    { "check, an entry", NULL, op_check, NULL },
+};
+enum { OPERATIONS = sizeof operations / sizeof operations[0] };
+
+/* A check walks the whole table, so that a few are enough. */
+enum { CHECKS = 25 };
+
+static void time_table(unsigned t, unsigned rounds)
+{
+    Bed *bed = new_bed(tables[t].settings, tables[t].n);
+    for (unsigned i = 0; i < OPERATIONS; i++) {
+        int whole = operations[i].timed == op_check;
+        unsigned entries = whole ? bed->n : CHUNK;
+        double ns[LIBRARIES];
+        race(bed, operations[i].before, operations[i].timed, operations[i].after, whole ? CHECKS : rounds,
+             whole ? processor_clock : wall_clock, ns);
+        printf("| %s | %s | %.1f | %.1f | %.2f |\n", tables[t].name, operations[i].name,
+               ns[PRODUCT] / entries, ns[BASELINE] / entries, ns[PRODUCT] / ns[BASELINE]);
+    }
+    free_bed(bed);
+}
+
+static void time_all(unsigned rounds)
+{
+    printf("| table | settings |\n|---|---|\n");
+    for (unsigned t = 0; t < TABLES; t++) {
+        printf("| %s | ", tables[t].name);
+        print_settings(tables[t].settings);
+        printf(" |\n");
+    }
+    printf("\n| table | call | product, ns | baseline, ns | product / baseline |\n|---|---|---|---|---|\n");
+    for (unsigned t = 0; t < TABLES; t++) time_table(t, rounds);
+}
+
+enum { COUNTED = 20 };
+
+/* The chunks are spread over all keys, since those added early stand first in their lists. */
+static void count(int library, const char *name)
+{
+    for (unsigned t = 0; t < TABLES; t++) {
+        if (strcmp(tables[t].name, name) != 0) continue;
+        Bed *bed = new_bed(tables[t].settings, tables[t].n);
+        for (unsigned c = 0; c < COUNTED; c++) {
+            unsigned at = c * (bed->n - CHUNK) / (COUNTED - 1);
+            op_find_hit(bed, library, at);
+            op_find_miss(bed, library, at);
+            op_delete(bed, library, at);
+            op_add(bed, library, at);
+        }
+        op_check(bed, library, 0);
+        printf("calls %u\nentries %u\n", COUNTED * CHUNK, bed->n);
+        free_bed(bed);
+        return;
+    }
+    fail("no such table");
+}
+
+int main(int argc, char **argv)
+{
+    if (argc == 3 && strcmp(argv[1], "time") == 0) {
+        time_all((unsigned)atoi(argv[2]));
+    } else if (argc == 4 && strcmp(argv[1], "count") == 0) {
+        count(library_named(argv[2]), argv[3]);
+    } else if (argc == 2 && strcmp(argv[1], "tables") == 0) {
+        for (unsigned t = 0; t < TABLES; t++) printf("%s\n", tables[t].name);
+    } else {
+        fail("calls time ROUNDS | calls count LIBRARY TABLE | calls tables");
+    }
+    return 0;
+}

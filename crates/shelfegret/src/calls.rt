@@ -1,0 +1,71 @@
+// The calls on a table. None requires anything of its caller, and a refused one changes no lent byte.
+use crate::Answer;
+use crate::answers::added;
+use crate::answers::checked;
+use crate::answers::deleted;
+use crate::answers::found;
+use crate::answers::made;
+use crate::answers::recorded;
+use crate::answers::sized;
+use settings::Key;
+use settings::Settings;
+ghost use mathlib.Core.Path.{_≡_};
+ghost use Rattle.settings.specs.Made.{sizeOf};
+ghost use Rattle.table.specs.Calls.{makeAnswer, makeBytes, addAnswer, addBytes, findAnswer, deleteAnswer, deleteBytes, recordAnswer, checkAnswer, checkMarks};
+ghost use Rattle.shelfegret.specs.Reply.{sizeReply, makeReply, addReply, findReply, deleteReply, recordReply, checkReply};
+
+// The number of bytes that the table needs.
+#[no_mangle]
+pub extern "C" fn shelfegret_size(s: Settings) -> Answer
+    ensures { λ r. ⌜ r ≡ sizeReply (sizeOf s) ⌝ }
+{
+    sized(s.size())
+}
+
+// The table in the lent bytes becomes a new one; the answer has no word.
+#[no_mangle]
+pub extern "C" fn shelfegret_make(s: Settings, t: &mut [u8]) -> Answer
+    ensures { λ r. ⌜ (r ≡ makeReply (makeAnswer s (now (t .entry)))) × (now (t .exit) ≡ makeBytes s (now (t .entry))) ⌝ }
+{
+    made(records::make(s, t))
+}
+
+// "added" with the label, or "held" with the old one.
+#[no_mangle]
+pub extern "C" fn shelfegret_add(s: Settings, t: &mut [u8], key: Key, label: u64) -> Answer
+    ensures { λ r. ⌜ (r ≡ addReply key (addAnswer s (now (t .entry)) key label)) × (now (t .exit) ≡ addBytes s (now (t .entry)) key label) ⌝ }
+{
+    added(key, insert::add(s, t, key, label))
+}
+
+// "held" with the label, or "none".
+#[no_mangle]
+pub extern "C" fn shelfegret_find(s: Settings, t: &[u8], key: Key) -> Answer
+    ensures { λ r. ⌜ r ≡ findReply key (findAnswer s (now (t .entry)) key) ⌝ }
+{
+    found(key, table::find(s, t, key))
+}
+
+// "gone" with the label, or "none".
+#[no_mangle]
+pub extern "C" fn shelfegret_delete(s: Settings, t: &mut [u8], key: Key) -> Answer
+    ensures { λ r. ⌜ (r ≡ deleteReply key (deleteAnswer s (now (t .entry)) key)) × (now (t .exit) ≡ deleteBytes s (now (t .entry)) key) ⌝ }
+{
+    deleted(key, remove::delete(s, t, key))
+}
+
+// The key and the label of the nth record, or "none".
+#[no_mangle]
+pub extern "C" fn shelfegret_record(s: Settings, t: &[u8], n: u64) -> Answer
+    ensures { λ r. ⌜ r ≡ recordReply (recordAnswer s (now (t .entry)) n) ⌝ }
+{
+    recorded(records::record(s, t, n))
+}
+
+// "sound" or "unsound".
+#[no_mangle]
+pub extern "C" fn shelfegret_check(s: Settings, t: &[u8], marks: &mut [u8]) -> Answer
+    ensures { λ r. ⌜ (r ≡ checkReply (checkAnswer s (now (t .entry)) (now (marks .entry)))) × (now (marks .exit) ≡ checkMarks s (now (t .entry)) (now (marks .entry))) ⌝ }
+{
+    checked(audit::check(s, t, marks))
+}

@@ -1,0 +1,67 @@
+// The calls with texts. The text is read once, and its key goes into the call and into the answer.
+use crate::Answer;
+use crate::answers::added;
+use crate::answers::deleted;
+use crate::answers::found;
+use crate::answers::parsed;
+use crate::answers::refused;
+use crate::answers::written;
+use address::admit;
+use reader::Parsed;
+use settings::Key;
+use settings::Settings;
+ghost use mathlib.Core.Path.{_≡_};
+ghost use Rattle.reader.specs.Answers.{readingOf};
+ghost use Rattle.writer.specs.Answers.{writingOf, storedOf};
+ghost use Rattle.address.specs.TextCalls.{addTextBytes, deleteTextBytes};
+ghost use Rattle.shelfegret.specs.Reply.{readReply, writeReply};
+ghost use Rattle.shelfegret.specs.TextReply.{addTextReply, findTextReply, deleteTextReply};
+
+// "added" with the label, or "held" with the old one, and the key that the text spells.
+#[no_mangle]
+pub extern "C" fn shelfegret_add_text(s: Settings, t: &mut [u8], text: &[u8], label: u64) -> Answer
+    ensures { λ r. ⌜ (r ≡ addTextReply s (now (t .entry)) (now (text .entry)) label) × (now (t .exit) ≡ addTextBytes s (now (t .entry)) (now (text .entry)) label) ⌝ }
+{
+    match admit(s, t, text) {
+        Parsed::Key(key) => added(key, insert::add(s, t, key, label)),
+        Parsed::Refused(why) => refused(why),
+    }
+}
+
+// "held" with the label, or "none", and the key that the text spells.
+#[no_mangle]
+pub extern "C" fn shelfegret_find_text(s: Settings, t: &[u8], text: &[u8]) -> Answer
+    ensures { λ r. ⌜ r ≡ findTextReply s (now (t .entry)) (now (text .entry)) ⌝ }
+{
+    match admit(s, t, text) {
+        Parsed::Key(key) => found(key, table::find(s, t, key)),
+        Parsed::Refused(why) => refused(why),
+    }
+}
+
+// "gone" with the label, or "none", and the key that the text spells.
+#[no_mangle]
+pub extern "C" fn shelfegret_delete_text(s: Settings, t: &mut [u8], text: &[u8]) -> Answer
+    ensures { λ r. ⌜ (r ≡ deleteTextReply s (now (t .entry)) (now (text .entry))) × (now (t .exit) ≡ deleteTextBytes s (now (t .entry)) (now (text .entry))) ⌝ }
+{
+    match admit(s, t, text) {
+        Parsed::Key(key) => deleted(key, remove::delete(s, t, key)),
+        Parsed::Refused(why) => refused(why),
+    }
+}
+
+// The key that the text spells.
+#[no_mangle]
+pub extern "C" fn shelfegret_read_text(text: &[u8]) -> Answer
+    ensures { λ r. ⌜ r ≡ readReply (readingOf (now (text .entry))) ⌝ }
+{
+    parsed(reader::read(text))
+}
+
+// The length of the key's text, which is then the front of the lent bytes.
+#[no_mangle]
+pub extern "C" fn shelfegret_write_text(key: Key, out: &mut [u8]) -> Answer
+    ensures { λ r. ⌜ (r ≡ writeReply (writingOf key (now (out .entry)))) × (now (out .exit) ≡ storedOf key (now (out .entry))) ⌝ }
+{
+    written(writer::write(key, out))
+}

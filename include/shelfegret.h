@@ -1,0 +1,130 @@
+/* Shelfegret: a block list of IPv6 addresses, each with a label, bit-packed into memory that the caller lends.
+ *
+ * The library keeps nothing between calls: no allocation, no global state. Every call takes the settings and the
+ * lent bytes, checks both, and answers with one struct. Whatever is passed, a call ends, stays within the buffers
+ * that it is lent, and answers or refuses with a number; a refused call changes no lent byte. Each call's contract
+ * is proved; docs/ARCHITECTURE.md says where.
+ *
+ * A buffer is a pointer and its length in bytes. The pointer may be NULL only if the length is 0. Buffers that one
+ * call takes must not overlap. Calls on one table must not run at the same time, unless none of them writes to it.
+ * The archive is for x86-64 Linux.
+ */
+#ifndef SHELFEGRET_H
+#define SHELFEGRET_H
+
+#include <stddef.h>
+#include <stdint.h>
+
+#ifdef __cplusplus
+extern "C" {
+#endif
+
+/* The settings of a table. Every call on it must be given the same: with others, the bytes are read as the table that
+ * those settings describe.
+ *   w    bits of a key, 2 to 128; 128 for IPv6 addresses
+ *   bii  bits of a key that choose its list and are not stored, 0 to 16, below w: there are 2^bii lists
+ *   sib  entries in each list's own block, 1 to 255
+ *   nob  overflow blocks, shared by all lists, 0 to 65,535
+ *   sio  entries in an overflow block, 1 to 15
+ *   val  bits of a label, 0 to 32
+ *   a, b spread the keys over the lists: 1 to p - 1, where p is the smallest prime above 2^bii
+ * Besides, sib * (w - bii + val) is at least the bits of a link, which are log2(nob) rounded up (0 if nob is 0), and
+ * the table needs at most 16,777,216 bytes. docs/LIBRARY.md says how to choose them. */
+struct shelfegret_settings {
+    uint32_t w, bii, sib, nob, sio, val, a, b;
+};
+
+/* A key: the number high * 2^64 + low. Of an IPv6 address, high is the first eight bytes as they stand in a packet,
+ * most significant byte first, and low the last eight. */
+struct shelfegret_key {
+    uint64_t high, low;
+};
+
+/* What every call answers. If code is 0 the call was accepted; else code is the refusal and all else is 0. */
+struct shelfegret_answer {
+    uint32_t code;             /* 0, or SHELFEGRET_REFUSED_.. */
+    uint32_t word;             /* SHELFEGRET_ADDED .. SHELFEGRET_UNSOUND, or 0 where a call has no word */
+    struct shelfegret_key key; /* the key asked for, read, or recorded; 0 where a call has none */
+    uint32_t label;            /* the entry's label; 0 with NONE, and where a call has none */
+    uint32_t compared;         /* add, find, delete: entries compared, up to and including the match, or the list's
+                                  length if there is none (for ADDED, before it); else 0 */
+    uint64_t number;           /* size, write_text: bytes; else 0 */
+};
+
+/* words */
+enum {
+    SHELFEGRET_ADDED = 1,   /* add: it was not there, and is now */
+    SHELFEGRET_HELD = 2,    /* add, find: it is there; label is the one stored */
+    SHELFEGRET_GONE = 3,    /* delete: it was there, and is no more; label is the one it had */
+    SHELFEGRET_NONE = 4,    /* find, delete: it is not there; record: there is no such record */
+    SHELFEGRET_RECORD = 5,  /* record: key and label are those of the record */
+    SHELFEGRET_SOUND = 6,   /* check */
+    SHELFEGRET_UNSOUND = 7  /* check */
+};
+
+/* Refusals. Where several are due, the lowest number is given. */
+enum {
+    SHELFEGRET_REFUSED_SETTINGS = 1, /* a range or rule of the settings is broken */
+    SHELFEGRET_REFUSED_SHORT = 2,    /* the lent table is smaller than its size */
+    SHELFEGRET_REFUSED_WIDTH = 3,    /* a text goes to a table with w other than 128 */
+    SHELFEGRET_REFUSED_TEXT = 4,     /* the text is not a legal address */
+    SHELFEGRET_REFUSED_KEY = 5,      /* the key is 2^w or more */
+    SHELFEGRET_REFUSED_LABEL = 6,    /* the label is 2^val or more */
+    SHELFEGRET_REFUSED_DAMAGE = 7,   /* the bytes that the call follows hold no list */
+    SHELFEGRET_REFUSED_FULL = 8,     /* a new entry needs an overflow block, and none is free */
+    SHELFEGRET_REFUSED_OUTPUT = 9,   /* fewer bytes are lent than the text has */
+    SHELFEGRET_REFUSED_MARKS = 10    /* fewer mark bytes are lent than check needs */
+};
+
+/* The bytes that a table with these settings needs, in number. Refuses 1. */
+struct shelfegret_answer shelfegret_size(struct shelfegret_settings settings);
+
+/* Makes the lent bytes an empty table. Bytes behind the table's size stay. Refuses 1, 2. */
+struct shelfegret_answer shelfegret_make(struct shelfegret_settings settings, uint8_t *table, size_t len);
+
+/* Adds the key with a label: ADDED; or HELD with the label that it has already, and nothing changes. key is the
+ * key asked for. Refuses 1, 2, 5, 6, 7, 8. */
+struct shelfegret_answer shelfegret_add(struct shelfegret_settings settings, uint8_t *table, size_t len,
+                                        struct shelfegret_key key, uint64_t label);
+
+/* Finds the key: HELD with its label, or NONE. key is the key asked for. The table is only read. Refuses 1, 2, 5, 7. */
+struct shelfegret_answer shelfegret_find(struct shelfegret_settings settings, const uint8_t *table, size_t len,
+                                         struct shelfegret_key key);
+
+/* Deletes the key: GONE with the label that it had, or NONE, and nothing changes. key is the key asked for.
+ * Refuses 1, 2, 5, 7. */
+struct shelfegret_answer shelfegret_delete(struct shelfegret_settings settings, uint8_t *table, size_t len,
+                                           struct shelfegret_key key);
+
+/* The nth entry of the table, from 0, list by list: RECORD with key and label, or NONE if there are not so many.
+ * The order is that of the lists, and changes as entries come and go. The table is only read. Refuses 1, 2, 7. */
+struct shelfegret_answer shelfegret_record(struct shelfegret_settings settings, const uint8_t *table, size_t len,
+                                           uint64_t n);
+
+/* Whether the lent bytes are a sound table: SOUND or UNSOUND, whatever the bytes are. marks is scratch, a bit for
+ * each overflow block: its first (nob + 7) / 8 bytes are zero afterwards, whatever they held, and bytes behind them
+ * stay. The table is only read. Refuses 1, 2, 10, and then marks stay as they are. */
+struct shelfegret_answer shelfegret_check(struct shelfegret_settings settings, const uint8_t *table, size_t len,
+                                          uint8_t *marks, size_t marks_len);
+
+/* The same with the address that a text spells, for a table with w 128. A text is bytes without a terminator. key
+ * is the key as read. add_text refuses 1, 2, 3, 4, 6, 7, 8; find_text and delete_text 1, 2, 3, 4, 7. */
+struct shelfegret_answer shelfegret_add_text(struct shelfegret_settings settings, uint8_t *table, size_t len,
+                                             const uint8_t *text, size_t text_len, uint64_t label);
+struct shelfegret_answer shelfegret_find_text(struct shelfegret_settings settings, const uint8_t *table, size_t len,
+                                              const uint8_t *text, size_t text_len);
+struct shelfegret_answer shelfegret_delete_text(struct shelfegret_settings settings, uint8_t *table, size_t len,
+                                                const uint8_t *text, size_t text_len);
+
+/* Reads an address as RFC 4291, section 2.2, gives it, into key. Refuses 4. */
+struct shelfegret_answer shelfegret_read_text(const uint8_t *text, size_t text_len);
+
+/* Writes the address in RFC 5952 form, at most 39 bytes, without a terminator; number is its length, and the rest of
+ * out stays as it is. Refuses 9. */
+struct shelfegret_answer shelfegret_write_text(struct shelfegret_key key, uint8_t *out, size_t out_len);
+
+#ifdef __cplusplus
+}
+#endif
+
+#endif

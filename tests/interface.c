@@ -1,0 +1,760 @@
+/* interface.c - the library's C interface against the baseline's, on random calls.
+ *
+ *     interface [SEED [CALLS]]
+ *
+ * Both libraries get the same calls on equal buffers. After each call every field of the two answers must be equal,
+ * and every byte of every buffer: those that the call may write must be equal in both, all others as before. Each
+ * buffer lies between two pages without access, against one of them or with guard bytes on both sides, so that reads
+ * outside are caught as well. The settings are legal and not, the tables new, in use, damaged and random. At the end
+ * each call must have given each of its refusals and words many times, and no other.
+ *
+ * The baseline is compiled with base_ in the place of shelfegret_ in its names. */
+#define _DEFAULT_SOURCE /* MAP_ANONYMOUS */
+
+#include <inttypes.h>
+#include <signal.h>
+#include <stdio.h>
+#include <stdlib.h>
+#include <string.h>
+#include <sys/mman.h>
+#include <unistd.h>
+
+#include "input.h"
+#include "shelfegret.h"
+
+typedef struct shelfegret_settings settings;
+typedef struct shelfegret_key key;
+typedef struct shelfegret_answer answer;
+
+/* ---- the two libraries */
+
+struct library {
+    answer (*size)(settings);
+    answer (*make)(settings, uint8_t *, size_t);
+    answer (*add)(settings, uint8_t *, size_t, key, uint64_t);
+    answer (*find)(settings, const uint8_t *, size_t, key);
+    answer (*delete)(settings, uint8_t *, size_t, key);
+    answer (*record)(settings, const uint8_t *, size_t, uint64_t);
+    answer (*check)(settings, const uint8_t *, size_t, uint8_t *, size_t);
+    answer (*add_text)(settings, uint8_t *, size_t, const uint8_t *, size_t, uint64_t);
+    answer (*find_text)(settings, const uint8_t *, size_t, const uint8_t *, size_t);
+    answer (*delete_text)(settings, uint8_t *, size_t, const uint8_t *, size_t);
+    answer (*read_text)(const uint8_t *, size_t);
+    answer (*write_text)(key, uint8_t *, size_t);
+};
+
+answer base_size(settings);
+answer base_make(settings, uint8_t *, size_t);
+answer base_add(settings, uint8_t *, size_t, key, uint64_t);
+answer base_find(settings, const uint8_t *, size_t, key);
+answer base_delete(settings, uint8_t *, size_t, key);
+answer base_record(settings, const uint8_t *, size_t, uint64_t);
+answer base_check(settings, const uint8_t *, size_t, uint8_t *, size_t);
+answer base_add_text(settings, uint8_t *, size_t, const uint8_t *, size_t, uint64_t);
+answer base_find_text(settings, const uint8_t *, size_t, const uint8_t *, size_t);
+answer base_delete_text(settings, uint8_t *, size_t, const uint8_t *, size_t);
+answer base_read_text(const uint8_t *, size_t);
+answer base_write_text(key, uint8_t *, size_t);
+
+enum { LIBRARY, BASELINE, BOTH };
+static const char *const names[BOTH + 1] = {"library", "baseline", "test itself"};
+static const struct library libraries[BOTH] = {
+    {shelfegret_size, shelfegret_make, shelfegret_add, shelfegret_find, shelfegret_delete, shelfegret_record,
+     shelfegret_check, shelfegret_add_text, shelfegret_find_text, shelfegret_delete_text, shelfegret_read_text,
+     shelfegret_write_text},
+    {base_size, base_make, base_add, base_find, base_delete, base_record, base_check, base_add_text, base_find_text,
+     base_delete_text, base_read_text, base_write_text},
+};
+
+/* ---- lent buffers */
+
+enum { TABLE_MOST = 16777216, LONGER_MOST = 32, MARKS_MOST = 8192, OUT_MOST = 48, GUARD = 64 };
+
+struct buffer {
+    const char *name;
+    size_t most;
+    uint8_t *room[BOTH]; /* room_size bytes between two pages without access */
+    size_t room_size;
+    uint8_t *at[BOTH]; /* the lent bytes, in each room at the same place */
+    size_t len;
+    size_t front, rear; /* guard bytes before and behind them */
+    int null;           /* pass NULL; only if len is 0 */
+    uint8_t *held;      /* what both copies held before the call; for a table, also what a short one leaves out */
+};
+
+static struct buffer table = {.name = "table", .most = TABLE_MOST + LONGER_MOST};
+static struct buffer marks = {.name = "marks", .most = MARKS_MOST + LONGER_MOST};
+static struct buffer text = {.name = "text", .most = TEXT_MOST};
+static struct buffer out = {.name = "out", .most = OUT_MOST};
+static uint8_t guard[GUARD];
+
+static void *or_give_up(void *memory)
+{
+    if (memory == NULL || memory == MAP_FAILED) {
+        perror("interface");
+        exit(2);
+    }
+    return memory;
+}
+
+static void make_room(struct buffer *b)
+{
+    size_t page = (size_t)sysconf(_SC_PAGESIZE);
+    b->room_size = (b->most + 2 * GUARD + 8 + page - 1) / page * page;
+    for (int i = 0; i < BOTH; i++) {
+        uint8_t *all = or_give_up(mmap(NULL, b->room_size + 2 * page, PROT_NONE, MAP_PRIVATE | MAP_ANONYMOUS, -1, 0));
+        b->room[i] = all + page;
+        if (mprotect(b->room[i], b->room_size, PROT_READ | PROT_WRITE) != 0) or_give_up(NULL);
+    }
+    b->held = or_give_up(malloc(b->most));
+}
+
+static size_t smaller(size_t a, size_t b)
+{
+    return a < b ? a : b;
+}
+
+/* Lends the first len held bytes: at the start of the room, at its end, or somewhere between. */
+static void lend(struct buffer *b, size_t len)
+{
+    uint64_t place = below(3);
+    size_t from = place == 0 ? 0 : place == 1 ? b->room_size - len : GUARD + below(8);
+    b->len = len;
+    b->null = len == 0 && one_in(2);
+    b->front = smaller(GUARD, from);
+    b->rear = smaller(GUARD, b->room_size - from - len);
+    for (int i = 0; i < BOTH; i++) {
+        b->at[i] = b->room[i] + from;
+        memcpy(b->at[i] - b->front, guard, b->front);
+        memcpy(b->at[i], b->held, len);
+        memcpy(b->at[i] + len, guard, b->rear);
+    }
+}
+
+static void lend_noise(struct buffer *b, size_t len)
+{
+    for (size_t i = 0; i < len; i++) b->held[i] = (uint8_t)random_bits();
+    lend(b, len);
+}
+
+static int as_before(const struct buffer *b, int i, size_t written)
+{
+    return memcmp(b->at[i] - b->front, guard, b->front) == 0 && memcmp(b->at[i] + b->len, guard, b->rear) == 0 &&
+           memcmp(b->at[i] + written, b->held + written, b->len - written) == 0;
+}
+
+/* The first `written` bytes are equal in both copies, and all others as before. */
+static int agree(const struct buffer *b, size_t written)
+{
+    return memcmp(b->at[LIBRARY], b->at[BASELINE], written) == 0 && as_before(b, LIBRARY, written) &&
+           as_before(b, BASELINE, written);
+}
+
+/* ---- calls */
+
+enum what { SIZE, MAKE, ADD, FIND, DELETE, RECORD, CHECK, ADD_TEXT, FIND_TEXT, DELETE_TEXT, READ_TEXT, WRITE_TEXT };
+enum { WHATS = WRITE_TEXT + 1 };
+
+struct call {
+    enum what what;
+    settings settings;
+    key key;
+    uint64_t label, n;
+};
+
+enum { TAKES_TABLE = 1, TAKES_MARKS = 2, TAKES_TEXT = 4, TAKES_OUT = 8 };
+enum { CODES = 11, WORDS = 8 };
+#define BIT(n) (1u << (n))
+
+/* what each call takes, and the refusals and words that shelfegret.h gives it; word 0 is no word */
+static const struct {
+    const char *name;
+    unsigned takes, codes, words;
+} of_call[WHATS] = {
+    [SIZE] = {"size", 0, BIT(1), BIT(0)},
+    [MAKE] = {"make", TAKES_TABLE, BIT(1) | BIT(2), BIT(0)},
+    [ADD] = {"add", TAKES_TABLE, BIT(1) | BIT(2) | BIT(5) | BIT(6) | BIT(7) | BIT(8),
+             BIT(SHELFEGRET_ADDED) | BIT(SHELFEGRET_HELD)},
+    [FIND] = {"find", TAKES_TABLE, BIT(1) | BIT(2) | BIT(5) | BIT(7), BIT(SHELFEGRET_HELD) | BIT(SHELFEGRET_NONE)},
+    [DELETE] = {"delete", TAKES_TABLE, BIT(1) | BIT(2) | BIT(5) | BIT(7), BIT(SHELFEGRET_GONE) | BIT(SHELFEGRET_NONE)},
+    [RECORD] = {"record", TAKES_TABLE, BIT(1) | BIT(2) | BIT(7), BIT(SHELFEGRET_RECORD) | BIT(SHELFEGRET_NONE)},
+    [CHECK] = {"check", TAKES_TABLE | TAKES_MARKS, BIT(1) | BIT(2) | BIT(10),
+               BIT(SHELFEGRET_SOUND) | BIT(SHELFEGRET_UNSOUND)},
+    [ADD_TEXT] = {"add_text", TAKES_TABLE | TAKES_TEXT, BIT(1) | BIT(2) | BIT(3) | BIT(4) | BIT(6) | BIT(7) | BIT(8),
+                  BIT(SHELFEGRET_ADDED) | BIT(SHELFEGRET_HELD)},
+    [FIND_TEXT] = {"find_text", TAKES_TABLE | TAKES_TEXT, BIT(1) | BIT(2) | BIT(3) | BIT(4) | BIT(7),
+                   BIT(SHELFEGRET_HELD) | BIT(SHELFEGRET_NONE)},
+    [DELETE_TEXT] = {"delete_text", TAKES_TABLE | TAKES_TEXT, BIT(1) | BIT(2) | BIT(3) | BIT(4) | BIT(7),
+                     BIT(SHELFEGRET_GONE) | BIT(SHELFEGRET_NONE)},
+    [READ_TEXT] = {"read_text", TAKES_TEXT, BIT(4), BIT(0)},
+    [WRITE_TEXT] = {"write_text", TAKES_OUT, BIT(9), BIT(0)},
+};
+
+static uint8_t *lent(const struct buffer *b, int i)
+{
+    return b->null ? NULL : b->at[i];
+}
+
+static answer ask(int i, const struct call *c)
+{
+    const struct library *l = &libraries[i];
+    uint8_t *t = lent(&table, i);
+    switch (c->what) {
+    case SIZE: return l->size(c->settings);
+    case MAKE: return l->make(c->settings, t, table.len);
+    case ADD: return l->add(c->settings, t, table.len, c->key, c->label);
+    case FIND: return l->find(c->settings, t, table.len, c->key);
+    case DELETE: return l->delete(c->settings, t, table.len, c->key);
+    case RECORD: return l->record(c->settings, t, table.len, c->n);
+    case CHECK: return l->check(c->settings, t, table.len, lent(&marks, i), marks.len);
+    case ADD_TEXT: return l->add_text(c->settings, t, table.len, lent(&text, i), text.len, c->label);
+    case FIND_TEXT: return l->find_text(c->settings, t, table.len, lent(&text, i), text.len);
+    case DELETE_TEXT: return l->delete_text(c->settings, t, table.len, lent(&text, i), text.len);
+    case READ_TEXT: return l->read_text(lent(&text, i), text.len);
+    default: return l->write_text(c->key, lent(&out, i), out.len);
+    }
+}
+
+/* The bytes of the buffer that this call, so answered, may have written: its first ones. */
+static size_t written(const struct call *c, answer a, const struct buffer *b)
+{
+    if (a.code) return 0;
+    if (b == &marks) return (c->settings.nob + 7) / 8;
+    if (b == &out) return a.number;
+    if (b == &table && (c->what == MAKE || a.word == SHELFEGRET_ADDED || a.word == SHELFEGRET_GONE))
+        return base_size(c->settings).number;
+    return 0;
+}
+
+/* ---- what is told on a difference */
+
+static uint64_t seed = 1, calls = 10000000, call_number;
+static struct call now;  /* the call under way, */
+static int asked = BOTH; /* and the library that is at it, BOTH if none is */
+
+static void tell_buffer(const struct buffer *b)
+{
+    fprintf(stderr, "  %s: %s%zu bytes", b->name, b->null ? "NULL, " : "", b->len);
+    for (size_t i = 0; i < smaller(b->len, 64); i++) fprintf(stderr, "%s%02x", i ? " " : ", before: ", b->held[i]);
+    if (b == &text) tell_text(b->held, b->len);
+    fprintf(stderr, "\n");
+    size_t differs = 0;
+    while (differs < b->len && b->at[LIBRARY][differs] == b->at[BASELINE][differs]) differs++;
+    if (differs < b->len)
+        fprintf(stderr, "    byte %zu was %02x, is %02x to the library and %02x to the baseline\n", differs,
+                b->held[differs], b->at[LIBRARY][differs], b->at[BASELINE][differs]);
+    for (int i = 0; i < BOTH; i++) {
+        if (!as_before(b, i, b->len)) fprintf(stderr, "    the %s changed guard bytes\n", names[i]);
+        if (!as_before(b, i, 0)) fprintf(stderr, "    the %s changed something\n", names[i]);
+    }
+}
+
+static void tell_call(const char *trouble)
+{
+    settings s = now.settings;
+    unsigned takes = of_call[now.what].takes;
+    fprintf(stderr, "%s\n", trouble);
+    fprintf(stderr, "seed %" PRIu64 ", call %" PRIu64 ": %s\n", seed, call_number, of_call[now.what].name);
+    fprintf(stderr, "  settings: w %u bii %u sib %u nob %u sio %u val %u a %u b %u\n", (unsigned)s.w, (unsigned)s.bii,
+            (unsigned)s.sib, (unsigned)s.nob, (unsigned)s.sio, (unsigned)s.val, (unsigned)s.a, (unsigned)s.b);
+    fprintf(stderr, "  key %016" PRIx64 " %016" PRIx64 ", label %" PRIu64 ", n %" PRIu64 "\n", now.key.high,
+            now.key.low, now.label, now.n);
+    if (takes & TAKES_TABLE) tell_buffer(&table);
+    if (takes & TAKES_MARKS) tell_buffer(&marks);
+    if (takes & TAKES_TEXT) tell_buffer(&text);
+    if (takes & TAKES_OUT) tell_buffer(&out);
+}
+
+static void tell_answer(int i, answer a)
+{
+    fprintf(stderr, "  %s: code %u word %u key %016" PRIx64 " %016" PRIx64 " label %u compared %u number %" PRIu64 "\n",
+            names[i], (unsigned)a.code, (unsigned)a.word, a.key.high, a.key.low, (unsigned)a.label,
+            (unsigned)a.compared, a.number);
+}
+
+static void differ(const char *trouble, const answer *a)
+{
+    tell_call(trouble);
+    tell_answer(LIBRARY, a[LIBRARY]);
+    tell_answer(BASELINE, a[BASELINE]);
+    exit(1);
+}
+
+static void on_fault(int signal_number)
+{
+    (void)signal_number;
+    tell_call("access outside the lent buffers");
+    fprintf(stderr, "  by the %s\n", names[asked]);
+    _exit(1);
+}
+
+/* ---- one call to both */
+
+static uint64_t refusals[WHATS][CODES], words[WHATS][WORDS];
+
+static void count(answer a, const answer *both)
+{
+    if (a.code >= CODES || a.word >= WORDS) differ("no such code or word", both);
+    if (a.code && !(of_call[now.what].codes & BIT(a.code))) differ("not a refusal of this call", both);
+    if (!a.code && !(of_call[now.what].words & BIT(a.word))) differ("not a word of this call", both);
+    if (a.code)
+        refusals[now.what][a.code]++;
+    else
+        words[now.what][a.word]++;
+}
+
+static int same(answer a, answer b)
+{
+    return a.code == b.code && a.word == b.word && a.key.high == b.key.high && a.key.low == b.key.low &&
+           a.label == b.label && a.compared == b.compared && a.number == b.number;
+}
+
+static void settle(struct buffer *b, const answer *a, const char *trouble)
+{
+    size_t n = written(&now, a[LIBRARY], b);
+    if (n > b->len || !agree(b, n)) differ(trouble, a);
+    if (b == &table) memcpy(b->held, b->at[LIBRARY], n);
+}
+
+static answer call_both(struct call c)
+{
+    answer a[BOTH];
+    unsigned takes = of_call[c.what].takes;
+    now = c;
+    call_number++;
+    for (asked = 0; asked < BOTH; asked++) a[asked] = ask(asked, &c);
+    if (!same(a[LIBRARY], a[BASELINE])) differ("the answers differ", a);
+    count(a[LIBRARY], a);
+    if (takes & TAKES_TABLE) settle(&table, a, "bytes of the table differ");
+    if (takes & TAKES_MARKS) settle(&marks, a, "bytes of the marks differ");
+    if (takes & TAKES_TEXT) settle(&text, a, "bytes of the text differ");
+    if (takes & TAKES_OUT) settle(&out, a, "bytes of the output differ");
+    return a[LIBRARY];
+}
+
+/* ---- settings */
+
+static const uint32_t prime_above[17] = {2,   3,    5,    11,   17,   37,    67,    131,  257,
+                                         521, 1031, 2053, 4099, 8209, 16411, 32771, 65537};
+
+struct shape {
+    uint32_t w_least, w_most, bii_most, sib_most, nob_most, sio_most, val_most;
+    size_t size_most;
+    unsigned calls; /* on one such table, at most */
+};
+
+static const struct shape shapes[] = {
+    {2, 10, 3, 3, 6, 3, 3, 64, 1000},                 /* a few bytes */
+    {3, 9, 3, 4, 300, 4, 1, 4096, 1000},              /* slots smaller than a block's number */
+    {2, 128, 4, 8, 20, 15, 32, 16384, 1000},          /* every width */
+    {128, 128, 4, 6, 40, 4, 32, 16384, 1500},         /* addresses */
+    {128, 128, 2, 2, 4, 3, 8, 1024, 1500},            /* addresses, soon full */
+    {2, 128, 16, 255, 65535, 15, 32, 131072, 300},    /* all ranges */
+    {2, 128, 16, 255, 65535, 15, 32, TABLE_MOST, 40}, /* all ranges, up to the largest table */
+};
+enum { SHAPES = sizeof shapes / sizeof *shapes };
+
+static uint32_t between(uint32_t least, uint32_t most)
+{
+    return least + (uint32_t)below((uint64_t)most - least + 1);
+}
+
+/* 1 to most, each power of two as likely as the next */
+static uint32_t spread(uint32_t most)
+{
+    uint32_t bits = 0;
+    while (most >> bits > 1) bits++;
+    uint32_t n = (uint32_t)1 << below(bits + 1);
+    return between(n, most < 2 * n ? most : 2 * n - 1);
+}
+
+/* 0, 1, a power of two or a neighbour of one, or any */
+static uint32_t some_blocks(uint32_t most)
+{
+    uint32_t n = spread(most);
+    switch (below(6)) {
+    case 0: return 0;
+    case 1: return 1;
+    case 2:
+        while (n & (n - 1)) n &= n - 1;
+        return n - (uint32_t)below(2);
+    default: return n;
+    }
+}
+
+static settings settings_of(const struct shape *shape)
+{
+    settings s;
+    s.w = between(shape->w_least, shape->w_most);
+    s.bii = between(0, shape->bii_most);
+    if (s.bii >= s.w) s.bii = (uint32_t)below(s.w);
+    s.sib = one_in(16) ? shape->sib_most : spread(shape->sib_most);
+    s.nob = some_blocks(shape->nob_most);
+    s.sio = between(1, shape->sio_most);
+    s.val = one_in(4) ? 0 : between(0, shape->val_most);
+    s.a = between(1, prime_above[s.bii] - 1);
+    s.b = between(1, prime_above[s.bii] - 1);
+    return s;
+}
+
+static settings legal_settings(const struct shape *shape)
+{
+    for (;;) {
+        settings s = settings_of(shape);
+        answer a = base_size(s);
+        if (!a.code && a.number <= shape->size_most) return s;
+    }
+}
+
+/* a number above `most`: the next, or any */
+static uint32_t beyond(uint32_t most)
+{
+    return one_in(2) ? most + 1 : between(most + 1, UINT32_MAX);
+}
+
+/* the settings with one range or rule broken; now and then they are legal all the same */
+static settings spoilt(settings s)
+{
+    uint32_t p = s.bii <= 16 ? prime_above[s.bii] : 2;
+    switch (below(12)) {
+    case 0: s.w = one_in(2) ? (uint32_t)below(2) : beyond(128); break;
+    case 1: s.bii = beyond(16); break;
+    case 2: s.bii = s.w + (uint32_t)below(3); break;
+    case 3: s.sib = one_in(2) ? 0 : beyond(255); break;
+    case 4: s.nob = beyond(65535); break;
+    case 5: s.sio = one_in(2) ? 0 : beyond(15); break;
+    case 6: s.val = beyond(32); break;
+    case 7: s.a = one_in(2) ? 0 : beyond(p - 1); break;
+    case 8: s.b = one_in(2) ? 0 : beyond(p - 1); break;
+    case 9: /* a basic block may be too small for a block's number */
+        s.w = s.bii + 1 + (uint32_t)below(3);
+        s.sib = between(1, 5);
+        s.val = (uint32_t)below(2);
+        s.nob = some_blocks(65535);
+        break;
+    case 10: /* the table may be too large */
+        s.w = between(100, 128);
+        s.sib = between(1, 255);
+        s.nob = between(0, 65535);
+        break;
+    default:
+        for (uint32_t *field = &s.w; field <= &s.b; field++)
+            if (one_in(3)) *field = (uint32_t)random_bits() >> below(32);
+    }
+    return s;
+}
+
+/* settings of a table as large as can be, or one block larger */
+static settings at_size_limit(void)
+{
+    settings s = settings_of(&shapes[SHAPES - 1]);
+    uint32_t fits = 0, too_many = 65536;
+    while (fits + 1 < too_many) {
+        s.nob = (fits + too_many) / 2;
+        *(base_size(s).code ? &too_many : &fits) = s.nob;
+    }
+    s.nob = fits + (uint32_t)below(2);
+    return s;
+}
+
+/* ---- keys */
+
+static key low_bits(key k, uint32_t n)
+{
+    key ones = {n <= 64 ? 0 : UINT64_MAX >> (128 - n), n >= 64 ? UINT64_MAX : ((uint64_t)1 << n) - 1};
+    k.high &= ones.high;
+    k.low &= ones.low;
+    return k;
+}
+
+/* k with the small number n in front of its last `at` bits */
+static key behind(uint64_t n, uint32_t at, key k)
+{
+    k.high |= at >= 128 ? 0 : at >= 64 ? n << (at - 64) : at ? n >> 1 >> (63 - at) : 0;
+    k.low |= at >= 64 ? 0 : n << at;
+    return k;
+}
+
+/* the key with this entry that belongs to this list */
+static key aimed(settings s, key entry, uint64_t list)
+{
+    uint64_t p = prime_above[s.bii], lists = (uint64_t)1 << s.bii;
+    uint64_t two_64 = (UINT64_MAX % p + 1) % p;
+    uint64_t rest = (entry.high % p * two_64 + entry.low % p) % p;
+    uint64_t hash = (s.a * rest + s.b) % p % lists;
+    return behind((list % lists) ^ hash, s.w - s.bii, entry);
+}
+
+static key random_key(uint32_t w)
+{
+    key k = {random_bits(), random_bits()};
+    return low_bits(k, w);
+}
+
+static key one_bit_off(key k, uint32_t w)
+{
+    uint32_t bit = (uint32_t)below(w);
+    *(bit < 64 ? &k.low : &k.high) ^= (uint64_t)1 << bit % 64;
+    return k;
+}
+
+/* ---- the table under test */
+
+enum { POOL_MOST = 400 };
+static settings at_hand;    /* its settings */
+static size_t size_at_hand; /* and its size */
+static key pool[POOL_MOST]; /* keys that are used again and again */
+static size_t pool_len;
+static int fragile;   /* bits of it are flipped now and then */
+static unsigned mood; /* index into the weights below */
+static uint64_t tables;
+
+/* Often all in a few lists, and at most twice as many as these hold, so that lists overflow, fill and shrink; and
+ * many alike but for a bit. */
+static void make_pool(void)
+{
+    uint32_t bie = at_hand.w - at_hand.bii;
+    uint64_t first_list = random_bits(), lists = one_in(2) ? 1 + below(3) : (uint64_t)1 << at_hand.bii;
+    key entry = random_key(bie);
+    pool_len = 1 + below(smaller(POOL_MOST, 2 * (lists * at_hand.sib + at_hand.nob * at_hand.sio)));
+    for (size_t i = 0; i < pool_len; i++) {
+        entry = one_in(2) ? random_key(bie) : one_bit_off(entry, bie);
+        pool[i] = aimed(at_hand, entry, first_list + below(lists));
+    }
+}
+
+static void fill_table(unsigned density)
+{
+    size_t len = size_at_hand + LONGER_MOST;
+    memset(table.held, 0, len);
+    for (size_t i = 0; i < len; i++)
+        if (below(100) < density || i >= size_at_hand) table.held[i] = (uint8_t)random_bits();
+}
+
+static void new_table(const struct shape *shape)
+{
+    at_hand = legal_settings(shape);
+    size_at_hand = base_size(at_hand).number;
+    fragile = one_in(3);
+    mood = 0;
+    make_pool();
+    fill_table(one_in(8) ? 3 : 100);
+    lend(&table, size_at_hand);
+    if (!one_in(6)) call_both((struct call){.what = MAKE, .settings = at_hand});
+    tables++;
+}
+
+static uint32_t bits_for(uint64_t n) /* the least k with 2^k >= n */
+{
+    uint32_t k = 0;
+    while ((uint64_t)1 << k < n) k++;
+    return k;
+}
+
+/* a bit of the table: of the free start, of a block's counter or link, or any */
+static size_t some_bit(void)
+{
+    settings s = at_hand;
+    size_t slot = s.w - s.bii + s.val, link = s.nob ? bits_for(s.nob) : 0;
+    size_t start = bits_for((uint64_t)s.nob + 1), basic_counter = bits_for((uint64_t)s.sib + 2);
+    size_t counter = bits_for((uint64_t)s.sio + 1), lists = (size_t)1 << s.bii;
+    size_t basic = basic_counter + s.sib * slot, block = counter + link + s.sio * slot;
+    switch (below(4)) {
+    case 0: return below(start + 1);
+    case 1: return start + basic * below(lists) + below(basic_counter + link);
+    case 2:
+        if (s.nob) return start + basic * lists + block * below(s.nob) + below(counter + link);
+        break;
+    }
+    return below(8 * size_at_hand);
+}
+
+static void damage(void)
+{
+    for (uint64_t flips = 1 + below(3); flips; flips--) {
+        size_t bit = some_bit();
+        table.held[bit / 8] ^= (uint8_t)(0x80 >> bit % 8);
+    }
+    lend(&table, table.len);
+}
+
+/* ---- arguments */
+
+/* a key of the pool; often one that the table has, where it has any and they are soon found */
+static key known_key(void)
+{
+    if (at_hand.bii < 8 && one_in(3)) {
+        answer a = base_record(at_hand, table.held, size_at_hand, below(1 + below(pool_len)));
+        if (a.word == SHELFEGRET_RECORD) return a.key;
+    }
+    return pool[below(pool_len)];
+}
+
+static key some_key(settings s)
+{
+    uint32_t w = s.w >= 2 && s.w <= 128 ? s.w : 128;
+    key k = known_key();
+    switch (below(25)) {
+    case 0: return random_key(w);
+    case 1: return one_bit_off(k, w);
+    case 2: return one_bit_off(k, 128);
+    case 3: return low_bits((key){UINT64_MAX, UINT64_MAX}, w < 128 ? w + (uint32_t)below(2) : w);
+    case 4: return one_in(2) ? (key){0, 0} : behind(1, w, (key){0, 0});
+    default: return k;
+    }
+}
+
+static uint64_t some_label(settings s)
+{
+    uint64_t labels = (uint64_t)1 << (s.val <= 32 ? s.val : 32);
+    switch (below(25)) {
+    case 0: return labels;
+    case 1: return labels - 1;
+    case 2: return labels + below(labels);
+    case 3: return ((uint64_t)1 << 32) + below(labels);
+    case 4: return random_bits() >> below(64);
+    default: return below(labels);
+    }
+}
+
+static uint64_t some_number(void)
+{
+    return one_in(12) ? random_bits() >> below(64) : below(one_in(2) ? 8 : pool_len + 4);
+}
+
+/* mostly right; else one short, empty, shorter or longer */
+static size_t some_len(size_t right)
+{
+    switch (below(30)) {
+    case 0: return right ? right - 1 : 0;
+    case 1: return 0;
+    case 2: return below(right + 1);
+    case 3:
+    case 4: return right + 1 + below(LONGER_MOST);
+    default: return right;
+    }
+}
+
+/* The table moves only where its length changes, or now and then. */
+static void lend_table(void)
+{
+    size_t len = some_len(size_at_hand);
+    if (len != table.len || one_in(100)) lend(&table, len);
+}
+
+static void lend_text(settings s)
+{
+    int known = at_hand.w == 128 && s.w == 128 && !one_in(5);
+    lend(&text, any_text(known ? known_key() : random_address(), text.held));
+}
+
+/* ---- which call next */
+
+enum { MOODS = 3 };
+static const unsigned weights[MOODS][WHATS] = {
+    /* size, make, add, find, delete, record, check, and the same with texts */
+    {10, 2, 320, 100, 40, 50, 40, 280, 80, 30, 30, 30}, /* grow */
+    {10, 2, 150, 120, 150, 50, 40, 140, 110, 140, 30, 30},
+    {10, 2, 40, 100, 320, 50, 40, 30, 80, 280, 30, 30}, /* shrink */
+};
+
+static enum what some_call(void)
+{
+    unsigned sum = 0;
+    int what = 0;
+    for (int i = 0; i < WHATS; i++) sum += weights[mood][i];
+    for (uint64_t left = below(sum); left >= weights[mood][what]; what++) left -= weights[mood][what];
+    if (what >= ADD_TEXT && what <= DELETE_TEXT && at_hand.w != 128 && !one_in(6)) what -= ADD_TEXT - ADD;
+    return (enum what)what;
+}
+
+static void step(void)
+{
+    struct call c = {.what = some_call(), .settings = at_hand};
+    if (one_in(100)) mood = (unsigned)below(MOODS);
+    if (fragile && one_in(60)) damage();
+    if (one_in(25)) c.settings = one_in(10) ? at_size_limit() : spoilt(at_hand);
+    c.key = c.what == WRITE_TEXT ? random_address() : some_key(c.settings);
+    c.label = some_label(c.settings);
+    c.n = some_number();
+    lend_table();
+    if (c.what == CHECK) lend_noise(&marks, some_len(smaller((c.settings.nob + 7) / 8, MARKS_MOST)));
+    if (of_call[c.what].takes & TAKES_TEXT) lend_text(c.settings);
+    if (c.what == WRITE_TEXT) lend_noise(&out, below(OUT_MOST + 1));
+    call_both(c);
+}
+
+/* A table of exactly the most bytes, to the last bit; settings that need one bit more are refused. */
+static void largest_table(void)
+{
+    struct call exact = {.what = SIZE, .settings = {128, 15, 34, 246, 11, 7, 32770, 1}};
+    struct call one_more = {.what = SIZE, .settings = {117, 15, 40, 1510, 2, 0, 1, 32770}};
+    at_hand = exact.settings;
+    size_at_hand = call_both(exact).number;
+    if (size_at_hand != TABLE_MOST || call_both(one_more).code != SHELFEGRET_REFUSED_SETTINGS) {
+        tell_call("the limit of a table's size is another");
+        exit(1);
+    }
+    make_pool();
+    fill_table(100);
+    lend(&table, size_at_hand);
+    call_both((struct call){.what = MAKE, .settings = at_hand});
+    for (int i = 0; i < 100; i++) step();
+}
+
+/* ---- the run */
+
+static int seen_enough(const char *name, const char *kind, unsigned i, uint64_t times)
+{
+    uint64_t least = 1 + calls / 50000;
+    if (times < least)
+        fprintf(stderr, "%s: %s %u only %" PRIu64 " times, %" PRIu64 " wanted\n", name, kind, i, times, least);
+    return times >= least;
+}
+
+static int all_seen(void)
+{
+    int good = 1;
+    for (unsigned what = 0; what < WHATS; what++) {
+        for (unsigned i = 0; i < CODES; i++)
+            if (of_call[what].codes & BIT(i)) good &= seen_enough(of_call[what].name, "refusal", i, refusals[what][i]);
+        for (unsigned i = 0; i < WORDS; i++)
+            if (of_call[what].words & BIT(i)) good &= seen_enough(of_call[what].name, "word", i, words[what][i]);
+    }
+    return good;
+}
+
+static void tell_counts(void)
+{
+    printf("interface: %" PRIu64 " calls on %" PRIu64 " tables, no difference\n", call_number, tables);
+    for (unsigned kind = 0; kind < 2; kind++) {
+        printf(kind ? "  words" : "  refusals");
+        for (unsigned i = 1; i < (kind ? WORDS : CODES); i++) {
+            uint64_t sum = 0;
+            for (unsigned what = 0; what < WHATS; what++) sum += kind ? words[what][i] : refusals[what][i];
+            printf(" %u: %" PRIu64, i, sum);
+        }
+        printf("\n");
+    }
+}
+
+int main(int argc, char **argv)
+{
+    if (argc > 1) seed = strtoull(argv[1], NULL, 0);
+    if (argc > 2) calls = strtoull(argv[2], NULL, 0);
+    seed_random(seed);
+    for (int i = 0; i < GUARD; i++) guard[i] = (uint8_t)random_bits();
+    make_room(&table);
+    make_room(&marks);
+    make_room(&text);
+    make_room(&out);
+    signal(SIGSEGV, on_fault);
+    largest_table();
+    while (call_number < calls) {
+        const struct shape *shape = &shapes[one_in(2000) ? SHAPES - 1 : below(SHAPES - 1)];
+        new_table(shape);
+        for (uint64_t left = 1 + below(shape->calls); left && call_number < calls; left--) step();
+    }
+    tell_counts();
+    return all_seen() ? 0 : 1;
+}
