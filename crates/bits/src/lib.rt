@@ -6,7 +6,8 @@ mod number;
 mod word;
 
 ghost use mathlib.Core.Path.{_≡_};
-ghost use Prim.Native.Nat.{_^_, _<_};
+ghost use Prim.Native.Nat.{_+_, _/_, _^_, _≤_, _<_};
+ghost use lib.ListN.{length};
 ghost use Rattle.bits.specs.Field.{field};
 ghost use Rattle.bits.specs.Put.{putField};
 ghost use Rattle.bits.specs.Within.{Within};
@@ -29,6 +30,15 @@ pub fn get(s: &[u8], off: usize, n: usize) -> u64
     }
     let t = a + n - 64;
     number::join(word::get(s, i, a, 64 - a), t, byte::head(s, i + 8, t))
+}
+
+// The same of 1 to 57 bits, where eight bytes are there from the field's first byte on: always one
+// load, with no test, for loops.
+pub fn get_inner(s: &[u8], off: usize, n: usize) -> u64
+    requires { ⌜ (0 < n) × (n ≤ 57) × (off / 8 + 8 ≤ length (now s)) ⌝ }
+    ensures { λ r. ⌜ r ≡ field (now (s .entry)) off n ⌝ }
+{
+    word::get(s, off / 8, off % 8, n)
 }
 
 // The field of n bits from bit off on becomes v, and no other bit changes.

@@ -1,6 +1,6 @@
 // Reads an address in one pass. The groups go into two halves of 64 bits as they come; none is stored.
 ghost use mathlib.Core.Path.{_≡_};
-ghost use Prim.Native.Nat.{_+_, _*_, _≤_, _<_};
+ghost use Prim.Native.Nat.{_+_, _*_, _^_, _≤_, _<_};
 ghost use mathlib.Core.Bool.{cond, _&&_};
 ghost use lib.ListN.{length, drop};
 ghost use lib.Dec.{eqb};
@@ -9,7 +9,7 @@ ghost use Rattle.settings.specs.declared.refusal.Refusal.the-variants as refusa
 ghost use Rattle.reader.specs.Class.{colon, dot};
 ghost use Rattle.reader.specs.Reading.{begins, tail, dotted as dottedGroups};
 ghost use Rattle.reader.specs.Answers.{readingOf};
-ghost use Rattle.reader.specs.ReaderSteps.{Classes, Five, Sized, Fine, headAnswer, until, numeralOf, groupIn, decimalIn, dottedFrom, numberOf, made, toEnd, partFrom, filledWith, afterGap};
+ghost use Rattle.reader.specs.ReaderSteps.{Classes, Five, Sized, Fine, headAnswer, byLength, until, numeralOf, groupIn, decimalIn, dottedFrom, numberOf, made, toEnd, partFrom, filledWith, afterGap};
 ghost use Rattle.reader.specs.declared.Parsed.the-variants as parsed;
 ghost use Rattle.reader.specs.declared.reader.Numeral.the-variants as numeral;
 use crate::Parsed;
@@ -60,6 +60,20 @@ fn ended(value: u64, next: usize, class: u64, end: u64) -> Numeral
     Numeral::Bad
 }
 
+// x if the second byte of a field is no digit, else y if the third is none, else z. All three are computed already, so that
+// the choice is compiled to no jump: one on the length of a group is badly predicted.
+fn by_length(b: u64, c: u64, x: u64, y: u64, z: u64) -> u64
+    ensures { λ r. ⌜ r ≡ byLength b c x y z ⌝ }
+{
+    if 15 < b {
+        return x;
+    }
+    if 15 < c {
+        return y;
+    }
+    z
+}
+
 // The group in the field from `at` on, by the classes of the five bytes from there: none is looked up twice.
 fn group_of(text: &[u8], at: usize, a: u64, b: u64, c: u64, d: u64, e: u64) -> Numeral
     requires { ⌜ Five (now text) at a b c d e × (at ≤ length (now text)) ⌝ }
@@ -71,13 +85,10 @@ fn group_of(text: &[u8], at: usize, a: u64, b: u64, c: u64, d: u64, e: u64) -> N
     if 15 < a {
         return Numeral::Bad;
     }
-    if 15 < b {
-        return ended(a, at + 1, b, COLON);
-    }
-    if 15 < c {
-        return ended(a * 16 + b, at + 2, c, COLON);
-    }
-    ended((a * 16 + b) * 16 + c, at + 3, d, COLON)
+    let value = by_length(b, c, a, a * 16 + b, (a * 16 + b) * 16 + c);
+    let count = by_length(b, c, 1, 2, 3);
+    let end = by_length(b, c, b, c, d);
+    ended(value, at + (count as usize), end, COLON)
 }
 
 // The group in the field from `at` on. Only near the end of the text is each place tested.
@@ -255,8 +266,38 @@ fn eight(groups: Groups) -> Parsed
     refused()
 }
 
-// The head's groups first, the tail's last, and zero groups between, so that there are eight. The head moves up by a power
-// of 65536 that is written out for each count: 2^16, 2^32, 2^48, and whole halves.
+// 65536^n. A product, a quotient or a remainder by it is compiled to a shift or a mask.
+fn power(n: usize) -> u64
+    requires { ⌜ n < 4 ⌝ }
+    ensures { λ r. ⌜ r ≡ 65536 ^ n ⌝ }
+{
+    1 << (16 * n)
+}
+
+// At most four groups before "::": the high half takes them all. If there are none, zero moves by nothing.
+fn raised(head: Groups, tail: Groups) -> Parsed
+    requires { ⌜ Sized head × Sized tail × (head .count ≤ 4) × (head .count + tail .count ≤ 7) ⌝ }
+    ensures { λ r. ⌜ r ≡ filledWith (numberOf head) (head .count) (numberOf tail) (tail .count) ⌝ }
+{
+    let up = power((4 - head.count) % 4);
+    found(head.low * up + tail.high, tail.low)
+}
+
+// Five to seven groups before "::": they go across both halves, and the low half has room for the tail.
+fn across(head: Groups, tail: Groups) -> Parsed
+    requires { ⌜ Sized head × Sized tail × (4 < head .count) × (head .count + tail .count ≤ 7) ⌝ }
+    ensures { λ r. ⌜ r ≡ filledWith (numberOf head) (head .count) (numberOf tail) (tail .count) ⌝ }
+{
+    let up = power(8 - head.count);
+    let over = power(head.count - 4);
+    found(
+        head.high * up + head.low / over,
+        head.low % over * up + tail.low,
+    )
+}
+
+// The head's groups first, the tail's last, and zero groups between, so that there are eight. The shifts are by a variable
+// amount: an arm for each count would be a jump that is badly predicted where texts differ.
 fn filled(head: Groups, tail: Groups) -> Parsed
     requires { ⌜ Sized head × Sized tail × (head .count ≤ 8) × (tail .count ≤ 8) ⌝ }
     ensures { λ r. ⌜ r ≡ filledWith (numberOf head) (head .count) (numberOf tail) (tail .count) ⌝ }
@@ -264,26 +305,10 @@ fn filled(head: Groups, tail: Groups) -> Parsed
     if 7 < head.count + tail.count {
         return refused();
     }
-    let count = head.count;
-    match count {
-        0 => found(tail.high, tail.low),
-        1 => found(head.low * 281474976710656 + tail.high, tail.low),
-        2 => found(head.low * 4294967296 + tail.high, tail.low),
-        3 => found(head.low * 65536 + tail.high, tail.low),
-        4 => found(head.low, tail.low),
-        5 => found(
-            head.high * 281474976710656 + head.low / 65536,
-            head.low % 65536 * 281474976710656 + tail.low,
-        ),
-        6 => found(
-            head.high * 4294967296 + head.low / 4294967296,
-            head.low % 4294967296 * 4294967296 + tail.low,
-        ),
-        _ => found(
-            head.high * 65536 + head.low / 281474976710656,
-            head.low % 281474976710656 * 65536 + tail.low,
-        ),
+    if 4 < head.count {
+        return across(head, tail);
     }
+    raised(head, tail)
 }
 
 // The address whose groups before "::" are read. One part follows, or nothing: a second "::" is not legal.

@@ -1,12 +1,13 @@
 // The layout of the table's bits, computed once a call from the settings.
 ghost use mathlib.Core.Path.{_≡_};
-ghost use Prim.Native.Nat.{_+_, _*_, _^_, _≤_};
+ghost use Prim.Native.Nat.{_+_, _*_, _≤_};
+ghost use Rattle.settings.specs.Log.{ceilLog2};
+ghost use Rattle.settings.specs.Sizes.{linkBits, basicCounterBits, overflowCounterBits};
 ghost use Rattle.settings.specs.Legal.{Ranges};
 ghost use Rattle.settings.specs.Layout.{layoutOf};
-use crate::log::ceil_log2;
-use crate::log::power;
 use crate::refusal::Refusal;
 use crate::settings::Settings;
+use crate::settings::lists_of;
 
 // Blocks of one kind, one after the other: where block 0 begins, and the bits of a counter and of a
 // whole block.
@@ -38,7 +39,7 @@ pub enum Laid {
     Refused(Refusal),
 }
 
-fn wide(x: u32) -> usize
+pub fn wide(x: u32) -> usize
     ensures { λ r. ⌜ r ≡ x ⌝ }
 {
     x as usize
@@ -60,9 +61,19 @@ fn blocks_bits(blocks: usize, block: usize) -> usize
     blocks * block
 }
 
+// ⌈log2(1 + nob)⌉ from ⌈log2 nob⌉: it is 1 more where nob is a power of two, and the quotient is 1 there alone.
+fn free_bits(nob: usize, link: usize) -> usize
+    requires { ⌜ (nob ≤ 65535) × (link ≤ 16) × (link ≡ ceilLog2 nob) ⌝ }
+    ensures { λ r. ⌜ (r ≡ ceilLog2 (1 + nob)) × (r ≤ 16) ⌝ }
+{
+    link + (nob >> link)
+}
+
 impl Layout {
-    pub fn of(s: Settings) -> Layout
-        requires { ⌜ Ranges s ⌝ }
+    // The layout for settings in their ranges, from the widths that a search has found for them: of a link, and of the
+    // counters of basic and of overflow blocks.
+    pub(crate) fn with(s: Settings, link: usize, counter: usize, further: usize) -> Layout
+        requires { ⌜ Ranges s × (link ≡ linkBits s) × (link ≤ 16) × (counter ≡ basicCounterBits s) × (counter ≤ 9) × (further ≡ overflowCounterBits s) × (further ≤ 4) ⌝ }
         ensures { λ r. ⌜ r ≡ layoutOf s ⌝ }
     {
         let bie = wide(s.w - s.bii);
@@ -71,16 +82,13 @@ impl Layout {
         let sib = wide(s.sib);
         let nob = wide(s.nob);
         let sio = wide(s.sio);
-        let lists = wide(power(wide(s.bii)));
-        let link = ceil_log2(s.nob);
-        let free_start = ceil_log2(1 + s.nob);
-        let counter = ceil_log2(2 + s.sib);
+        let lists = lists_of(s.bii).0;
+        let free_start = free_bits(nob, link);
         let basic = Blocks {
             start: free_start,
             counter: counter,
             bits: block_bits(counter, sib, slot),
         };
-        let further = ceil_log2(1 + s.sio);
         let overflow = Blocks {
             start: free_start + blocks_bits(lists, basic.bits),
             counter: further,

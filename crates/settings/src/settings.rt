@@ -1,42 +1,63 @@
 // The settings of a table, and the rules that they keep.
 ghost use mathlib.Core.Path.{_≡_};
 ghost use mathlib.Core.Bool.{_&&_};
-ghost use Prim.Native.Nat.{_≤_};
+ghost use Prim.Native.Nat.{_^_, _≤_};
+ghost use lib.Dec.{leb, ltb};
 ghost use Rattle.settings.specs.Prime.{primeAbove};
-ghost use Rattle.settings.specs.Legal.{Ranges, inRanges, fits, belowPrime};
+ghost use Rattle.settings.specs.Legal.{Ranges, fits, belowPrime};
 ghost use Rattle.settings.specs.Layout.{layoutOf};
 ghost use Rattle.settings.specs.Made.{madeOf, sizeOf, laidOf};
 use crate::layout::Laid;
 use crate::layout::Layout;
+use crate::layout::wide;
+use crate::log::byte_log2;
+use crate::log::ceil_log2;
+use crate::log::small_log2;
 use crate::refusal::Refusal;
 
-// The smallest prime above each power of two up to 65,536.
-const PRIMES: [u32; 17] = [
-    2,
-    3,
-    5,
-    11,
-    17,
-    37,
-    67,
-    131,
-    257,
-    521,
-    1031,
-    2053,
-    4099,
-    8209,
-    16411,
-    32771,
-    65537,
-];
+// The number of lists, 2^bii, and p, the smallest prime above it.
+pub struct Lists(pub usize, pub u32);
 
-// p: the smallest prime above 2 to the k.
-pub fn prime(k: usize) -> u32
-    requires { ⌜ k ≤ 16 ⌝ }
-    ensures { λ r. ⌜ r ≡ primeAbove k ⌝ }
+// A match is compiled to a table that is there once, where a constant array would be built anew at each use. No bii has
+// the last arm; if it were the arm of 16, a test would stand before the table.
+pub fn lists_of(bii: u32) -> Lists
+    requires { ⌜ bii ≤ 16 ⌝ }
+    ensures { λ r. ⌜ (r .0 ≡ 2 ^ bii) × (r .1 ≡ primeAbove bii) ⌝ }
 {
-    PRIMES[k]
+    match bii {
+        0 => Lists(1, 2),
+        1 => Lists(2, 3),
+        2 => Lists(4, 5),
+        3 => Lists(8, 11),
+        4 => Lists(16, 17),
+        5 => Lists(32, 37),
+        6 => Lists(64, 67),
+        7 => Lists(128, 131),
+        8 => Lists(256, 257),
+        9 => Lists(512, 521),
+        10 => Lists(1024, 1031),
+        11 => Lists(2048, 2053),
+        12 => Lists(4096, 4099),
+        13 => Lists(8192, 8209),
+        14 => Lists(16384, 16411),
+        15 => Lists(32768, 32771),
+        16 => Lists(65536, 65537),
+        _ => Lists(0, 1),
+    }
+}
+
+// Whether 1 ≤ x < p, in one comparison: 0 wraps to the largest number.
+fn below(x: u32, p: u32) -> bool
+    requires { ⌜ 1 ≤ p ⌝ }
+    ensures { λ r. ⌜ r ≡ (leb 1 x && ltb x p) ⌝ }
+{
+    std::num::wrapping_sub_u32(x, 1) < p - 1
+}
+
+fn between(low: u32, x: u32, high: u32) -> bool
+    ensures { λ r. ⌜ r ≡ (leb low x && leb x high) ⌝ }
+{
+    (low <= x) & (x <= high)
 }
 
 // Laid out as C lays it out, since C callers hand it over as it is.
@@ -113,41 +134,59 @@ impl Settings {
         }
     }
 
-    // The layout of the table's bits, if the settings are legal. Every call on a table starts with it.
+    // The layout of the table's bits, if the settings are legal. Every call on a table starts with it. A number's range is
+    // tested behind the search for the width of its field: on most ways through the search it is then known to be kept,
+    // and the compiler leaves the test out.
     pub fn layout(self) -> Laid
         ensures { λ r. ⌜ r ≡ laidOf self ⌝ }
     {
-        if self.in_ranges() {
-            let g = Layout::of(self);
-            if self.keeps_rules(g) {
-                return Laid::Layout(g);
-            }
+        if !self.widths_in_ranges() {
+            return Laid::Refused(Refusal::Settings);
         }
-        Laid::Refused(Refusal::Settings)
+        if !self.below_prime() {
+            return Laid::Refused(Refusal::Settings);
+        }
+        let further = small_log2(1 + wide(self.sio));
+        if !between(Settings::SIO_MIN, self.sio, Settings::SIO_MAX) {
+            return Laid::Refused(Refusal::Settings);
+        }
+        let counter = byte_log2(2 + wide(self.sib));
+        if !between(Settings::SIB_MIN, self.sib, Settings::SIB_MAX) {
+            return Laid::Refused(Refusal::Settings);
+        }
+        let link = ceil_log2(wide(self.nob));
+        if self.nob > Settings::NOB_MAX {
+            return Laid::Refused(Refusal::Settings);
+        }
+        let g = Layout::with(self, link, counter, further);
+        if !self.keeps_rules(g) {
+            return Laid::Refused(Refusal::Settings);
+        }
+        Laid::Layout(g)
     }
 
-    fn in_ranges(self) -> bool
-        ensures { λ r. ⌜ r ≡ inRanges self ⌝ }
+    // The two groups are for speed: with one comparison alone as its last part the whole would be compiled without jumps.
+    fn widths_in_ranges(self) -> bool
+        ensures { λ r. ⌜ r ≡ ((leb 2 (self .w) && leb (self .w) 128) && (leb (self .bii) 16 && ltb (self .bii) (self .w) && leb (self .val) 32)) ⌝ }
     {
-        (Settings::W_MIN <= self.w)
-            & (self.w <= Settings::W_MAX)
-            & (self.bii <= Settings::BII_MAX)
-            & (self.bii < self.w)
-            & (Settings::SIB_MIN <= self.sib)
-            & (self.sib <= Settings::SIB_MAX)
-            & (self.nob <= Settings::NOB_MAX)
-            & (Settings::SIO_MIN <= self.sio)
-            & (self.sio <= Settings::SIO_MAX)
-            & (self.val <= Settings::VAL_MAX)
+        between(Settings::W_MIN, self.w, Settings::W_MAX)
+            & ((self.bii <= Settings::BII_MAX)
+                & (self.bii < self.w)
+                & (self.val <= Settings::VAL_MAX))
+    }
+
+    fn below_prime(self) -> bool
+        requires { ⌜ self .bii ≤ 16 ⌝ }
+        ensures { λ r. ⌜ r ≡ belowPrime self ⌝ }
+    {
+        let p = lists_of(self.bii).1;
+        below(self.a, p) & below(self.b, p)
     }
 
     fn keeps_rules(self, g: Layout) -> bool
         requires { ⌜ (Ranges self) × (g ≡ layoutOf self) ⌝ }
-        ensures { λ r. ⌜ r ≡ (fits self && belowPrime self) ⌝ }
+        ensures { λ r. ⌜ r ≡ fits self ⌝ }
     {
-        let p = prime(self.bii as usize);
-        (g.link <= g.basic.bits - g.basic.counter)
-            & (g.bytes <= Settings::BYTES_MAX)
-            & ((1 <= self.a) & (self.a < p) & (1 <= self.b) & (self.b < p))
+        (g.link <= g.basic.bits - g.basic.counter) & (g.bytes <= Settings::BYTES_MAX)
     }
 }

@@ -12,6 +12,7 @@ pub mod Sound
 pub mod Computing
 -- Laws behind the code.
 pub mod Reads
+pub mod Tails
 pub mod Walks
 pub mod Finds
 pub mod Opened

@@ -4,9 +4,10 @@ use crate::blocks::overflow_counter;
 use crate::blocks::overflow_link;
 use crate::blocks::overflow_slots;
 use crate::slots::Slots;
+use crate::slots::least;
 use settings::Layout;
 ghost use mathlib.Core.Path.{_≡_};
-ghost use Prim.Native.Nat.{_<_, _≤_, min};
+ghost use Prim.Native.Nat.{_<_, _≤_};
 ghost use Rattle.settings.specs.Proper.{Proper};
 ghost use Rattle.table.specs.Decode.{decode};
 ghost use Rattle.table.specs.Table.{Table};
@@ -35,12 +36,6 @@ pub fn follow(t: &[u8], g: Layout, first: usize) -> usize
         k += 1;
     }
     g.nob
-}
-
-fn least(a: usize, b: usize) -> usize
-    ensures { λ r. ⌜ r ≡ min a b ⌝ }
-{
-    if a < b { a } else { b }
 }
 
 // The first n slots of basic block i, as they stand: those of a list that has no overflow blocks.

@@ -7,16 +7,11 @@ use native.Mathlib.Omega.{arith}
 use lib.Arith.{lt-one, digits-lt}
 use lib.Dec.{ltb, eqb}
 use lib.Pow.{pow-pos, pow-mono, pow-add, shr-shr, split, high, low, mod-pow-add, mod-mod-pow}
-use borrow.Author.Tests.{ltb-true, ltb-false, lt-ltb, eqb-true, eqb-false, le-ltb}
-use Rattle.settings.specs.theory.Cases.{cases}
+use borrow.Author.Tests.{eqb-true, eqb-false, le-ltb}
+use Rattle.settings.specs.theory.Cases.{cases, same-test}
 
 power-split : {k n : ℕ} → k ≤ n → 2 ^ n ≡ 2 ^ (n - k) * 2 ^ k
 power-split {k} {n} le = ap (λ (m : ℕ). 2 ^ m) (sym (sub-add-cancel le)) ∙ pow-add 2 (n - k) k
-
-same-test : (a b c d : ℕ) → (a < b → c < d) → (c < d → a < b) → ltb a b ≡ ltb c d
-same-test a b c d f g =
-    cases (ltb c d) (λ t. lt-ltb a b (g (ltb-true c d t)) ∙ sym t)
-    (λ t. cases (ltb a b) (λ u. absurd (let k = f (ltb-true a b u) in let m = ltb-false c d t in omega arith)) (λ u. u ∙ sym t))
 
 -- ---- the cut is in the high word
 module _ (h : ℕ) {l n : ℕ} (fits : l < 2 ^ 64) (cut : 64 ≤ n) where

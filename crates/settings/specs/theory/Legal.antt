@@ -1,7 +1,7 @@
 -- What legal settings keep, as facts; and what the answers to settings tell.
-use mathlib.Core.Path.{_≡_}
-use mathlib.Core.Bool.{true, false}
-use Prim.Native.Nat.{ℕ, _*_}
+use mathlib.Core.Path.{_≡_, sym, _∙_}
+use mathlib.Core.Bool.{Bool, true, false, true≢false, _&&_}
+use Prim.Native.Nat.{ℕ, _*_, _≤_, _<_}
 use native.Mathlib.Omega.{arith}
 use lib.Dec.{leb, ltb}
 use borrow.Author.Tests.{leb-true, ltb-true, le-leb, lt-ltb}
@@ -63,10 +63,9 @@ module _ (s : Settings) where
       }
 
   -- and back: settings that keep every range and rule are legal
-  pub legal-if : Legal s → legal s ≡ true
-  unfolding legal inRanges fits belowPrime
-  legal-if l =
-      let r = l .ranges in
+  in-ranges-if : Ranges s → inRanges s ≡ true
+  unfolding inRanges
+  in-ranges-if r =
       rw (
         le-leb 2 (s .w) (r .w-low),
         le-leb (s .w) 128 (r .w-high),
@@ -78,13 +77,82 @@ module _ (s : Settings) where
         le-leb 1 (s .sio) (r .sio-low),
         le-leb (s .sio) 15 (r .sio-high),
         le-leb (s .val) 32 (r .val-high),
-        le-leb (linkBits s) (s .sib * slotBits s) (l .link-fits),
-        le-leb (tableBytes s) 16777216 (l .bytes-high),
+      )
+
+  pub fits-if : Legal s → fits s ≡ true
+  unfolding fits
+  fits-if l =
+      rw (le-leb (linkBits s) (s .sib * slotBits s) (l .link-fits), le-leb (tableBytes s) 16777216 (l .bytes-high))
+
+  pub below-prime-if : Legal s → belowPrime s ≡ true
+  unfolding belowPrime
+  below-prime-if l =
+      rw (
         le-leb 1 (s .a) (l .a-low),
         lt-ltb (s .a) (primeAbove (s .bii)) (l .a-below),
         le-leb 1 (s .b) (l .b-low),
         lt-ltb (s .b) (primeAbove (s .bii)) (l .b-below),
       )
+
+  pub legal-if : Legal s → legal s ≡ true
+  unfolding legal
+  legal-if l = rw (in-ranges-if (l .ranges), fits-if l, below-prime-if l)
+
+  -- ---- the ranges as the code tests them
+
+  abbrev pub widthsKept : Bool
+  widthsKept = (leb 2 (s .w) && leb (s .w) 128) && (leb (s .bii) 16 && ltb (s .bii) (s .w) && leb (s .val) 32)
+
+  pub widths-if : Ranges s → widthsKept ≡ true
+  widths-if r =
+      rw (
+        le-leb 2 (s .w) (r .w-low),
+        le-leb (s .w) 128 (r .w-high),
+        le-leb (s .bii) 16 (r .bii-high),
+        lt-ltb (s .bii) (s .w) (r .bii-below),
+        le-leb (s .val) 32 (r .val-high),
+      )
+
+  widths-mean : widthsKept ≡ true → (2 ≤ s .w) × (s .w ≤ 128) × (s .bii ≤ 16) × (s .bii < s .w) × (s .val ≤ 32)
+  widths-mean h =
+      let t = both-true (leb 2 (s .w) && leb (s .w) 128) _ h in
+      let w = both-true (leb 2 (s .w)) (leb (s .w) 128) (t .0) in
+      let v = both-true _ (leb (s .val) 32) (t .1) in
+      let b = both-true (leb (s .bii) 16) (ltb (s .bii) (s .w)) (v .0) in
+      (leb-true 2 (s .w) (w .0), leb-true (s .w) 128 (w .1), leb-true (s .bii) 16 (b .0), ltb-true (s .bii) (s .w) (b .1), leb-true (s .val) 32 (v .1))
+
+  pub bii-means : widthsKept ≡ true → s .bii ≤ 16
+  bii-means h = widths-mean h .2
+
+  pub ranges-from : widthsKept ≡ true → (leb 1 (s .sio) && leb (s .sio) 15) ≡ true
+      → (leb 1 (s .sib) && leb (s .sib) 255) ≡ true → s .nob ≤ 65535 → Ranges s
+  ranges-from h o b n =
+      let w = widths-mean h in
+      let sio = both-true (leb 1 (s .sio)) (leb (s .sio) 15) o in
+      let sib = both-true (leb 1 (s .sib)) (leb (s .sib) 255) b in
+      record {
+        w-low = w .0;
+        w-high = w .1;
+        bii-high = w .2;
+        bii-below = w .3;
+        sib-low = leb-true 1 (s .sib) (sib .0);
+        sib-high = leb-true (s .sib) 255 (sib .1);
+        nob-high = n;
+        sio-low = leb-true 1 (s .sio) (sio .0);
+        sio-high = leb-true (s .sio) 15 (sio .1);
+        val-high = w .4;
+      }
+
+  -- ---- what the answers to settings tell
+
+  pub laid-if : Ranges s → belowPrime s ≡ true → fits s ≡ true → laid.Layout (layoutOf s) ≡ laidOf s
+  unfolding laidOf legal
+  laid-if r p f = rw (in-ranges-if r, f, p)
+
+  -- a test that legal settings pass refuses the others
+  pub refused-if : {t : Bool} → (Legal s → t ≡ true) → t ≡ false → laid.Refused refusal.Settings ≡ laidOf s
+  unfolding laidOf
+  refused-if f e = cases (legal s) (λ l. absurd (true≢false (sym (f (legal-means l)) ∙ e))) (λ l. rw l)
 
   -- a layout is answered to legal settings alone, and is theirs
   pub laid-layout : (g : Layout) → laidOf s ≡ laid.Layout g → (legal s ≡ true) × (layoutOf s ≡ g)

@@ -1,19 +1,25 @@
--- The layout of legal settings is proper.
+-- The layout of legal settings is proper, and widths are small.
 use mathlib.Core.Path.{refl}
-use Prim.Native.Nat.{_+_}
+use Prim.Native.Nat.{_+_, _≤_}
 use native.Mathlib.Omega.{arith}
 use lib.Pow.{pow-pos, pow-mono}
 use Rattle.settings.specs.Sizes.{linkBits, freeStartBits, basicCounterBits, basicBlockBits, lists, overflowCounterBits, overflowBlockBits, overflowStart, tableBits, tableBytes}
-use Rattle.settings.specs.Legal.{Legal}
+use Rattle.settings.specs.Legal.{Ranges, Legal}
 use Rattle.settings.specs.Layout.{layoutOf}
 use Rattle.settings.specs.Proper.{Proper}
 use Rattle.settings.specs.theory.Logs.{log-holds, log-least}
 use Rattle.settings.specs.declared.settings.Settings.{Settings}
 
+pub widths-small : (s : Settings) → Ranges s → (linkBits s ≤ 16) × (basicCounterBits s ≤ 9) × (overflowCounterBits s ≤ 4)
+unfolding linkBits basicCounterBits overflowCounterBits
+widths-small s r =
+    (log-least (s .nob) 16 (omega arith), log-least (2 + s .sib) 9 (omega arith), log-least (1 + s .sio) 4 (omega arith))
+
 pub layout-proper : (s : Settings) → Legal s → Proper (layoutOf s)
 unfolding layoutOf linkBits freeStartBits basicCounterBits basicBlockBits lists overflowCounterBits overflowBlockBits overflowStart tableBits tableBytes
 layout-proper s l =
     let r = l .ranges in
+    let small = widths-small s r in
     record {
       slot-is = refl;
       bie-low = omega arith;
@@ -26,10 +32,10 @@ layout-proper s l =
       sio-high = r .sio-high;
       lists-low = pow-pos (s .bii);
       lists-high = pow-mono (r .bii-high);
-      link-high = log-least (s .nob) 16 (omega arith);
+      link-high = small .0;
       free-high = log-least (1 + s .nob) 16 (omega arith);
-      basic-high = log-least (2 + s .sib) 9 (omega arith);
-      overflow-high = log-least (1 + s .sio) 4 (omega arith);
+      basic-high = small .1;
+      overflow-high = small .2;
       link-fits = l .link-fits;
       basic-is = refl;
       overflow-is = refl;

@@ -4,9 +4,9 @@ use mathlib.Core.Logic.{inr}
 use mathlib.Core.List.{List, _∷_}
 use Prim.Native.Nat.{ℕ, zero, suc, _+_, _-_, _*_, _/_, _%_, _^_, _≤_, _<_, min}
 use native.Mathlib.Omega.{arith}
-use native.Mathlib.Nat.{mul-le-mul-right, mod-eq-of-lt}
+use native.Mathlib.Nat.{sub-add-cancel, mul-le-mul-right, mod-eq-of-lt}
 use lib.ListN.{length, getD, take}
-use lib.Pow.{high, low, pow-mono}
+use lib.Pow.{split, high, low, pow-mono}
 use mathlib.Core.Bool.{false}
 use lib.Dec.{eqb}
 use borrow.Author.Tests.{eq-eqb, ne-eqb, eqb-true, eqb-false}
@@ -73,26 +73,37 @@ pub entry-low : (k : Key) (n : ℕ) → n ≤ 64 → keyNumber k < 2 ^ n → key
 unfolding keyNumber
 entry-low k n h l = let m = pow-mono h in omega arith
 
-module _ (s : List ℕ) (at n : ℕ) (k : Key) (h : 64 ≤ n) (l : k .low < 2 ^ 64) where
-  field-halves : field s at n ≡ field s at (n - 64) * 2 ^ 64 + field s (at + (n - 64)) 64
-  field-halves = let e : n ≡ n - 64 + 64 = omega arith in ap (field s at) e ∙ field-cat s at (n - 64) 64
+-- numbers whose last m bits are the same are the same if their other bits are
+same-above : (x e m : ℕ) → x % 2 ^ m ≡ e % 2 ^ m → eqb (x / 2 ^ m) (e / 2 ^ m) ≡ eqb x e
+same-above x e m q =
+    cases (eqb (x / 2 ^ m) (e / 2 ^ m))
+    (λ p. rw p (sym (eq-eqb x e (sym (split x m) ∙ ap₂ (λ (a b : ℕ). a * 2 ^ m + b) (eqb-true (x / 2 ^ m) (e / 2 ^ m) p) q ∙ split e m))))
+    (λ p. rw p (sym (ne-eqb x e (λ r. eqb-false (x / 2 ^ m) (e / 2 ^ m) p (ap (λ (y : ℕ). y / 2 ^ m) r)))))
 
+-- a field is compared by its last m bits and then by the others
+module _ (s : List ℕ) (at n m e : ℕ) (h : m ≤ n) where
+  last-bits : field s at n % 2 ^ m ≡ field s (at + (n - m)) m
+  last-bits = ap (λ (w : ℕ). field s at w % 2 ^ m) (sym (sub-add-cancel h)) ∙ last-field s at (n - m) m
+
+  first-bits : field s at n / 2 ^ m ≡ field s at (n - m)
+  first-bits = ap (λ (w : ℕ). field s at w / 2 ^ m) (sym (sub-add-cancel h)) ∙ first-field s at (n - m) m
+
+  pub last-differ : (field s (at + (n - m)) m ≡ e % 2 ^ m → ⊥) → eqb (field s at n) e ≡ false
+  last-differ d = ne-eqb (field s at n) e (λ q. d (sym last-bits ∙ ap (λ (x : ℕ). x % 2 ^ m) q))
+
+  pub last-same : field s (at + (n - m)) m ≡ e % 2 ^ m → eqb (field s at (n - m)) (e / 2 ^ m) ≡ eqb (field s at n) e
+  last-same q = ap (λ (x : ℕ). eqb x (e / 2 ^ m)) (sym first-bits) ∙ same-above (field s at n) e m (last-bits ∙ q)
+
+module _ (s : List ℕ) (at n : ℕ) (k : Key) (h : 64 ≤ n) (l : k .low < 2 ^ 64) where
   pub entry-differs : (field s (at + (n - 64)) 64 ≡ k .low → ⊥) → eqb (field s at n) (keyNumber k) ≡ false
   unfolding keyNumber
-  entry-differs d =
-      let f = field-lt s (at + (n - 64)) 64 in
-      ne-eqb (field s at n) (k .high * 2 ^ 64 + k .low) (λ q. d (omega (arith, field-halves)))
+  entry-differs d = last-differ s at n 64 (k .high * 2 ^ 64 + k .low) h (λ q. d (q ∙ low (k .high) 64 l))
 
   pub entry-halves : field s (at + (n - 64)) 64 ≡ k .low → eqb (field s at (n - 64)) (k .high) ≡ eqb (field s at n) (keyNumber k)
   unfolding keyNumber
   entry-halves q =
-      cases (eqb (field s at (n - 64)) (k .high))
-      (λ p.
-      let e = eqb-true (field s at (n - 64)) (k .high) p in
-      rw p (sym (eq-eqb (field s at n) (k .high * 2 ^ 64 + k .low) (omega (arith, field-halves)))))
-      (λ p.
-      let e = eqb-false (field s at (n - 64)) (k .high) p in
-      rw p (sym (ne-eqb (field s at n) (k .high * 2 ^ 64 + k .low) (λ r. e (omega (arith, field-halves))))))
+      ap (eqb (field s at (n - 64))) (sym (high (k .high) 64 l))
+      ∙ last-same s at n 64 (k .high * 2 ^ 64 + k .low) h (q ∙ sym (low (k .high) 64 l))
 
 module _ (g : Layout) (t : List ℕ) (b : Slots) where
   pub slots-length : length (slotsIn g t b) ≡ b .count

@@ -1,27 +1,18 @@
 -- Each arm is the law `folded-same` at its own prime and coefficients, whose remainders are computed.
 use mathlib.Core.Path.{_≡_, refl, sym, ap, _∙_}
-use Prim.Native.Nat.{ℕ, zero, suc, _+_, _*_, _/_, _%_, _^_, _≤_, zero-le}
+use Prim.Native.Nat.{ℕ, _+_, _*_, _/_, _%_, _^_, _≤_}
 use native.Mathlib.Nat.{le-antisymm}
-use lib.Arith.{lt-of-le-ne}
 use lib.ListN.{getD}
 use borrow.Author.Needs.{needs}
 use Rattle.settings.specs.Prime.{primeAbove}
 use Rattle.settings.specs.Key.{keyNumber}
+use Rattle.settings.specs.theory.Cases.{at-least}
 use Rattle.settings.specs.theory.Primes.{primes, prime-table}
 use Rattle.settings.specs.theory.Remainders.{folded-same}
 use Rattle.settings.specs.declared.settings.Settings.{Settings}
 use Rattle.settings.specs.declared.keys.Key.{Key}
 use Rattle.settings.proofs.keys.remainder.Statement.{statement}
 use Rattle.settings.proofs.keys.remainder.Tie as tie
-
--- a number that is none of those below k, one after the other, is at least k
-abbrev NoneOf : ℕ → ℕ → Type 0
-NoneOf zero n = Unit
-NoneOf (suc k) n = NoneOf k n × (n ≡ k → ⊥)
-
-at-least : (k n : ℕ) → NoneOf k n → k ≤ n
-at-least zero n h = zero-le
-at-least (suc k) n h = lt-of-le-ne (at-least k n (h .0)) (λ e. h .1 (sym e))
 
 module _ (start : tie.Start) (k c₁ c₂ c₃ : ℕ) where
   abbrev p : ℕ

@@ -2,7 +2,7 @@
 use mathlib.Core.List.{List, [], _∷_}
 use mathlib.Core.Bool.{Bool}
 use Prim.Native.Nat.{ℕ, _^_}
-use lib.Dec.{eqb, eqb→eq, leb, leb→le}
+use lib.Dec.{eqb, eqb→eq}
 use lib.ListN.{getD}
 use borrow.Author.Needs.{needs}
 use Rattle.settings.specs.theory.Tables.{at}
@@ -15,9 +15,6 @@ powers = 1 ∷ 2 ∷ 4 ∷ 8 ∷ 16 ∷ 32 ∷ 64 ∷ 128 ∷ 256 ∷ 512 ∷ 10
 right : ℕ → ℕ → Bool
 right k x = eqb x (2 ^ k)
 
-bounded : ℕ → ℕ → Bool
-bounded k x = leb x 65536
-
 mul-result : tie.Need-mul-result
 mul-result c = search needs
 
@@ -25,11 +22,8 @@ array-read-result : tie.Need-array-read-result
 array-read-result c = search needs
 
 returns : tie.Need-returns
-unfolding powers right bounded
-returns c = (
-  eqb→eq (getD powers (c .args .k) 0) (2 ^ c .args .k) (at right powers tt (c .args .k) (search needs)),
-  leb→le (getD powers (c .args .k) 0) 65536 (at bounded powers tt (c .args .k) (search needs)),
-)
+unfolding powers right
+returns c = eqb→eq (getD powers (c .args .k) 0) (2 ^ c .args .k) (at right powers tt (c .args .k) (search needs))
 
 pub power-spec : {M : Type 1} → statement M
 power-spec = tie.close (tie.spec mul-result array-read-result returns)
