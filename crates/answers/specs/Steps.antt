@@ -12,7 +12,13 @@ use Rattle.commands.specs.declared.command.Request.{Request}
 use Rattle.answers.specs.Program.{program}
 use Rattle.answers.specs.Outcome.{ofFind, ofAdd, ofDelete}
 use Rattle.answers.specs.Answer.{outcomeText, lineText, lineTable}
+use Rattle.answers.specs.declared.outcome.Word.{Word}
+use Rattle.answers.specs.declared.outcome.Word.the-variants as word
 use Rattle.answers.specs.declared.outcome.Outcome.{Outcome}
+
+-- one of the two words that say a change
+abbrev pub Change : Word → Type 0
+Change w = (w ≡ word.Held → ⊥) × (w ≡ word.None → ⊥)
 
 -- text was put at the place `at` of out, which is now out′, and r is the place behind it
 pub record Put (text out : List ℕ) (at : ℕ) (out′ : List ℕ) (r : ℕ) : Type 0 where

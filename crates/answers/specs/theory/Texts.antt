@@ -1,4 +1,5 @@
 -- How long the parts of an answer are.
+use mathlib.Core.Path.{_≡_, refl}
 use Prim.Native.Nat.{ℕ, _^_, _≤_, _<_}
 use mathlib.Core.List.{[], _∷_, _++_}
 use native.Mathlib.Omega.{arith}
@@ -7,6 +8,7 @@ use lib.Dec.{lit≤}
 use Rattle.address.specs.Ascii.{ascii}
 use Rattle.answers.specs.Answer.{wordText, numbersText}
 use Rattle.answers.specs.Decimal.{decimalText}
+use Rattle.answers.specs.Steps.{Change}
 use Rattle.answers.specs.theory.Decimal.{decimal-short}
 use Rattle.answers.specs.declared.outcome.Word.{Word}
 use Rattle.answers.specs.declared.outcome.Word.the-variants as word
@@ -17,6 +19,14 @@ word-short word.Added = lit≤ tt
 word-short word.Held = lit≤ tt
 word-short word.Gone = lit≤ tt
 word-short word.None = lit≤ tt
+
+-- of the words of a change, what is not "added" is "gone"
+pub gone-text : (w : Word) → Change w → (w ≡ word.Added → ⊥) → wordText w ≡ ascii " gone "
+unfolding wordText
+gone-text word.Added h n = absurd (n refl)
+gone-text word.Held h n = absurd (h .0 refl)
+gone-text word.Gone h n = refl
+gone-text word.None h n = absurd (h .1 refl)
 
 pub numbers-short : (label compared : ℕ) → label < 2 ^ 32 → compared < 2 ^ 32 → length (numbersText label compared) ≤ 22
 unfolding numbersText

@@ -1,5 +1,7 @@
--- Each word is a byte string.
-use mathlib.Core.Path.{_≡_, sym, ap, _∙_}
+-- "held", or one of the others.
+use mathlib.Core.Path.{sym, ap}
+use mathlib.Core.Logic.{⊎-elim}
+use native.Mathlib.Omega.{arith}
 use Rattle.address.specs.Ascii.{ascii}
 use Rattle.answers.specs.Answer.{wordText}
 use Rattle.answers.specs.theory.Puts.{put-as}
@@ -16,32 +18,10 @@ slice-aggregate-put c = search needs
 put-requires : tie.Need-put-requires
 put-requires c κs = search needs
 
-enum-told-2 : tie.Need-enum-told-2
-enum-told-2 c = search needs
-
-slice-aggregate-put-2 : tie.Need-slice-aggregate-put-2
-slice-aggregate-put-2 c = search needs
-
-put-requires-2 : tie.Need-put-requires-2
-put-requires-2 c κs = search needs
-
-enum-told-3 : tie.Need-enum-told-3
-enum-told-3 c = search needs
-
-slice-aggregate-put-3 : tie.Need-slice-aggregate-put-3
-slice-aggregate-put-3 c = search needs
-
-put-requires-3 : tie.Need-put-requires-3
-put-requires-3 c κs = search needs
-
-enum-told-4 : tie.Need-enum-told-4
-enum-told-4 c = search needs
-
-slice-aggregate-put-4 : tie.Need-slice-aggregate-put-4
-slice-aggregate-put-4 c = search needs
-
-put-requires-4 : tie.Need-put-requires-4
-put-requires-4 c κs = search needs
+put-unheld-requires : tie.Need-put-unheld-requires
+put-unheld-requires c κs =
+    let s = c .before .before .before in
+    (λ e. ⊎-elim (λ z. absurd (omega (arith, rw e at z))) (⊎-elim (λ z. absurd (omega (arith, rw e at z))) (λ z. absurd (omega (arith, rw e at z)))) (c .before .match .keys2), omega (arith, s))
 
 same-length : tie.Need-same-length
 same-length c = search needs
@@ -56,28 +36,7 @@ same-length-2 : tie.Need-same-length-2
 same-length-2 c = search needs
 
 returns-2 : tie.Need-returns-2
-unfolding wordText ascii
-returns-2 c =
-    let p = c .before .before in
-    put-as (sym (ap wordText (p .before .before .before .enum-told2 .given .1))) (p .put2 .ensures)
-
-same-length-3 : tie.Need-same-length-3
-same-length-3 c = search needs
-
-returns-3 : tie.Need-returns-3
-unfolding wordText ascii
-returns-3 c =
-    let p = c .before .before in
-    put-as (sym (ap wordText (p .before .before .before .enum-told3 .given .1))) (p .put3 .ensures)
-
-same-length-4 : tie.Need-same-length-4
-same-length-4 c = search needs
-
-returns-4 : tie.Need-returns-4
-unfolding wordText ascii
-returns-4 c =
-    let p = c .before .before in
-    put-as (sym (ap wordText (p .before .before .before .enum-told4 .given .1))) (p .put4 .ensures)
+returns-2 c = search needs
 
 pub put-word-spec : {M : Type 1} → statement M
 put-word-spec =
@@ -86,20 +45,8 @@ put-word-spec =
     enum-told
     slice-aggregate-put
     put-requires
-    enum-told-2
-    slice-aggregate-put-2
-    put-requires-2
-    enum-told-3
-    slice-aggregate-put-3
-    put-requires-3
-    enum-told-4
-    slice-aggregate-put-4
-    put-requires-4
+    put-unheld-requires
     same-length
     returns
     same-length-2
-    returns-2
-    same-length-3
-    returns-3
-    same-length-4
-    returns-4)
+    returns-2)
