@@ -2,28 +2,41 @@
 use reader::Parsed;
 use reader::read;
 use settings::Laid;
+use settings::Layout;
 use settings::Refusal;
 use settings::Settings;
 use table::AddAnswer;
 use table::DeleteAnswer;
 use table::FindAnswer;
 ghost use mathlib.Core.Path.{_≡_};
+ghost use Prim.Native.Nat.{_≤_};
+ghost use lib.ListN.{length};
+ghost use Rattle.settings.specs.declared.keys.Key.{Key};
+ghost use Rattle.reader.specs.declared.Parsed.the-variants as parsed;
+ghost use Rattle.settings.specs.Made.{laidOf};
+ghost use Rattle.settings.specs.declared.layout.Laid.the-variants as laid;
 ghost use Rattle.address.specs.TextCalls.{admittedOf, findTextAnswer, addTextAnswer, addTextBytes, deleteTextAnswer, deleteTextBytes};
 
-// The key of a text that goes to the lent table, or the first of refusals 1 to 4 that is due.
+// The key of a text that goes to the lent table, or the first of refusals 2 to 4 that is due; the layout is known.
+pub fn admit_to(s: Settings, g: Layout, t: &[u8], text: &[u8]) -> Parsed
+    requires { ⌜ laidOf s ≡ laid.Layout g ⌝ }
+    ensures { λ r. ⌜ (r ≡ admittedOf s (now (t .entry)) (now (text .entry))) × ((k : Key) → r ≡ parsed.Key k → (g .bytes ≤ length (now (t .entry))) × (s .w ≡ 128)) ⌝ }
+{
+    if t.len() < g.bytes {
+        return Parsed::Refused(Refusal::Short);
+    }
+    if s.w != 128 {
+        return Parsed::Refused(Refusal::Width);
+    }
+    read(text)
+}
+
+// The same, or refusal 1.
 pub fn admit(s: Settings, t: &[u8], text: &[u8]) -> Parsed
     ensures { λ r. ⌜ r ≡ admittedOf s (now (t .entry)) (now (text .entry)) ⌝ }
 {
     match s.layout() {
-        Laid::Layout(g) => {
-            if t.len() < g.bytes {
-                return Parsed::Refused(Refusal::Short);
-            }
-            if s.w != 128 {
-                return Parsed::Refused(Refusal::Width);
-            }
-            read(text)
-        }
+        Laid::Layout(g) => admit_to(s, g, t, text),
         Laid::Refused(why) => Parsed::Refused(why),
     }
 }

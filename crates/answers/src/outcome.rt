@@ -113,7 +113,8 @@ fn deleted(answer: DeleteAnswer) -> Outcome
     }
 }
 
-// The command on the table. The key's place is computed once, for all three.
+// The command on the table. Each of the three starts with finding the key, so that find is there once, for the compiler
+// to join with what is known of the layout.
 pub fn apply(op: Op, label: u32, t: &mut [u8], key: Key) -> Outcome
     requires { ⌜ 19617 ≤ length (now t) ⌝ }
     ensures { λ r. ⌜ Applied op label (now (t .entry)) key (now (t .exit)) r ⌝ }
@@ -122,14 +123,15 @@ pub fn apply(op: Op, label: u32, t: &mut [u8], key: Key) -> Outcome
     let place = key.place(SETTINGS);
     let list = place.list;
     let entry = place.entry;
+    let answer = table::find_in(t, g, list.0, entry);
     match op {
         Op::Add => {
             if label > 255 {
                 return Outcome::Refused(Refusal::Label);
             }
-            added(insert::add_in(t, g, list.0, entry, label))
+            added(insert::add_found(t, g, list.0, answer, entry, label))
         }
-        Op::Delete => deleted(remove::delete_in(t, g, list.0, entry)),
-        Op::Find => found(table::find_in(t, g, list.0, entry)),
+        Op::Delete => deleted(remove::delete_found(t, g, list.0, answer, entry)),
+        Op::Find => found(answer),
     }
 }

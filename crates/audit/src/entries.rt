@@ -4,23 +4,48 @@ use crate::bytes::least;
 use settings::Key;
 use settings::Layout;
 use table::blocks::overflow_counter;
+use table::blocks::overflow_front;
 use table::blocks::overflow_link;
 use table::lists::overflow_run;
 use table::slots::Slots;
 use table::slots::scan;
+use table::slots::scan_displaced;
 use table::slots::seen;
 ghost use mathlib.Core.Path.{_≡_};
-ghost use Prim.Native.Nat.{_^_, _≤_, _<_};
+ghost use Prim.Native.Nat.{_+_, _*_, _^_, _≤_, _<_};
+ghost use lib.ListN.{length};
 ghost use Rattle.bits.specs.Field.{field};
+ghost use Rattle.bits.specs.Put.{putField};
 ghost use Rattle.settings.specs.Key.{keyNumber};
 ghost use Rattle.table.specs.Decode.{decode};
 ghost use Rattle.table.specs.Table.{Table};
 ghost use Rattle.table.specs.Check.{hasEntry, noEntryTwice, everyBelow};
-ghost use Rattle.table.specs.Steps.{shown, View, Run, slotsIn};
+ghost use Rattle.table.specs.Steps.{shown, View, First, Run, slotsIn};
+ghost use Rattle.windows.specs.Rows.{Row};
 ghost use Rattle.audit.specs.Entries.{nextOf, runOf, slotsFrom, alone};
 
-// The entry of n bits from bit `at` on.
-fn entry_at(t: &[u8], b: Slots, at: usize, n: usize) -> Key
+// The entry of n bits from bit `at` on, as it stands.
+fn plain_entry(t: &[u8], at: usize, n: usize) -> Key
+    requires { ⌜ (at + n ≤ 8 * length (now t)) × (at + n ≤ 2 ^ 27) × (n ≤ 128) ⌝ }
+    ensures { λ r. ⌜ keyNumber r ≡ field (now (t .entry)) at n ⌝ }
+{
+    if n <= 64 {
+        let short = bits::get(t, at, n);
+        return Key {
+            high: 0,
+            low: short,
+        };
+    }
+    let high = bits::get(t, at, n - 64);
+    let low = bits::get(t, at + (n - 64), 64);
+    Key {
+        high: high,
+        low: low,
+    }
+}
+
+// The entry of n bits from bit `at` on, where the first bits of the slots are what they count as.
+fn seen_entry(t: &[u8], b: Slots, at: usize, n: usize) -> Key
     requires { ⌜ View (now t) b at n × (n ≤ 128) ⌝ }
     ensures { λ r. ⌜ keyNumber r ≡ field (shown (now (t .entry)) b) at n ⌝ }
 {
@@ -34,6 +59,58 @@ fn entry_at(t: &[u8], b: Slots, at: usize, n: usize) -> Key
         high: high,
         low: low,
     }
+}
+
+// The entry of n bits from bit `at` on. Few stand among displaced bits.
+fn entry_at(t: &[u8], b: Slots, at: usize, n: usize) -> Key
+    requires { ⌜ View (now t) b at n × (n ≤ 128) ⌝ }
+    ensures { λ r. ⌜ keyNumber r ≡ field (shown (now (t .entry)) b) at n ⌝ }
+{
+    if at >= b.start + b.link {
+        return plain_entry(t, at, n);
+    }
+    seen_entry(&t[..], b, at, n)
+}
+
+// The first of `count` slots that holds the entry, where their first `link` bits count as `head`; count if none does.
+fn scan_run(
+    t: &[u8],
+    start: usize,
+    count: usize,
+    link: usize,
+    head: u64,
+    slot: usize,
+    bie: usize,
+    entry: Key,
+) -> usize
+    requires { ⌜ Row (now t) start slot bie count × (keyNumber entry < 2 ^ bie) ⌝ }
+    requires { ⌜ (start + link ≤ 8 * length (now t)) × (link ≤ 16) × (head < 2 ^ link) ⌝ }
+    ensures { λ r. ⌜ First (putField (now (t .entry)) start link head) start slot bie (keyNumber entry) count r ⌝ }
+{
+    if link == 0 {
+        return scan(
+            &t[..],
+            start,
+            count,
+            count,
+            slot,
+            bie,
+            entry.high,
+            entry.low,
+        );
+    }
+    scan_displaced(
+        &t[..],
+        start,
+        count,
+        count,
+        link,
+        head,
+        slot,
+        bie,
+        entry.high,
+        entry.low,
+    )
 }
 
 // The block after block b in its list; nob, which is no block, if b is the last.
@@ -66,11 +143,26 @@ fn held_from(t: &[u8], g: Layout, first: usize, most: usize, entry: Key) -> bool
         if b >= g.nob {
             return false;
         }
-        let run = run_of(t, g, b);
-        if scan(t, g, run, entry) < run.count {
+        let front = overflow_front(t, g, b);
+        let run = overflow_run(g, b, least(front.counter, g.sio));
+        let j = scan(
+            &t[..],
+            run.start,
+            run.count,
+            g.sio,
+            g.slot,
+            g.bie,
+            entry.high,
+            entry.low,
+        );
+        if j < run.count {
             return true;
         }
-        b = next_block(t, g, b);
+        b = if front.counter == g.sio {
+            front.link
+        } else {
+            g.nob
+        };
         left -= 1;
     }
     false
@@ -86,10 +178,10 @@ pub fn slots_apart(t: &[u8], g: Layout, b: Slots, next: usize, most: usize) -> b
     let mut j: usize = 0;
     while j < b.count {
         let entry = entry_at(t, b, at, g.bie);
-        if scan(t, g, b, entry) < j {
+        if scan_run(&t[..], b.start, j, b.link, b.head, g.slot, g.bie, entry) < j {
             return false;
         }
-        if held_from(t, g, next, most, entry) {
+        if held_from(&t[..], g, next, most, entry) {
             return false;
         }
         at += g.slot;

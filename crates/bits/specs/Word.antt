@@ -16,6 +16,10 @@ lowFirst s i =
     + getD s (i + 6) 0 * 281474976710656
     + getD s (i + 7) 0 * 72057594037927936
 
+-- the number in the four bytes of s from byte i on, the first one lowest
+abbrev pub lowFirstFour : List ℕ → ℕ → ℕ
+lowFirstFour s i = getD s i 0 + getD s (i + 1) 0 * 256 + getD s (i + 2) 0 * 65536 + getD s (i + 3) 0 * 16777216
+
 -- x, with its eight bytes in the other order
 abbrev pub turned : ℕ → ℕ
 turned x =

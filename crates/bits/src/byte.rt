@@ -1,8 +1,8 @@
-// The first bits of one byte: where a field ends in the byte after its word.
+// Some bits of one byte: where a field ends in the byte after its word, or starts near the end.
 use crate::number::part;
 use crate::number::replace;
 ghost use mathlib.Core.Path.{_≡_};
-ghost use Prim.Native.Nat.{_*_, _^_, _≤_, _<_};
+ghost use Prim.Native.Nat.{_+_, _*_, _^_, _≤_, _<_};
 ghost use lib.ListN.{length};
 ghost use Rattle.bits.specs.Field.{field};
 ghost use Rattle.bits.specs.Put.{putField};
@@ -14,18 +14,18 @@ pub fn long(b: u8) -> u64
     b as u64
 }
 
-// The first t bits of byte j.
-pub fn head(s: &[u8], j: usize, t: usize) -> u64
-    requires { ⌜ (j < length (now s)) × (0 < t) × (t ≤ 8) ⌝ }
-    ensures { λ r. ⌜ r ≡ field (now (s .entry)) (8 * j) t ⌝ }
+// The n bits after the first a of byte i.
+pub fn get(s: &[u8], i: usize, a: usize, n: usize) -> u64
+    requires { ⌜ (i < length (now s)) × (0 < n) × (a + n ≤ 8) ⌝ }
+    ensures { λ r. ⌜ r ≡ field (now (s .entry)) (8 * i + a) n ⌝ }
 {
-    part(long(s[j]), 8 - t, t)
+    part(long(s[i]), 8 - a - n, n)
 }
 
-// The first t bits of byte j become v.
-pub fn put_head(s: &mut [u8], j: usize, t: usize, v: u64)
-    requires { ⌜ (j < length (now s)) × (0 < t) × (t ≤ 8) × (v < 2 ^ t) ⌝ }
-    ensures { λ _. ⌜ now (s .exit) ≡ putField (now (s .entry)) (8 * j) t v ⌝ }
+// Those bits become v.
+pub fn put(s: &mut [u8], i: usize, a: usize, n: usize, v: u64)
+    requires { ⌜ (i < length (now s)) × (0 < n) × (a + n ≤ 8) × (v < 2 ^ n) ⌝ }
+    ensures { λ _. ⌜ now (s .exit) ≡ putField (now (s .entry)) (8 * i + a) n v ⌝ }
 {
-    s[j] = replace(long(s[j]), 8 - t, t, v) as u8;
+    s[i] = replace(long(s[i]), 8 - a - n, n, v) as u8;
 }

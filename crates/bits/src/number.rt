@@ -37,3 +37,25 @@ pub fn join(x: u64, t: usize, y: u64) -> u64
 {
     x * pow(t) + y
 }
+
+// The 64 bits of high * 2^64 + low above its k low ones, which are some of low.
+pub fn across(high: u64, low: u64, k: usize) -> u64
+    requires { ⌜ (0 < k) × (k < 64) ⌝ }
+    ensures { λ r. ⌜ r ≡ (high * 2 ^ 64 + low) / 2 ^ k % 2 ^ 64 ⌝ }
+{
+    (high << (64 - k)) + (low >> k)
+}
+
+// The same, where the k low ones may be none, or more than low has.
+pub fn part_of_two(high: u64, low: u64, k: usize) -> u64
+    requires { ⌜ k < 128 ⌝ }
+    ensures { λ r. ⌜ r ≡ (high * 2 ^ 64 + low) / 2 ^ k % 2 ^ 64 ⌝ }
+{
+    if k == 0 {
+        return low;
+    }
+    if k < 64 {
+        return across(high, low, k);
+    }
+    high >> (k - 64)
+}

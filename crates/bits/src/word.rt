@@ -8,10 +8,10 @@ ghost use Prim.Native.Nat.{_+_, _*_, _%_, _^_, _≤_, _<_};
 ghost use lib.ListN.{length};
 ghost use Rattle.bits.specs.Field.{field};
 ghost use Rattle.bits.specs.Put.{putField};
-ghost use Rattle.bits.specs.Word.{lowFirst, turned, setFour};
+ghost use Rattle.bits.specs.Word.{lowFirst, lowFirstFour, turned, setFour};
 
 // The eight bytes from i on, the first one lowest.
-fn low_first(s: &[u8], i: usize) -> u64
+pub fn low_first(s: &[u8], i: usize) -> u64
     requires { ⌜ i + 8 ≤ length (now s) ⌝ }
     ensures { λ r. ⌜ r ≡ lowFirst (now (s .entry)) i ⌝ }
 {
@@ -25,8 +25,16 @@ fn low_first(s: &[u8], i: usize) -> u64
         + long(s[i + 7]) * 72057594037927936
 }
 
+// The four bytes from i on, the first one lowest.
+pub fn low_first_four(s: &[u8], i: usize) -> u64
+    requires { ⌜ i + 4 ≤ length (now s) ⌝ }
+    ensures { λ r. ⌜ r ≡ lowFirstFour (now (s .entry)) i ⌝ }
+{
+    long(s[i]) + long(s[i + 1]) * 256 + long(s[i + 2]) * 65536 + long(s[i + 3]) * 16777216
+}
+
 // x, with its eight bytes in the other order.
-fn turn(x: u64) -> u64
+pub fn turn(x: u64) -> u64
     ensures { λ r. ⌜ r ≡ turned x ⌝ }
 {
     (x % 256) * 72057594037927936

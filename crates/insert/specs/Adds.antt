@@ -4,6 +4,7 @@ use mathlib.Core.Path.{_≡_}
 use mathlib.Core.Bool.{Bool, cond}
 use mathlib.Core.List.{List, [], _∷_}
 use mathlib.Core.Option.{Option, none, some}
+use lib.ListN.{length}
 use lib.Dec.{eqb, ltb}
 use Rattle.settings.specs.Key.{keyNumber}
 use Rattle.settings.specs.declared.settings.Settings.{Settings}
@@ -76,10 +77,11 @@ pub record EndsIn (g : Layout) (st : State) (i h j : ℕ) : Type 0 where
   pub last : j ≡ lastFrom g (g .nob) (st .overflow) h
   pub low : j < g .nob
 
--- list i can be followed to its end
-pub record Readable (g : Layout) (st : State) (i : ℕ) : Type 0 where
+-- list i can be followed to its end, and has n entries
+pub record Readable (g : Layout) (st : State) (i n : ℕ) : Type 0 where
   pub seen : Seen
   pub is : content g st i ≡ some seen
+  pub long : n ≡ length (seen .slots)
 
 -- u and r are what adding the entry e with a label to list i of t comes to
 pub record Added (g : Layout) (t u : List ℕ) (i e label : ℕ) (r : AddAnswer) : Type 0 where

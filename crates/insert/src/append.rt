@@ -12,7 +12,6 @@ use stores::put_overflow_link;
 use stores::put_slot;
 use stores::renew;
 use table::AddAnswer;
-use table::blocks::basic_counter;
 use table::blocks::basic_head;
 use table::blocks::free_start;
 use table::blocks::overflow_counter;
@@ -110,7 +109,15 @@ fn take(t: &mut [u8], g: Layout, f: usize, displaced: usize, next: usize, v: Ite
 {
     let entry = v.entry;
     renew(t, g, f, displaced);
-    put_slot(t, g, overflow_slot(g, f, 0), entry, v.label);
+    put_slot(
+        t,
+        overflow_slot(g, f, 0),
+        g.bie,
+        g.val,
+        entry.high,
+        entry.low,
+        v.label,
+    );
     put_free_start(t, g, next);
 }
 
@@ -138,7 +145,15 @@ fn append_room(t: &mut [u8], g: Layout, i: usize, c: usize, v: Item) -> AddAnswe
     ensures { λ r. ⌜ Appended g (now (t .entry)) (now (t .exit)) i v r ⌝ }
 {
     let entry = v.entry;
-    put_slot(t, g, basic_slot(g, i, c), entry, v.label);
+    put_slot(
+        t,
+        basic_slot(g, i, c),
+        g.bie,
+        g.val,
+        entry.high,
+        entry.low,
+        v.label,
+    );
     put_basic_counter(t, g, i, c + 1);
     v.added()
 }
@@ -186,19 +201,28 @@ fn append_overflow(t: &mut [u8], g: Layout, i: usize, h: usize, j: usize, v: Ite
     let n = overflow_counter(t, g, j) + 1;
     if n < g.sio {
         let entry = v.entry;
-        put_slot(t, g, overflow_slot(g, j, n), entry, v.label);
+        put_slot(
+            t,
+            overflow_slot(g, j, n),
+            g.bie,
+            g.val,
+            entry.high,
+            entry.low,
+            v.label,
+        );
         put_overflow_counter(t, g, j, n);
         return v.added();
     }
     append_more(t, g, i, h, j, v)
 }
 
-// At the end of list i, which can be followed there.
+// At the end of list i, which can be followed there. All its entries were compared, so that their number says
+// whether it overflows.
 pub fn append(t: &mut [u8], g: Layout, i: usize, v: Item) -> AddAnswer
-    requires { ⌜ Appendable g (now t) i v × Readable g (decode g (now t)) i ⌝ }
+    requires { ⌜ Appendable g (now t) i v × Readable g (decode g (now t)) i (v .compared) ⌝ }
     ensures { λ r. ⌜ Appended g (now (t .entry)) (now (t .exit)) i v r ⌝ }
 {
-    let c = basic_counter(t, g, i);
+    let c = v.compared as usize;
     if c < g.sib {
         return append_room(t, g, i, c, v);
     }

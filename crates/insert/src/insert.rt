@@ -10,8 +10,11 @@ use table::AddAnswer;
 use table::FindAnswer;
 use table::find_in;
 ghost use mathlib.Core.Path.{_≡_};
-ghost use Prim.Native.Nat.{_<_};
+ghost use Prim.Native.Nat.{ℕ, _^_, _≤_, _<_};
+ghost use lib.Dec.{ltb};
 ghost use Rattle.settings.specs.Key.{keyNumber};
+ghost use Rattle.table.specs.Decode.{decode};
+ghost use Rattle.table.specs.Find.{findIn};
 ghost use Rattle.table.specs.Table.{Table};
 ghost use Rattle.table.specs.declared.answers.AddAnswer.the-variants as answer;
 ghost use Rattle.stores.specs.Stores.{Slotted};
@@ -27,12 +30,19 @@ fn held(label: u32, compared: u32) -> AddAnswer
     answer
 }
 
-// An entry with its label, to list i.
-pub fn add_in(t: &mut [u8], g: Layout, i: usize, entry: Key, label: u32) -> AddAnswer
-    requires { ⌜ Table g (now t) × (i < g .lists) × Slotted g (keyNumber entry) label ⌝ }
+// An entry with its label, to list i, once it is known what find answers.
+pub fn add_found(
+    t: &mut [u8],
+    g: Layout,
+    i: usize,
+    found: FindAnswer,
+    entry: Key,
+    label: u32,
+) -> AddAnswer
+    requires { ⌜ Table g (now t) × (i < g .lists) × Slotted g (keyNumber entry) label × (found ≡ findIn g (decode g (now t)) i (keyNumber entry)) ⌝ }
     ensures { λ r. ⌜ Added g (now (t .entry)) (now (t .exit)) i (keyNumber entry) label r ⌝ }
 {
-    match find_in(t, g, i, entry) {
+    match found {
         FindAnswer::Held {
             label: old,
             compared,
@@ -51,6 +61,30 @@ pub fn add_in(t: &mut [u8], g: Layout, i: usize, entry: Key, label: u32) -> AddA
     }
 }
 
+// Whether a label has no bit above the low val.
+pub fn fits(label: u64, val: u32) -> bool
+    requires { ⌜ val ≤ 32 ⌝ }
+    ensures { λ r. ⌜ r ≡ ltb label (2 ^ val) ⌝ }
+{
+    label >> val == 0
+}
+
+// The same answer, with the label that was handed over: read back together with the number that was stored beside it, it
+// would wait until both have reached the cache.
+fn with_label(said: AddAnswer, label: u32) -> AddAnswer
+    requires { ⌜ ((l n : ℕ) → said ≡ answer.Added l n → l ≡ label) ⌝ }
+    ensures { λ r. ⌜ r ≡ said ⌝ }
+{
+    match said {
+        AddAnswer::Added { label: _, compared } => AddAnswer::Added { label, compared },
+        AddAnswer::Held {
+            label: old,
+            compared,
+        } => held(old, compared),
+        AddAnswer::Refused(why) => AddAnswer::Refused(why),
+    }
+}
+
 // A refusal, and "held", leave every byte.
 pub fn add(s: Settings, t: &mut [u8], key: Key, label: u64) -> AddAnswer
     ensures { λ r. ⌜ AddCall s (now (t .entry)) (now (t .exit)) key label r ⌝ }
@@ -63,17 +97,15 @@ pub fn add(s: Settings, t: &mut [u8], key: Key, label: u64) -> AddAnswer
             if !key.within(s.w) {
                 return AddAnswer::Refused(Refusal::Key);
             }
-            let number = Key {
-                high: 0,
-                low: label,
-            };
-            if !number.within(s.val) {
+            if !fits(label, s.val) {
                 return AddAnswer::Refused(Refusal::Label);
             }
             let place = key.place(s);
             let list = place.list;
             let entry = place.entry;
-            add_in(t, g, list.0, entry, label as u32)
+            let found = find_in(t, g, list.0, entry);
+            let said = add_found(t, g, list.0, found, entry, label as u32);
+            with_label(said, label as u32)
         }
         Laid::Refused(why) => AddAnswer::Refused(why),
     }

@@ -3,4 +3,5 @@ mod append;
 mod insert;
 
 pub use insert::add;
-pub use insert::add_in;
+pub use insert::add_found;
+pub use insert::fits;

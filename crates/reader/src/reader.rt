@@ -311,7 +311,8 @@ fn filled(head: Groups, tail: Groups) -> Parsed
     raised(head, tail)
 }
 
-// The address whose groups before "::" are read. One part follows, or nothing: a second "::" is not legal.
+// The address whose groups before "::" are read. One part follows, or nothing: a second "::" is not legal. Here and in
+// `first_part` the slice is taken anew for the part, so that it stays in registers.
 fn after_gap(table: &[u8; 256], text: &[u8], at: usize, head: Groups) -> Parsed
     requires { ⌜ Classes (now table) × (at ≤ length (now text)) × Sized head × (head .count ≤ 8) ⌝ }
     ensures { λ r. ⌜ r ≡ afterGap (numberOf head) (head .count) (drop at (now (text .entry))) ⌝ }
@@ -319,7 +320,7 @@ fn after_gap(table: &[u8; 256], text: &[u8], at: usize, head: Groups) -> Parsed
     if at == text.len() {
         return filled(head, NO_GROUPS);
     }
-    let Part::Whole(tail) = read_part(table, text, at) else {
+    let Part::Whole(tail) = read_part(table, &text[..], at) else {
         return refused();
     };
     filled(head, tail)
@@ -350,7 +351,7 @@ fn first_part(table: &[u8; 256], text: &[u8]) -> Part
             next: 2,
         };
     }
-    read_part(table, text, 0)
+    read_part(table, &text[..], 0)
 }
 
 // Reads an address by the class table, which is lent once a call.

@@ -1,38 +1,31 @@
 -- What the functions below delete are asked and answer. Only contracts of functions cite these; the call's own does not.
-use Prim.Native.Nat.{ℕ, _-_, _<_, _≤_}
+use Prim.Native.Nat.{ℕ, _+_, _-_, _<_, _≤_}
 use mathlib.Core.Path.{_≡_}
 use mathlib.Core.Bool.{Bool, false, cond}
 use mathlib.Core.List.{List, [], _∷_}
 use mathlib.Core.Option.{Option, none, some}
 use lib.ListN.{length, getD, set}
 use lib.Dec.{ltb}
-use Rattle.bits.specs.Field.{field}
-use Rattle.settings.specs.Key.{keyNumber}
 use Rattle.settings.specs.declared.settings.Settings.{Settings}
 use Rattle.settings.specs.declared.keys.Key.{Key}
 use Rattle.settings.specs.declared.layout.Layout.{Layout}
 use Rattle.table.specs.Arrays.{padded}
-use Rattle.table.specs.State.{Overflow, State, mkBasic, mkOverflow, mkState, basicAt, overflowAt, unpack, headOf, restOf, slotOf}
+use Rattle.table.specs.State.{Overflow, State, mkBasic, mkOverflow, mkState, basicAt, overflowAt, unpack, headOf, restOf}
 use Rattle.table.specs.Decode.{decode, written}
 use Rattle.table.specs.Follow.{Seen, lastOf, prevOf, follow, gather, content}
 use Rattle.table.specs.Take.{Done, damage, done, linkFree}
 use Rattle.table.specs.Delete.{poke, shrink, deleteIn}
 use Rattle.table.specs.Calls.{deleteAnswer, deleteBytes}
 use Rattle.table.specs.declared.answers.DeleteAnswer.{DeleteAnswer}
-use Rattle.stores.specs.Stores.{Slotted}
 use Rattle.stores.specs.theory.StoreLaws.{Stored, overBasic, overOverflow, withFree}
 use Rattle.stores.specs.Blocks.{blocksIn}
-use Rattle.remove.specs.declared.poke.Moved.{Moved}
 use Rattle.remove.specs.declared.poke.Spot.{Spot}
 use Rattle.remove.specs.declared.shrink.End.{End}
 
-abbrev pub slotMoved : Layout → Moved → ℕ
-slotMoved g v = slotOf g (keyNumber (v .entry)) (v .label)
-
--- v is the slot at bit `at`
-pub record Holding (g : Layout) (t : List ℕ) (at : ℕ) (v : Moved) : Type 0 where
-  pub slotted : Slotted g (keyNumber (v .entry)) (v .label)
-  pub is : slotMoved g v ≡ field t at (g .slot)
+-- a slot at bit `from`, behind the basic blocks
+pub record Movable (g : Layout) (from : ℕ) : Type 0 where
+  pub behind : g .overflow .start ≤ from
+  pub ends : from + g .slot ≤ g .bits
 
 module _ (g : Layout) where
   -- the list's overflow blocks from block b on

@@ -4,4 +4,4 @@ mod remove;
 mod shrink;
 
 pub use remove::delete;
-pub use remove::delete_in;
+pub use remove::delete_found;

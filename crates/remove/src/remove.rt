@@ -1,7 +1,6 @@
 // Delete: ""none", or "gone" with the label; the list's last slot moves into the hole and the slot left
 // vacant is zeroed."
 use crate::poke::poke;
-use crate::poke::slot_at;
 use crate::shrink::end_of;
 use crate::shrink::shrink;
 use crate::shrink::stuck;
@@ -12,9 +11,9 @@ use settings::Refusal;
 use settings::Settings;
 use stores::basic_slot;
 use stores::clear;
+use stores::copy;
 use stores::overflow_slot;
 use stores::put_basic_counter;
-use stores::put_slot;
 use table::DeleteAnswer;
 use table::FindAnswer;
 use table::blocks::basic_counter;
@@ -26,6 +25,7 @@ ghost use Prim.Native.Nat.{_^_, _≤_, _<_};
 ghost use Rattle.settings.specs.Key.{keyNumber};
 ghost use Rattle.table.specs.State.{basicAt};
 ghost use Rattle.table.specs.Decode.{decode};
+ghost use Rattle.table.specs.Find.{findIn};
 ghost use Rattle.table.specs.Table.{Table};
 ghost use Rattle.remove.specs.DeleteSteps.{Placed, Removed, Deleted, DeleteCall};
 
@@ -36,9 +36,9 @@ fn remove_short(t: &mut [u8], g: Layout, i: usize, c: usize, p: usize) -> bool
 {
     let last = basic_slot(g, i, c - 1);
     let hole = basic_slot(g, i, p);
-    let v = slot_at(t, g, last);
-    let entry = v.entry;
-    put_slot(t, g, hole, entry, v.label);
+    if hole != last {
+        copy(t, last, hole, g.slot);
+    }
     clear(t, last, g.slot);
     put_basic_counter(t, g, i, c - 1);
     true
@@ -57,8 +57,7 @@ fn remove_long(t: &mut [u8], g: Layout, i: usize, p: usize) -> bool
         return false;
     }
     let n = overflow_counter(t, g, last);
-    let v = slot_at(t, g, overflow_slot(g, last, n));
-    poke(t, g, i, first, last, p, v);
+    poke(t, g, i, first, last, p, overflow_slot(g, last, n));
     shrink(t, g, i, last, end.before);
     true
 }
@@ -75,12 +74,19 @@ fn remove(t: &mut [u8], g: Layout, i: usize, p: usize) -> bool
     remove_long(t, g, i, p)
 }
 
-// An entry from list i. What find compared is the place of the entry, counted from 1.
-pub fn delete_in(t: &mut [u8], g: Layout, i: usize, entry: Key) -> DeleteAnswer
-    requires { ⌜ Table g (now t) × (i < g .lists) × (keyNumber entry < 2 ^ g .bie) ⌝ }
+// An entry from list i, once it is known what find answers. What find compared is the place of the entry, counted
+// from 1. Only the contract names the entry itself.
+pub fn delete_found(
+    t: &mut [u8],
+    g: Layout,
+    i: usize,
+    found: FindAnswer,
+    entry: Key,
+) -> DeleteAnswer
+    requires { ⌜ Table g (now t) × (i < g .lists) × (keyNumber entry < 2 ^ g .bie) × (found ≡ findIn g (decode g (now t)) i (keyNumber entry)) ⌝ }
     ensures { λ r. ⌜ Deleted g (now (t .entry)) (now (t .exit)) i (keyNumber entry) r ⌝ }
 {
-    match find_in(t, g, i, entry) {
+    match found {
         FindAnswer::Held { label, compared } => {
             if remove(t, g, i, compared as usize - 1) {
                 return DeleteAnswer::Gone {
@@ -110,7 +116,8 @@ pub fn delete(s: Settings, t: &mut [u8], key: Key) -> DeleteAnswer
             let place = key.place(s);
             let list = place.list;
             let entry = place.entry;
-            delete_in(t, g, list.0, entry)
+            let found = find_in(t, g, list.0, entry);
+            delete_found(t, g, list.0, found, entry)
         }
         Laid::Refused(why) => DeleteAnswer::Refused(why),
     }

@@ -5,7 +5,7 @@ ghost use lib.Dec.{ltb};
 ghost use Rattle.settings.specs.Prime.{primeAbove};
 ghost use Rattle.settings.specs.Sizes.{bie};
 ghost use Rattle.settings.specs.Legal.{Legal};
-ghost use Rattle.settings.specs.Key.{keyNumber, keyOf, hash, placeOf, rebuilt};
+ghost use Rattle.settings.specs.Key.{keyNumber, keyOf, placeOf, rebuilt};
 use crate::settings::Settings;
 
 // A key of up to 128 bits: the number high * 2^64 + low. Laid out as C lays it out, for C callers.
@@ -50,7 +50,7 @@ impl Key {
     {
         let n = s.w - s.bii;
         let entry = self.low_bits(n);
-        let list = self.high_bits(n) ^ hash_of(s, entry);
+        let list = self.high_bits(n) ^ hash_of(s.a, s.b, s.bii, entry.high, entry.low);
         Place {
             list: ListNumber(list as usize),
             entry,
@@ -121,7 +121,7 @@ impl Place {
     {
         let list = self.list;
         let entry = self.entry;
-        let index = (list.0 as u64) ^ hash_of(s, entry);
+        let index = (list.0 as u64) ^ hash_of(s.a, s.b, s.bii, entry.high, entry.low);
         entry.with_top(index, s.w - s.bii)
     }
 }
@@ -134,52 +134,50 @@ fn pow(k: u32) -> u64
     1 << k
 }
 
-// The low bii bits of ((a * E + b) mod p).
-fn hash_of(s: Settings, e: Key) -> u64
-    requires { ⌜ Legal s ⌝ }
-    ensures { λ r. ⌜ r ≡ hash s (keyNumber e) ⌝ }
+// The low bii bits of ((a * E + b) mod p), where E is high * 2^64 + low. Here and below the numbers come one by one: a struct
+// would be copied at each call.
+fn hash_of(a: u32, b: u32, bii: u32, high: u64, low: u64) -> u64
+    requires { ⌜ (bii ≤ 16) × (a < primeAbove bii) × (b < primeAbove bii) ⌝ }
+    ensures { λ r. ⌜ r ≡ (a * (high * 2 ^ 64 + low) + b) % primeAbove bii % 2 ^ bii ⌝ }
 {
-    remainder(s, e) % pow(s.bii)
+    remainder(a, b, bii, high, low) % pow(bii)
 }
 
 // (a * E + b) mod p, with an arm for each p, since a division by a literal is compiled to a multiplication.
-fn remainder(s: Settings, e: Key) -> u64
-    requires { ⌜ Legal s ⌝ }
-    ensures { λ r. ⌜ r ≡ (s .a * keyNumber e + s .b) % primeAbove (s .bii) ⌝ }
+fn remainder(a: u32, b: u32, bii: u32, high: u64, low: u64) -> u64
+    requires { ⌜ (bii ≤ 16) × (a ≤ 65536) × (b ≤ 65536) ⌝ }
+    ensures { λ r. ⌜ r ≡ (a * (high * 2 ^ 64 + low) + b) % primeAbove bii ⌝ }
 {
-    let bii = s.bii;
     match bii {
-        0 => folded(s, e, 0, 0, 0) % 2,
-        1 => folded(s, e, 1, 1, 1) % 3,
-        2 => folded(s, e, 1, 1, 1) % 5,
-        3 => folded(s, e, 4, 5, 9) % 11,
-        4 => folded(s, e, 1, 1, 1) % 17,
-        5 => folded(s, e, 7, 12, 10) % 37,
-        6 => folded(s, e, 33, 17, 25) % 67,
-        7 => folded(s, e, 117, 65, 7) % 131,
-        8 => folded(s, e, 1, 1, 1) % 257,
-        9 => folded(s, e, 117, 143, 59) % 521,
-        10 => folded(s, e, 690, 809, 439) % 1031,
-        11 => folded(s, e, 964, 1340, 423) % 2053,
-        12 => folded(s, e, 2304, 211, 2462) % 4099,
-        13 => folded(s, e, 2078, 150, 7967) % 8209,
-        14 => folded(s, e, 11664, 1706, 8652) % 16411,
-        15 => folded(s, e, 36, 1296, 13885) % 32771,
-        _ => folded(s, e, 1, 1, 1) % 65537,
+        0 => folded(a, b, high, low, 0, 0, 0) % 2,
+        1 => folded(a, b, high, low, 1, 1, 1) % 3,
+        2 => folded(a, b, high, low, 1, 1, 1) % 5,
+        3 => folded(a, b, high, low, 4, 5, 9) % 11,
+        4 => folded(a, b, high, low, 1, 1, 1) % 17,
+        5 => folded(a, b, high, low, 7, 12, 10) % 37,
+        6 => folded(a, b, high, low, 33, 17, 25) % 67,
+        7 => folded(a, b, high, low, 117, 65, 7) % 131,
+        8 => folded(a, b, high, low, 1, 1, 1) % 257,
+        9 => folded(a, b, high, low, 117, 143, 59) % 521,
+        10 => folded(a, b, high, low, 690, 809, 439) % 1031,
+        11 => folded(a, b, high, low, 964, 1340, 423) % 2053,
+        12 => folded(a, b, high, low, 2304, 211, 2462) % 4099,
+        13 => folded(a, b, high, low, 2078, 150, 7967) % 8209,
+        14 => folded(a, b, high, low, 11664, 1706, 8652) % 16411,
+        15 => folded(a, b, high, low, 36, 1296, 13885) % 32771,
+        _ => folded(a, b, high, low, 1, 1, 1) % 65537,
     }
 }
 
 // A number with the same remainder by p as a * E + b, where c1, c2 and c3 are the remainders of 2^32, 2^64 and 2^96. It
 // is below 2^64.
-fn folded(s: Settings, e: Key, c1: u64, c2: u64, c3: u64) -> u64
-    requires { ⌜ Legal s × (c1 + c2 + c3 ≤ 22022) ⌝ }
-    ensures { λ r. ⌜ r ≡ s .a * (e .low % 2 ^ 32 + e .low / 2 ^ 32 * c1 + e .high % 2 ^ 32 * c2 + e .high / 2 ^ 32 * c3) + s .b ⌝ }
+fn folded(a: u32, b: u32, high: u64, low: u64, c1: u64, c2: u64, c3: u64) -> u64
+    requires { ⌜ (a ≤ 65536) × (b ≤ 65536) × (c1 + c2 + c3 ≤ 22022) ⌝ }
+    ensures { λ r. ⌜ r ≡ a * (low % 2 ^ 32 + low / 2 ^ 32 * c1 + high % 2 ^ 32 * c2 + high / 2 ^ 32 * c3) + b ⌝ }
 {
-    let low = e.low;
-    let high = e.high;
     let sum = low % 4294967296
         + low / 4294967296 * c1
         + high % 4294967296 * c2
         + high / 4294967296 * c3;
-    (s.a as u64) * sum + s.b as u64
+    (a as u64) * sum + b as u64
 }

@@ -147,7 +147,16 @@ pub fn parsed(a: Parsed) -> Answer
     ensures { λ r. ⌜ r ≡ readReply a ⌝ }
 {
     match a {
-        Parsed::Key(key) => said(NO_WORD, key, 0, 0),
+        // Field by field: a copy of both halves at once would wait until both have reached the cache.
+        Parsed::Key(key) => said(
+            NO_WORD,
+            Key {
+                high: key.high,
+                low: key.low,
+            },
+            0,
+            0,
+        ),
         Parsed::Refused(why) => refused(why),
     }
 }

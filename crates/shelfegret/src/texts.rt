@@ -1,4 +1,5 @@
-// The calls with texts. The text is read once, and its key goes into the call and into the answer.
+// The calls with texts. The settings are checked once and the text is read once, and its key goes into the call and into
+// the answer.
 use crate::Answer;
 use crate::answers::added;
 use crate::answers::deleted;
@@ -6,9 +7,11 @@ use crate::answers::found;
 use crate::answers::parsed;
 use crate::answers::refused;
 use crate::answers::written;
-use address::admit;
+use address::admit_to;
 use reader::Parsed;
 use settings::Key;
+use settings::Laid;
+use settings::Refusal;
 use settings::Settings;
 ghost use mathlib.Core.Path.{_≡_};
 ghost use Rattle.reader.specs.Answers.{readingOf};
@@ -22,9 +25,24 @@ ghost use Rattle.shelfegret.specs.TextReply.{addTextReply, findTextReply
 pub extern "C" fn shelfegret_add_text(s: Settings, t: &mut [u8], text: &[u8], label: u64) -> Answer
     ensures { λ r. ⌜ (r ≡ addTextReply s (now (t .entry)) (now (text .entry)) label) × (now (t .exit) ≡ addTextBytes s (now (t .entry)) (now (text .entry)) label) ⌝ }
 {
-    match admit(s, t, text) {
-        Parsed::Key(key) => added(key, insert::add(s, t, key, label)),
-        Parsed::Refused(why) => refused(why),
+    match s.layout() {
+        Laid::Layout(g) => match admit_to(s, g, t, text) {
+            Parsed::Key(key) => {
+                if !insert::fits(label, s.val) {
+                    return refused(Refusal::Label);
+                }
+                let place = key.place(s);
+                let list = place.list;
+                let entry = place.entry;
+                let answer = table::find_in(t, g, list.0, entry);
+                added(
+                    key,
+                    insert::add_found(t, g, list.0, answer, entry, label as u32),
+                )
+            }
+            Parsed::Refused(why) => refused(why),
+        },
+        Laid::Refused(why) => refused(why),
     }
 }
 
@@ -33,9 +51,16 @@ pub extern "C" fn shelfegret_add_text(s: Settings, t: &mut [u8], text: &[u8], la
 pub extern "C" fn shelfegret_find_text(s: Settings, t: &[u8], text: &[u8]) -> Answer
     ensures { λ r. ⌜ r ≡ findTextReply s (now (t .entry)) (now (text .entry)) ⌝ }
 {
-    match admit(s, t, text) {
-        Parsed::Key(key) => found(key, table::find(s, t, key)),
-        Parsed::Refused(why) => refused(why),
+    match s.layout() {
+        Laid::Layout(g) => match admit_to(s, g, t, text) {
+            Parsed::Key(key) => {
+                let place = key.place(s);
+                let list = place.list;
+                found(key, table::find_in(t, g, list.0, place.entry))
+            }
+            Parsed::Refused(why) => refused(why),
+        },
+        Laid::Refused(why) => refused(why),
     }
 }
 
@@ -44,9 +69,18 @@ pub extern "C" fn shelfegret_find_text(s: Settings, t: &[u8], text: &[u8]) -> An
 pub extern "C" fn shelfegret_delete_text(s: Settings, t: &mut [u8], text: &[u8]) -> Answer
     ensures { λ r. ⌜ (r ≡ deleteTextReply s (now (t .entry)) (now (text .entry))) × (now (t .exit) ≡ deleteTextBytes s (now (t .entry)) (now (text .entry))) ⌝ }
 {
-    match admit(s, t, text) {
-        Parsed::Key(key) => deleted(key, remove::delete(s, t, key)),
-        Parsed::Refused(why) => refused(why),
+    match s.layout() {
+        Laid::Layout(g) => match admit_to(s, g, t, text) {
+            Parsed::Key(key) => {
+                let place = key.place(s);
+                let list = place.list;
+                let entry = place.entry;
+                let answer = table::find_in(t, g, list.0, entry);
+                deleted(key, remove::delete_found(t, g, list.0, answer, entry))
+            }
+            Parsed::Refused(why) => refused(why),
+        },
+        Laid::Refused(why) => refused(why),
     }
 }
 

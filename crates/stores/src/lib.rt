@@ -1,17 +1,16 @@
 // Stores into a table: a counter, a link, the free start, a slot, zeros.
-use settings::Key;
 use settings::Layout;
 use table::blocks::basic_slots;
 use table::blocks::overflow_slots;
 ghost use mathlib.Core.Path.{_≡_};
-ghost use Prim.Native.Nat.{_+_, _*_, _^_, _≤_, _<_, min};
+ghost use Prim.Native.Nat.{_+_, _-_, _*_, _/_, _%_, _^_, _≤_, _<_};
 ghost use lib.ListN.{length};
-ghost use Rattle.bits.specs.Put.{putField};
+ghost use Rattle.bits.specs.Bytes.{Bytes};
+ghost use Rattle.bits.specs.Field.{field};
+ghost use Rattle.bits.specs.Put.{putField, replaced};
 ghost use Rattle.settings.specs.Proper.{Proper};
-ghost use Rattle.settings.specs.Key.{keyNumber};
-ghost use Rattle.table.specs.State.{slotOf};
 ghost use Rattle.table.specs.Table.{Table};
-ghost use Rattle.stores.specs.Stores.{Slotted, Poked, basicSlot, overflowSlot, freePut, basicCounterPut, headPut, overflowCounterPut, linkPut, slotPut, renewed};
+ghost use Rattle.stores.specs.Stores.{Poked, basicSlot, overflowSlot, freePut, basicCounterPut, headPut, overflowCounterPut, linkPut, renewed};
 
 pub fn put_free_start(t: &mut [u8], g: Layout, f: usize)
     requires { ⌜ Table g (now t) × (f < 2 ^ g .basic .start) ⌝ }
@@ -25,7 +24,7 @@ pub fn put_basic_counter(t: &mut [u8], g: Layout, i: usize, n: usize)
     ensures { λ _. ⌜ now (t .exit) ≡ basicCounterPut g (now (t .entry)) i n ⌝ }
 {
     let at = basic_slots(g, i) - g.basic.counter;
-    bits::put(t, at, g.basic.counter, n as u64);
+    bits::put_short(t, at, g.basic.counter, n as u64);
 }
 
 // The first L bits of the slots of basic block i become h.
@@ -42,7 +41,7 @@ pub fn put_overflow_counter(t: &mut [u8], g: Layout, j: usize, n: usize)
     ensures { λ _. ⌜ now (t .exit) ≡ overflowCounterPut g (now (t .entry)) j n ⌝ }
 {
     let at = overflow_slots(g, j) - (g.overflow.counter + g.link);
-    bits::put(t, at, g.overflow.counter, n as u64);
+    bits::put_short(t, at, g.overflow.counter, n as u64);
 }
 
 pub fn put_overflow_link(t: &mut [u8], g: Layout, j: usize, l: usize)
@@ -69,37 +68,124 @@ pub fn overflow_slot(g: Layout, j: usize, p: usize) -> usize
     overflow_slots(g, j) + p * g.slot
 }
 
-// A slot at bit `at`: its entry, of up to 128 bits, and its label.
-pub fn put_slot(t: &mut [u8], g: Layout, at: usize, entry: Key, label: u32)
-    requires { ⌜ Table g (now t) × (at + g .slot ≤ g .bits) × Slotted g (keyNumber entry) label ⌝ }
-    ensures { λ _. ⌜ now (t .exit) ≡ slotPut g (now (t .entry)) at (slotOf g (keyNumber entry) label) ⌝ }
+// 2 to the k.
+fn pow(k: usize) -> u64
+    requires { ⌜ k < 64 ⌝ }
+    ensures { λ r. ⌜ r ≡ 2 ^ k ⌝ }
 {
-    if g.bie <= 64 {
-        bits::put(t, at, g.bie, entry.low);
-        bits::put(t, at + g.bie, g.val, label as u64);
+    1 << k
+}
+
+// A slot's bits above its low 64: high, and the bits of low that val label bits push out.
+fn above(high: u64, low: u64, val: usize) -> u64
+    requires { ⌜ (val ≤ 32) × (high < 2 ^ (64 - val)) ⌝ }
+    ensures { λ r. ⌜ r ≡ high * 2 ^ val + low / 2 ^ (64 - val) ⌝ }
+{
+    if val == 0 {
+        return high;
+    }
+    (high << val) + (low >> (64 - val))
+}
+
+// A slot's low 64 bits: what is left of low, and the label.
+fn below(low: u64, val: usize, label: u32) -> u64
+    requires { ⌜ (val ≤ 32) × (label < 2 ^ val) ⌝ }
+    ensures { λ r. ⌜ r ≡ low * 2 ^ val % 2 ^ 64 + label ⌝ }
+{
+    (low << val) + label as u64
+}
+
+// A slot at bit `at`: its entry, of bie bits, and its label, of val bits. A slot of up to 128 bits is one store.
+pub fn put_slot(t: &mut [u8], at: usize, bie: usize, val: usize, high: u64, low: u64, label: u32)
+    requires { ⌜ (at + (bie + val) ≤ 8 * length (now t)) × (at + (bie + val) ≤ 2 ^ 27) × (bie ≤ 128) × (val ≤ 32) × (high * 2 ^ 64 + low < 2 ^ bie) × (label < 2 ^ val) ⌝ }
+    ensures { λ _. ⌜ now (t .exit) ≡ putField (now (t .entry)) at (bie + val) ((high * 2 ^ 64 + low) * 2 ^ val + label) ⌝ }
+{
+    let n = bie + val;
+    if n <= 128 {
+        bits::put_wide(
+            &mut t[..],
+            at,
+            n,
+            above(high, low, val),
+            below(low, val, label),
+        );
         return;
     }
-    bits::put(t, at, g.bie - 64, entry.high);
-    bits::put(t, at + (g.bie - 64), 64, entry.low);
-    bits::put(t, at + g.bie, g.val, label as u64);
+    bits::put_wide(&mut t[..], at + bie, val, 0, label as u64);
+    bits::put_wide(&mut t[..], at, bie, high, low);
 }
 
-fn least(a: usize, b: usize) -> usize
-    ensures { λ r. ⌜ r ≡ min a b ⌝ }
+// How many of n bits, more than 64, one store writes: all up to 128, else all but the last 32.
+fn in_one(n: usize) -> usize
+    requires { ⌜ (64 < n) × (n ≤ 160) ⌝ }
+    ensures { λ r. ⌜ (64 < r) × (r ≤ 128) × (r ≤ n) × (n ≤ r + 32) ⌝ }
 {
-    if a < b { a } else { b }
+    if n <= 128 { n } else { n - 32 }
 }
 
-// The n bits from bit off on become zero.
+// The n bits from bit `from` on stand from bit `to` on too. All are read before any is written.
+pub fn copy(t: &mut [u8], from: usize, to: usize, n: usize)
+    requires { ⌜ (1 ≤ n) × (n ≤ 160) × (from + n ≤ 8 * length (now t)) × (from + n ≤ 2 ^ 27) × (to + n ≤ 8 * length (now t)) × (to + n ≤ 2 ^ 27) ⌝ }
+    ensures { λ _. ⌜ now (t .exit) ≡ putField (now (t .entry)) to n (field (now (t .entry)) from n) ⌝ }
+{
+    if n <= 64 {
+        let x = bits::get(t, from, n);
+        bits::put_wide(&mut t[..], to, n, 0, x);
+        return;
+    }
+    let m = in_one(n);
+    let high = bits::get(t, from, m - 64);
+    let low = bits::get(t, from + (m - 64), 64);
+    let rest = bits::get(t, from + m, n - m);
+    bits::put_wide(&mut t[..], to + m, n - m, 0, rest);
+    bits::put_wide(&mut t[..], to, m, high, low);
+}
+
+// b with its last 8 - k bits zero.
+fn first_bits(b: u8, k: usize) -> u8
+    requires { ⌜ k ≤ 8 ⌝ }
+    ensures { λ r. ⌜ r ≡ replaced b 0 (8 - k) 0 ⌝ }
+{
+    let q = pow(8 - k);
+    (b as u64 / q * q) as u8
+}
+
+// b with its first k bits zero.
+fn last_bits(b: u8, k: usize) -> u8
+    requires { ⌜ k ≤ 8 ⌝ }
+    ensures { λ r. ⌜ r ≡ replaced b (8 - k) k 0 ⌝ }
+{
+    (b as u64 % pow(8 - k)) as u8
+}
+
+// The bytes from i to below e become zero.
+fn clear_bytes(t: &mut [u8], i: usize, e: usize)
+    requires { ⌜ Bytes (now t) × (i ≤ e) × (e ≤ length (now t)) ⌝ }
+    ensures { λ _. ⌜ now (t .exit) ≡ putField (now (t .entry)) (8 * i) (8 * (e - i)) 0 ⌝ }
+{
+    let mut k = i;
+    while k < e {
+        t[k] = 0;
+        k += 1;
+    }
+}
+
+// The n bits from bit off on become zero: the last bits of a byte, whole bytes, the first bits of a byte.
 pub fn clear(t: &mut [u8], off: usize, n: usize)
     requires { ⌜ (off + n ≤ 8 * length (now t)) × (off + n ≤ 2 ^ 27) ⌝ }
     ensures { λ _. ⌜ now (t .exit) ≡ putField (now (t .entry)) off n 0 ⌝ }
 {
-    let mut done: usize = 0;
-    while done < n {
-        let m = least(n - done, 64);
-        bits::put(t, off + done, m, 0);
-        done += m;
+    if n < 16 {
+        bits::put(t, off, n, 0);
+        return;
+    }
+    let i = off / 8;
+    let e = (off + n) / 8;
+    let k = (off + n) % 8;
+    t[i] = first_bits(t[i], off % 8);
+    clear_bytes(t, i + 1, e);
+    if k > 0 {
+        t[e] = last_bits(t[e], k);
     }
 }
 
@@ -113,23 +199,27 @@ pub fn renew(t: &mut [u8], g: Layout, j: usize, l: usize)
     put_overflow_link(t, g, j, l);
 }
 
-// A slot under displaced bits: the L bits from `base` on, which count as h, are put back, the slot is stored, they are
-// read again, and what stood there returns. The answer is what they are now.
+// The slot at bit `from` also to bit `at`, where the L bits from `base` on count as h and themselves stay. The answer is
+// what they would be then. A slot behind them does not touch them; under them, they are put back, the slot is stored,
+// they are read again, and what stood there returns.
 pub fn poke_displaced(
     t: &mut [u8],
     g: Layout,
     base: usize,
     h: usize,
+    from: usize,
     at: usize,
-    entry: Key,
-    label: u32,
 ) -> usize
-    requires { ⌜ Table g (now t) × (base + g .link ≤ g .bits) × (h < 2 ^ g .link) × (at + g .slot ≤ g .bits) × Slotted g (keyNumber entry) label ⌝ }
-    ensures { λ r. ⌜ Poked g (now (t .entry)) (now (t .exit)) base h at (slotOf g (keyNumber entry) label) r ⌝ }
+    requires { ⌜ Table g (now t) × (h < 2 ^ g .link) × (base ≤ at) × (at + g .slot ≤ g .bits) × (base + g .link ≤ from) × (from + g .slot ≤ g .bits) ⌝ }
+    ensures { λ r. ⌜ Poked g (now (t .entry)) (now (t .exit)) base h at (field (now (t .entry)) from (g .slot)) r ⌝ }
 {
+    if at >= base + g.link {
+        copy(t, from, at, g.slot);
+        return h;
+    }
     let old = bits::get(t, base, g.link);
     bits::put(t, base, g.link, h as u64);
-    put_slot(t, g, at, entry, label);
+    copy(t, from, at, g.slot);
     let new = bits::get(t, base, g.link);
     bits::put(t, base, g.link, old);
     new as usize

@@ -1,6 +1,6 @@
 -- What the functions below the calls are asked and answer. Only contracts of functions cite these; the calls' own do not.
 use mathlib.Core.Path.{_≡_}
-use Prim.Native.Nat.{ℕ, suc, _+_, _*_, _/_, _^_, _≤_, _<_, min}
+use Prim.Native.Nat.{ℕ, suc, _+_, _*_, _^_, _≤_, _<_, min}
 use mathlib.Core.Bool.{cond}
 use mathlib.Core.List.{List, [], _∷_}
 use mathlib.Core.Option.{Option, none, some}
@@ -30,21 +30,12 @@ pub record View (t : List ℕ) (b : Slots) (at n : ℕ) : Type 0 where
   pub link : b .link ≤ 16
   pub fits : b .head < 2 ^ b .link
 
--- n bits of each of `count` slots, those of slot 0 at bit `at`, and `step` bits from one slot to the next
-module _ (t : List ℕ) (at step count n : ℕ) where
-  -- one load of eight bytes has them, whatever the slot
-  pub record Tails : Type 0 where
-    pub low : 0 < n
-    pub high : n ≤ 57
-    pub near : at + count * step ≤ 2 ^ 28
-    pub room : (k : ℕ) → k < count → (at + k * step) / 8 + 8 ≤ length t
-
-  -- r is the first slot from `from` on whose bits are q; count if none is
-  pub record NextTail (q from r : ℕ) : Type 0 where
-    pub low : from ≤ r
-    pub high : r ≤ count
-    pub before : (k : ℕ) → k < r → from ≤ k → field t (at + k * step) n ≡ q → ⊥
-    pub found : r < count → field t (at + r * step) n ≡ q
+-- n bits of each of `count` slots, those of slot 0 at bit `at`, with `step` bits from one slot to the next: r is the first slot that has the
+-- bits q; count if none has
+pub record First (t : List ℕ) (at step n q count : ℕ) (r : ℕ) : Type 0 where
+  pub high : r ≤ count
+  pub before : (k : ℕ) → k < r → field t (at + k * step) n ≡ q → ⊥
+  pub found : r < count → field t (at + r * step) n ≡ q
 
 module _ (g : Layout) where
   -- the slots b are within the bytes

@@ -12,7 +12,8 @@ pub mod Sound
 pub mod Computing
 -- Laws behind the code.
 pub mod Reads
-pub mod Tails
+pub mod Rows
 pub mod Walks
 pub mod Finds
+pub mod Scans
 pub mod Opened

@@ -18,12 +18,56 @@ pub fn block_at(b: Blocks, i: usize) -> usize
     b.start + i * b.bits
 }
 
+// The first bits of a block: its counter, and the L bits behind it.
+pub struct Front {
+    pub counter: usize,
+    pub link: usize,
+}
+
+// 2 to the k.
+pub(crate) fn pow(k: usize) -> u64
+    requires { ⌜ k < 64 ⌝ }
+    ensures { λ r. ⌜ r ≡ 2 ^ k ⌝ }
+{
+    1 << k
+}
+
+// The two fields from bit `at` on, in one load.
+fn front_at(t: &[u8], at: usize, counter: usize, link: usize) -> Front
+    requires { ⌜ (0 < counter) × (counter ≤ 16) × (link ≤ 16) × (at + (counter + link) ≤ 8 * length (now t)) ⌝ }
+    ensures { λ r. ⌜ (r .counter ≡ field (now (t .entry)) at counter) × (r .link ≡ field (now (t .entry)) (at + counter) link) ⌝ }
+{
+    let both = bits::get_short(t, at, counter + link);
+    let all = pow(link);
+    Front {
+        counter: (both / all) as usize,
+        link: (both % all) as usize,
+    }
+}
+
+pub fn basic_front(t: &[u8], g: Layout, i: usize) -> Front
+    requires { ⌜ Table g (now t) × (i < g .lists) ⌝ }
+    ensures { λ r. ⌜ (r .counter ≡ basicAt (decode g (now (t .entry)) .basic) i .counter) × (r .link ≡ basicAt (decode g (now (t .entry)) .basic) i .head) ⌝ }
+{
+    front_at(t, block_at(g.basic, i), g.basic.counter, g.link)
+}
+
+pub fn overflow_front(t: &[u8], g: Layout, j: usize) -> Front
+    requires { ⌜ Table g (now t) × (j < g .nob) ⌝ }
+    ensures { λ r. ⌜ (r .counter ≡ overflowAt (decode g (now (t .entry)) .overflow) j .counter) × (r .link ≡ overflowAt (decode g (now (t .entry)) .overflow) j .link) ⌝ }
+{
+    front_at(t, block_at(g.overflow, j), g.overflow.counter, g.link)
+}
+
 // A field of at most 16 bits, as an index.
 fn short_field(t: &[u8], at: usize, n: usize) -> usize
-    requires { ⌜ (at + n ≤ 8 * length (now t)) × (n ≤ 64) ⌝ }
+    requires { ⌜ (at + n ≤ 8 * length (now t)) × (n ≤ 57) ⌝ }
     ensures { λ r. ⌜ r ≡ field (now (t .entry)) at n ⌝ }
 {
-    bits::get(t, at, n) as usize
+    if n == 0 {
+        return 0;
+    }
+    bits::get_short(t, at, n) as usize
 }
 
 pub fn free_start(t: &[u8], g: Layout) -> usize

@@ -1,7 +1,6 @@
 // A list's blocks: following them to the last, and the slots of each.
 use crate::blocks::basic_slots;
-use crate::blocks::overflow_counter;
-use crate::blocks::overflow_link;
+use crate::blocks::overflow_front;
 use crate::blocks::overflow_slots;
 use crate::slots::Slots;
 use crate::slots::least;
@@ -25,14 +24,14 @@ pub fn follow(t: &[u8], g: Layout, first: usize) -> usize
         if b >= g.nob {
             return g.nob;
         }
-        let c = overflow_counter(t, g, b);
-        if c < g.sio {
+        let front = overflow_front(t, g, b);
+        if front.counter < g.sio {
             return b;
         }
-        if c > g.sio {
+        if front.counter > g.sio {
             return g.nob;
         }
-        b = overflow_link(t, g, b);
+        b = front.link;
         k += 1;
     }
     g.nob

@@ -1,42 +1,40 @@
 // Find: the label of a key, if the table holds it.
 use crate::answers::FindAnswer;
-use crate::blocks::basic_counter;
-use crate::blocks::basic_head;
-use crate::blocks::overflow_counter;
+use crate::blocks::basic_front;
+use crate::blocks::basic_slots;
+use crate::blocks::overflow_front;
 use crate::blocks::overflow_link;
-use crate::lists::basic_run;
 use crate::lists::displaced_run;
 use crate::lists::follow;
 use crate::lists::overflow_run;
-use crate::slots::Slots;
-use crate::slots::label_in;
+use crate::slots::label_at;
 use crate::slots::scan;
+use crate::slots::scan_displaced;
 use settings::Key;
 use settings::Laid;
 use settings::Layout;
 use settings::Refusal;
 use settings::Settings;
 ghost use mathlib.Core.Path.{_≡_};
-ghost use Prim.Native.Nat.{suc, _+_, _^_, _≤_, _<_};
-ghost use lib.ListN.{getD};
-ghost use Rattle.settings.specs.Proper.{Proper};
+ghost use Prim.Native.Nat.{_+_, _*_, _^_, _≤_, _<_};
+ghost use lib.ListN.{length};
+ghost use Rattle.bits.specs.Field.{field};
 ghost use Rattle.settings.specs.Key.{keyNumber};
-ghost use Rattle.table.specs.State.{labelOf};
 ghost use Rattle.table.specs.Decode.{decode};
 ghost use Rattle.table.specs.Table.{Table};
 ghost use Rattle.table.specs.Find.{findIn};
 ghost use Rattle.table.specs.Calls.{findAnswer};
-ghost use Rattle.table.specs.Steps.{Run, slotsIn, Followed, Overflows, gatherFrom, findFrom};
+ghost use Rattle.table.specs.Steps.{slotsIn, basicRun, Followed, Overflows, gatherFrom, findFrom};
 ghost use Rattle.table.specs.declared.answers.FindAnswer.the-variants as found;
 
-// Held, by slot j, where n slots stand before these.
-fn held(t: &[u8], g: Layout, b: Slots, j: usize, n: usize) -> FindAnswer
-    requires { ⌜ Proper g × Run g (now t) b × (j < b .count) × (n ≤ 2 ^ 20) ⌝ }
-    ensures { λ r. ⌜ r ≡ found.Held (labelOf g (getD (slotsIn g (now (t .entry)) b) j 0)) (n + suc j) ⌝ }
+// Held, with the label of val bits from bit `at` on; n entries were compared.
+fn held(t: &[u8], at: usize, val: usize, n: usize) -> FindAnswer
+    requires { ⌜ (at + val ≤ 8 * length (now t)) × (val ≤ 32) × (n ≤ 2 ^ 21) ⌝ }
+    ensures { λ r. ⌜ r ≡ found.Held (field (now (t .entry)) at val) n ⌝ }
 {
     FindAnswer::Held {
-        label: label_in(t, g, b, j),
-        compared: (n + (j + 1)) as u32,
+        label: bits::get(t, at, val) as u32,
+        compared: n as u32,
     }
 }
 
@@ -50,30 +48,49 @@ fn find_blocks(t: &[u8], g: Layout, first: usize, entry: Key, k: usize) -> FindA
     let mut n = k;
     let mut q: usize = 0;
     while q < g.nob {
-        let c = overflow_counter(t, g, b);
-        let run = overflow_run(g, b, c);
-        let j = scan(t, g, run, entry);
+        let front = overflow_front(t, g, b);
+        let run = overflow_run(g, b, front.counter);
+        let j = scan(
+            &t[..],
+            run.start,
+            run.count,
+            g.sio,
+            g.slot,
+            g.bie,
+            entry.high,
+            entry.low,
+        );
         if j < run.count {
-            return held(t, g, run, j, n);
+            return held(t, run.start + j * g.slot + g.bie, g.val, n + (j + 1));
         }
         n += run.count;
-        if c < g.sio {
+        if front.counter < g.sio {
             return FindAnswer::None { compared: n as u32 };
         }
-        b = overflow_link(t, g, b);
+        b = front.link;
         q += 1;
     }
     FindAnswer::None { compared: n as u32 }
 }
 
-// The entry in the slots of a list that has no overflow blocks.
-fn find_short(t: &[u8], g: Layout, b: Slots, entry: Key) -> FindAnswer
-    requires { ⌜ Table g (now t) × Run g (now t) b × (keyNumber entry < 2 ^ g .bie) ⌝ }
-    ensures { λ r. ⌜ r ≡ findFrom g (keyNumber entry) (slotsIn g (now (t .entry)) b) 0 ⌝ }
+// The entry in the first slots of a basic block, which are all of the list.
+fn find_short(t: &[u8], g: Layout, i: usize, count: usize, entry: Key) -> FindAnswer
+    requires { ⌜ Table g (now t) × (i < g .lists) × (count ≤ g .sib) × (keyNumber entry < 2 ^ g .bie) ⌝ }
+    ensures { λ r. ⌜ r ≡ findFrom g (keyNumber entry) (slotsIn g (now (t .entry)) (basicRun g i count)) 0 ⌝ }
 {
-    let j = scan(t, g, b, entry);
-    if j < b.count {
-        return held(t, g, b, j, 0);
+    let start = basic_slots(g, i);
+    let j = scan(
+        &t[..],
+        start,
+        count,
+        g.sib,
+        g.slot,
+        g.bie,
+        entry.high,
+        entry.low,
+    );
+    if j < count {
+        return held(t, start + j * g.slot + g.bie, g.val, j + 1);
     }
     FindAnswer::None { compared: j as u32 }
 }
@@ -90,9 +107,23 @@ fn find_long(t: &[u8], g: Layout, i: usize, first: usize, entry: Key) -> FindAns
     }
     let displaced = overflow_link(t, g, last);
     let run = displaced_run(g, i, displaced);
-    let j = scan(t, g, run, entry);
+    let j = scan_displaced(
+        &t[..],
+        run.start,
+        run.count,
+        g.sib,
+        run.link,
+        run.head,
+        g.slot,
+        g.bie,
+        entry.high,
+        entry.low,
+    );
     if j < g.sib {
-        return held(t, g, run, j, 0);
+        return FindAnswer::Held {
+            label: label_at(t, run, run.start + j * g.slot + g.bie, g.val),
+            compared: (j + 1) as u32,
+        };
     }
     find_blocks(t, g, first, entry, g.sib)
 }
@@ -102,14 +133,14 @@ pub fn find_in(t: &[u8], g: Layout, i: usize, entry: Key) -> FindAnswer
     requires { ⌜ Table g (now t) × (i < g .lists) × (keyNumber entry < 2 ^ g .bie) ⌝ }
     ensures { λ r. ⌜ r ≡ findIn g (decode g (now (t .entry))) i (keyNumber entry) ⌝ }
 {
-    let c = basic_counter(t, g, i);
-    if c <= g.sib {
-        return find_short(t, g, basic_run(g, i, c), entry);
+    let front = basic_front(t, g, i);
+    if front.counter <= g.sib {
+        return find_short(t, g, i, front.counter, entry);
     }
-    if c > g.sib + 1 {
+    if front.counter > g.sib + 1 {
         return FindAnswer::Refused(Refusal::Damage);
     }
-    find_long(t, g, i, basic_head(t, g, i), entry)
+    find_long(t, g, i, front.link, entry)
 }
 
 // "Find: "held" with label, or "none"".

@@ -1,16 +1,19 @@
 // Slots in a row, and what they hold.
+use crate::blocks::pow;
 use settings::Key;
 use settings::Layout;
+use windows::candidate;
 ghost use mathlib.Core.Path.{_≡_};
-ghost use Prim.Native.Nat.{_+_, _-_, _*_, _/_, _%_, _^_, _≤_, _<_, min};
+ghost use Prim.Native.Nat.{ℕ, _+_, _-_, _*_, _/_, _%_, _^_, _≤_, _<_, min};
 ghost use lib.ListN.{length, getD};
 ghost use lib.Dec.{eqb};
 ghost use Rattle.bits.specs.Field.{field};
+ghost use Rattle.bits.specs.Put.{putField};
 ghost use Rattle.settings.specs.Proper.{Proper};
 ghost use Rattle.settings.specs.Key.{keyNumber};
 ghost use Rattle.table.specs.State.{labelOf};
-ghost use Rattle.table.specs.Find.{position};
-ghost use Rattle.table.specs.Steps.{shown, View, Run, Tails, NextTail, slotsIn};
+ghost use Rattle.table.specs.Steps.{shown, View, First, Run, slotsIn};
+ghost use Rattle.windows.specs.Rows.{Row};
 
 // Slots of a block: where the first begins, how many they are, and what their first `link` bits count
 // as. In a basic block that overflows those bits stand in the list's last link; elsewhere `link` is 0.
@@ -25,14 +28,6 @@ pub(crate) fn least(a: usize, b: usize) -> usize
     ensures { λ r. ⌜ r ≡ min a b ⌝ }
 {
     if a < b { a } else { b }
-}
-
-// 2 to the k.
-fn pow(k: usize) -> u64
-    requires { ⌜ k < 64 ⌝ }
-    ensures { λ r. ⌜ r ≡ 2 ^ k ⌝ }
-{
-    1 << k
 }
 
 // The n bits of x above its k low ones.
@@ -82,91 +77,185 @@ fn same_entry(t: &[u8], b: Slots, at: usize, n: usize, entry: Key) -> bool
     seen(t, b, at, n - 64) == entry.high
 }
 
-// The entry's bits above its low m.
-fn above(entry: Key, m: usize) -> u64
-    requires { ⌜ (0 < m) × (m < 64) × (keyNumber entry / 2 ^ m < 2 ^ 64) ⌝ }
-    ensures { λ r. ⌜ r ≡ keyNumber entry / 2 ^ m ⌝ }
+// Whether the n bits from bit `at` on are the number high * 2^64 + low. Of more than 64 bits the low ones are compared
+// first.
+fn holds(t: &[u8], at: usize, n: usize, high: u64, low: u64) -> bool
+    requires { ⌜ (at + n ≤ 8 * length (now t)) × (at + n ≤ 2 ^ 27) × (n ≤ 128) × (high * 2 ^ 64 + low < 2 ^ n) ⌝ }
+    ensures { λ r. ⌜ r ≡ eqb (field (now (t .entry)) at n) (high * 2 ^ 64 + low) ⌝ }
 {
-    join(entry.high, 64 - m, entry.low / pow(m))
-}
-
-// Whether the field of n bits from bit `at` on is the entry, where the last m bits of both are known
-// to be the same.
-fn same_rest(t: &[u8], b: Slots, at: usize, n: usize, m: usize, entry: Key) -> bool
-    requires { ⌜ View (now t) b at n × (n ≤ 128) × (keyNumber entry < 2 ^ n) ⌝ }
-    requires { ⌜ (0 < m) × (m < 64) × (m ≤ n) × (field (shown (now t) b) (at + (n - m)) m ≡ keyNumber entry % 2 ^ m) ⌝ }
-    ensures { λ r. ⌜ r ≡ eqb (field (shown (now (t .entry)) b) at n) (keyNumber entry) ⌝ }
-{
-    if n - m <= 64 {
-        return seen(t, b, at, n - m) == above(entry, m);
+    if n <= 64 {
+        return bits::get(t, at, n) == low;
     }
-    same_entry(t, b, at, n, entry)
+    if bits::get(t, at + (n - 64), 64) != low {
+        return false;
+    }
+    bits::get(t, at, n - 64) == high
 }
 
-// The first slot from `from` on whose n bits are q, where those of slot 0 are at bit `at`; count if
-// none is. It takes no struct, since a struct is copied at each turn of a loop that passes it on.
-fn next_tail(t: &[u8], at: usize, step: usize, from: usize, count: usize, n: usize, q: u64) -> usize
-    requires { ⌜ Tails (now t) at step count n × (from ≤ count) ⌝ }
-    ensures { λ r. ⌜ NextTail (now (t .entry)) at step count n q from r ⌝ }
+// The first slot from `from` on that holds the number, slot by slot; count if none does.
+fn scan_from(
+    t: &[u8],
+    start: usize,
+    from: usize,
+    count: usize,
+    slot: usize,
+    bie: usize,
+    high: u64,
+    low: u64,
+) -> usize
+    requires { ⌜ Row (now t) start slot bie count × (high * 2 ^ 64 + low < 2 ^ bie) × (from < 2 ^ 16) ⌝ }
+    requires { ⌜ ((k : ℕ) → k < from → k < count → field (now t) (start + k * slot) bie ≡ high * 2 ^ 64 + low → ⊥) ⌝ }
+    ensures { λ r. ⌜ First (now (t .entry)) start slot bie (high * 2 ^ 64 + low) count r ⌝ }
 {
-    let mut p = at + from * step;
     let mut j = from;
     while j < count {
-        if bits::get_inner(t, p, n) == q {
+        if holds(t, start + j * slot, bie, high, low) {
             return j;
         }
-        p += step;
         j += 1;
     }
-    j
+    count
 }
 
-// The first of the slots that holds the entry, by the last m bits of each first: one load has them,
-// and no displaced bit is among them.
-fn scan_tails(t: &[u8], g: Layout, b: Slots, entry: Key, m: usize) -> usize
-    requires { ⌜ Proper g × Run g (now t) b × (keyNumber entry < 2 ^ g .bie) ⌝ }
-    requires { ⌜ (0 < m) × (m ≤ 57) × (b .link + m ≤ g .bie) × ((b .start + b .count * g .slot) / 8 + 8 ≤ length (now t)) ⌝ }
-    ensures { λ r. ⌜ r ≡ position g (keyNumber entry) (slotsIn g (now (t .entry)) b) ⌝ }
+// How many slots are looked at for the first `count`: of a small block all, since a fixed number of turns can be foreseen.
+fn looked_at(count: usize, room: usize) -> usize
+    requires { ⌜ count ≤ room ⌝ }
+    ensures { λ r. ⌜ (count ≤ r) × (r ≤ room) ⌝ }
 {
-    let q = entry.low % pow(m);
-    let at = b.start + (g.bie - m);
-    let mut j = next_tail(t, at, g.slot, 0, b.count, m, q);
-    while j < b.count {
-        if same_rest(t, b, b.start + j * g.slot, g.bie, m, entry) {
-            return j;
-        }
-        j = next_tail(t, at, g.slot, j + 1, b.count, m, q);
+    if room <= 8 {
+        return room;
     }
-    j
+    count
 }
 
-// The same by all bits of each slot at once.
-fn scan_whole(t: &[u8], g: Layout, b: Slots, entry: Key) -> usize
-    requires { ⌜ Proper g × Run g (now t) b × (keyNumber entry < 2 ^ g .bie) ⌝ }
-    ensures { λ r. ⌜ r ≡ position g (keyNumber entry) (slotsIn g (now (t .entry)) b) ⌝ }
+// The first of `count` slots that holds the number, from 0; count if none does. A window of each slot is looked at first.
+// The block has room for `room` slots.
+pub fn scan(
+    t: &[u8],
+    start: usize,
+    count: usize,
+    room: usize,
+    slot: usize,
+    bie: usize,
+    high: u64,
+    low: u64,
+) -> usize
+    requires { ⌜ Row (now t) start slot bie room × (count ≤ room) × (high * 2 ^ 64 + low < 2 ^ bie) ⌝ }
+    ensures { λ r. ⌜ First (now (t .entry)) start slot bie (high * 2 ^ 64 + low) count r ⌝ }
+{
+    let n = looked_at(count, room);
+    let from = candidate(t, start, n, slot, bie, high, low);
+    scan_from(t, start, from, count, slot, bie, high, low)
+}
+
+// The first of the slots that holds the entry, where their first bits are what they count as.
+fn scan_seen(t: &[u8], b: Slots, slot: usize, bie: usize, entry: Key) -> usize
+    requires { ⌜ Row (now t) (b .start) slot bie (b .count) × (b .start + b .link ≤ 8 * length (now t)) × (b .link ≤ 16) × (b .head < 2 ^ b .link) × (keyNumber entry < 2 ^ bie) ⌝ }
+    ensures { λ r. ⌜ First (shown (now (t .entry)) b) (b .start) slot bie (keyNumber entry) (b .count) r ⌝ }
 {
     let mut at = b.start;
     let mut j: usize = 0;
     while j < b.count {
-        if same_entry(t, b, at, g.bie, entry) {
+        if same_entry(t, b, at, bie, entry) {
             return j;
         }
-        at += g.slot;
+        at += slot;
         j += 1;
     }
     j
 }
 
-// The first of the slots that holds the entry, from 0; their number if none does. The last bits are
-// looked at first, unless a load could pass the table's end, or slot 0's entry is displaced whole.
-pub fn scan(t: &[u8], g: Layout, b: Slots, entry: Key) -> usize
-    requires { ⌜ Proper g × Run g (now t) b × (keyNumber entry < 2 ^ g .bie) ⌝ }
-    ensures { λ r. ⌜ r ≡ position g (keyNumber entry) (slotsIn g (now (t .entry)) b) ⌝ }
+// Whether slot 0, whose first `link` bits count as `head`, holds the number. Its last bits, which are not displaced, are
+// looked at first.
+fn first_holds(
+    t: &[u8],
+    start: usize,
+    link: usize,
+    head: u64,
+    bie: usize,
+    high: u64,
+    low: u64,
+) -> bool
+    requires { ⌜ (start + bie ≤ 8 * length (now t)) × (start + bie ≤ 2 ^ 27) × (bie ≤ 128) × (high * 2 ^ 64 + low < 2 ^ bie) ⌝ }
+    requires { ⌜ (link < bie) × (link ≤ 16) × (head < 2 ^ link) ⌝ }
+    ensures { λ r. ⌜ r ≡ eqb (field (putField (now (t .entry)) start link head) start bie) (high * 2 ^ 64 + low) ⌝ }
 {
-    if (b.link < g.bie) & ((b.start + b.count * g.slot) / 8 + 8 <= t.len()) {
-        return scan_tails(t, g, b, entry, least(g.bie - b.link, 57));
+    let m = least(bie - link, 57);
+    if bits::get_short(t, start + (bie - m), m) != low % pow(m) {
+        return false;
     }
-    scan_whole(t, g, b, entry)
+    let b = Slots {
+        start: start,
+        count: 1,
+        link: link,
+        head: head,
+    };
+    let number = Key {
+        high: high,
+        low: low,
+    };
+    same_entry(&t[..], b, start, bie, number)
+}
+
+// The same as `scan` of the slots of a basic block that overflows, whose first `link` bits count as `head`. Unless they
+// reach past the entry of slot 0, the other slots are read as they stand.
+pub fn scan_displaced(
+    t: &[u8],
+    start: usize,
+    count: usize,
+    room: usize,
+    link: usize,
+    head: u64,
+    slot: usize,
+    bie: usize,
+    high: u64,
+    low: u64,
+) -> usize
+    requires { ⌜ Row (now t) start slot bie room × (count ≤ room) × (high * 2 ^ 64 + low < 2 ^ bie) ⌝ }
+    requires { ⌜ (start + link ≤ 8 * length (now t)) × (link ≤ 16) × (head < 2 ^ link) ⌝ }
+    ensures { λ r. ⌜ First (putField (now (t .entry)) start link head) start slot bie (high * 2 ^ 64 + low) count r ⌝ }
+{
+    if count == 0 {
+        return 0;
+    }
+    if link >= bie {
+        let b = Slots {
+            start: start,
+            count: count,
+            link: link,
+            head: head,
+        };
+        let number = Key {
+            high: high,
+            low: low,
+        };
+        return scan_seen(&t[..], b, slot, bie, number);
+    }
+    if first_holds(t, start, link, head, bie, high, low) {
+        return 0;
+    }
+    1
+        + scan(
+            &t[..],
+            start + slot,
+            count - 1,
+            room - 1,
+            slot,
+            bie,
+            high,
+            low,
+        )
+}
+
+// The label of val bits from bit `at` on, among the slots.
+pub fn label_at(t: &[u8], b: Slots, at: usize, val: usize) -> u32
+    requires { ⌜ View (now t) b at val × (val ≤ 32) ⌝ }
+    ensures { λ r. ⌜ r ≡ field (shown (now (t .entry)) b) at val ⌝ }
+{
+    if at >= b.start + b.link {
+        return bits::get(t, at, val) as u32;
+    }
+    seen(&t[..], b, at, val) as u32
 }
 
 // The label in slot j.

@@ -52,6 +52,23 @@ module _ (g : Layout) (e : ℕ) where
   none-if [] f = refl
   none-if (x ∷ xs) f = rw (ne-eqb (entryOf g x) e (f 0 (omega arith))) (none-if xs (λ i l. f (suc i) (omega arith)))
 
+  -- the entry stands in slot i, and in none of the first j slots
+  pub position-at : (xs : List ℕ) (i : ℕ) → i < length xs → entryOf g (getD xs i 0) ≡ e → position g e xs ≤ i
+  unfolding position
+  position-at [] i h q = omega arith
+  position-at (x ∷ xs) zero h q = rw (eq-eqb (entryOf g x) e q) (omega arith)
+  position-at (x ∷ xs) (suc i) h q =
+      cases (eqb (entryOf g x) e)
+      (λ p. rw p (omega arith))
+      (λ p. rw p (omega (arith, position-at xs i (omega arith) q)))
+
+  pub position-from : (xs : List ℕ) (j : ℕ) → j ≤ length xs → ((i : ℕ) → i < j → entryOf g (getD xs i 0) ≡ e → ⊥) → j ≤ position g e xs
+  unfolding position
+  position-from [] j h f = h
+  position-from (x ∷ xs) zero h f = omega arith
+  position-from (x ∷ xs) (suc j) h f =
+      rw (ne-eqb (entryOf g x) e (f 0 (omega arith))) (omega (arith, position-from xs j (omega arith) (λ i l. f (suc i) (omega arith))))
+
 -- ---- slots, each with an entry that stands neither before it nor in ys
 
 module _ (g : Layout) (ys : List ℕ) where

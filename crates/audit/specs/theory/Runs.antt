@@ -2,13 +2,13 @@
 use mathlib.Core.Path.{_≡_, refl, sym, ap, ap₂, _∙_}
 use mathlib.Core.Bool.{Bool, true, false, cond, _&&_}
 use mathlib.Core.List.{List, [], _++_, append-nil}
-use Prim.Native.Nat.{ℕ, suc, _+_, _-_, _*_, _≤_, _<_, min}
+use Prim.Native.Nat.{ℕ, suc, _+_, _-_, _*_, _^_, _≤_, _<_, min}
 use native.Mathlib.Omega.{arith}
-use native.Mathlib.Nat.{mul-le-mul-right}
 use lib.ListN.{length, getD, take, drop}
 use lib.Dec.{eqb, ltb}
 use borrow.Author.Tests.{lt-ltb, le-ltb}
 use Rattle.bits.specs.Field.{field}
+use Rattle.bits.specs.theory.Fields.{field-cat}
 use Rattle.settings.specs.Proper.{Proper}
 use Rattle.settings.specs.declared.layout.Layout.{Layout}
 use Rattle.table.specs.State.{Basic, Overflow, basicAt, overflowAt, entryOf, unpack}
@@ -16,24 +16,27 @@ use Rattle.table.specs.Decode.{basicSlots, decode}
 use Rattle.table.specs.Table.{Table}
 use Rattle.table.specs.Find.{position}
 use Rattle.table.specs.Check.{allZero, everyBelow, hasEntry, noEntryTwice}
-use Rattle.table.specs.Steps.{shown, View, Run, slotsIn, basicRun, displacedRun, lastFrom}
-use Rattle.table.specs.theory.Reads.{slot-entry, slots-length, slot-in, overflow-run-within, basic-slots-in, displaced-slots-in, overflow-slots-in, link-lt}
+use Rattle.table.specs.Steps.{shown, View, First, Run, slotsIn, basicRun, displacedRun, overflowRun, lastFrom}
+use Rattle.table.specs.theory.Reads.{slots-length, entry-in, slot-inside, overflow-run-within, basic-slots-in, displaced-slots-in, overflow-slots-in, link-lt}
 use Rattle.table.specs.declared.slots.Slots.{Slots}
 use Rattle.audit.specs.Entries.{nextOf, runOf, slotsFrom, alone}
 use Rattle.audit.specs.Lists.{shortSound, longFrom, longApart}
 use Rattle.audit.specs.theory.Tests.{and-true}
 use Rattle.audit.specs.theory.Zeros.{basic-zeros}
-use Rattle.audit.specs.theory.Doubles.{held-position, held-left, held-right, apart-both, slots-out, slots-on}
+use Rattle.audit.specs.theory.Doubles.{held-position, held-left, held-right, position-at, position-from, apart-both, slots-out, slots-on}
 
 -- ---- slot j of a run
 
-module _ (g : Layout) (F : Proper g) (t : List ℕ) (b : Slots) (R : Run g t b) where
-  slot-room : (j : ℕ) → j < b .count → b .start + j * g .slot + g .slot ≤ b .start + b .count * g .slot
-  slot-room j h = omega (arith, mul-le-mul-right (g .slot) h)
+-- an entry of more than 64 bits is read in two parts, the last of 64
+pub two-parts : (s : List ℕ) (at n h l : ℕ) → 64 ≤ n → h ≡ field s at (n - 64) → l ≡ field s (at + (n - 64)) 64 → h * 2 ^ 64 + l ≡ field s at n
+two-parts s at n h l m p q =
+    let e : n - 64 + 64 ≡ n = omega arith in
+    ap₂ (λ (x y : ℕ). x * 2 ^ 64 + y) p q ∙ sym (field-cat s at (n - 64) 64) ∙ ap (field s at) e
 
+module _ (g : Layout) (F : Proper g) (t : List ℕ) (b : Slots) (R : Run g t b) where
   pub entry-view : (j at : ℕ) → j < b .count → at ≡ b .start + j * g .slot → View t b at (g .bie)
   entry-view j at h e =
-      let r = slot-room j h in
+      let r = slot-inside g t b j h in
       record {
         from = omega arith;
         ends = omega (arith, R .ends, F .slot-is);
@@ -45,9 +48,18 @@ module _ (g : Layout) (F : Proper g) (t : List ℕ) (b : Slots) (R : Run g t b) 
 
   pub entry-is : (j at : ℕ) → j < b .count → at ≡ b .start + j * g .slot → field (shown t b) at (g .bie) ≡ entryOf g (getD (slotsIn g t b) j 0)
   entry-is j at h e =
-      ap (λ (a : ℕ). field (shown t b) a (g .bie)) e
-      ∙ sym (slot-entry g F (shown t b) (b .start + j * g .slot))
-      ∙ ap (entryOf g) (sym (slot-in g t b j h))
+      ap (λ (a : ℕ). field (shown t b) a (g .bie)) e ∙ sym (entry-in g t b F j h)
+
+  -- the first j slots looked through for an entry: it stands in one of them, or in none
+  pub met-before : (e j r : ℕ) → j ≤ b .count → First (shown t b) (b .start) (g .slot) (g .bie) e j r → r < j → position g e (slotsIn g t b) < j
+  met-before e j r h f l =
+      let n = slots-length g t b in
+      omega (arith, position-at g e (slotsIn g t b) r (omega arith) (entry-in g t b F r (omega arith) ∙ f .found l))
+
+  pub none-before : (e j r : ℕ) → j ≤ b .count → First (shown t b) (b .start) (g .slot) (g .bie) e j r → j ≤ r → j ≤ position g e (slotsIn g t b)
+  none-before e j r h f l =
+      let n = slots-length g t b in
+      position-from g e (slotsIn g t b) j (omega arith) (λ k i q. f .before k (omega arith) (sym (entry-in g t b F k (omega arith)) ∙ q))
 
 -- ---- whether its entry is alone
 
@@ -69,6 +81,12 @@ module _ (g : Layout) (xs ys : List ℕ) (j e : ℕ) (is : e ≡ entryOf g (getD
   alone-yes h k = rw (← is, le-ltb (position g e xs) j h, k)
 
 -- ---- the blocks of a list
+
+-- the slots in use in a block, by its counter
+pub run-is : (g : Layout) (os : List Overflow) (b n m : ℕ) (r : Slots) → n ≡ overflowAt os b .counter → m ≡ min n (g .sio) → r ≡ overflowRun g b m
+    → r ≡ runOf g os b
+unfolding runOf
+run-is g os b n m r p q e = e ∙ ap (overflowRun g b) (q ∙ ap (λ (x : ℕ). min x (g .sio)) p)
 
 module _ (g : Layout) (t : List ℕ) (T : Table g t) where
   pub run-within : (b : ℕ) → b < g .nob → Run g t (runOf g (decode g t .overflow) b)

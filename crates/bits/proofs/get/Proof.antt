@@ -1,11 +1,11 @@
 -- Within one word the field is the word's. Past it, its bits there and the first bits of the ninth byte make it up (`field-cat`).
-use Prim.Native.Nat.{_+_, _-_, _*_, _/_, _%_, _^_}
+use Prim.Native.Nat.{_+_, _-_, _*_, _%_, _^_}
 use mathlib.Core.Path.{_≡_, sym, ap, _∙_}
 use native.Mathlib.Omega.{arith}
 use denote.Ref.{now}
 use Rattle.bits.specs.Field.{field}
 use Rattle.bits.specs.theory.Fields.{field-zero, field-fits}
-use Rattle.bits.specs.theory.Words.{field-two}
+use Rattle.bits.specs.theory.Words.{field-two, byte-and-bit}
 use borrow.Author.Needs.{needs}
 use Rattle.bits.proofs.get.Statement.{statement}
 use Rattle.bits.proofs.get.Tie as tie
@@ -31,10 +31,7 @@ get-requires-2 : tie.Need-get-requires-2
 get-requires-2 c κs = search needs
 
 returns-3 : tie.Need-returns-3
-returns-3 c =
-    let a = c .before .before .before .before .before .args in
-    let e : 8 * (a .off / 8) + a .off % 8 ≡ a .off = omega arith in
-    rw e at (c .get2 .ensures)
+returns-3 c = rw byte-and-bit at (c .get2 .ensures)
 
 add-t : tie.Need-add-t
 add-t c = search needs
@@ -48,18 +45,18 @@ sub-get c = search needs
 get-requires-3 : tie.Need-get-requires-3
 get-requires-3 c κs = search needs
 
-add-head : tie.Need-add-head
-add-head c = search needs
+add-get : tie.Need-add-get
+add-get c = search needs
 
-head-requires : tie.Need-head-requires
-head-requires c κs = search needs
+get-requires-4 : tie.Need-get-requires-4
+get-requires-4 c κs = search needs
 
-whole : (c : tie.After-head) →
+whole : (c : tie.After-get4) →
     let a = c .before .before .before .before .before .before .args in
-    c .before .get3 .result * 2 ^ (a .off % 8 + a .n - 64) + c .head .result ≡ field (now (a .s)) (a .off) (a .n)
+    c .before .get3 .result * 2 ^ (a .off % 8 + a .n - 64) + c .get4 .result ≡ field (now (a .s)) (a .off) (a .n)
 whole c =
     let a = c .before .before .before .before .before .before .args in
-    rw (c .before .get3 .ensures, c .head .ensures)
+    rw (c .before .get3 .ensures, c .get4 .ensures)
     (field-two (now (a .s)) _ _ _ _ (a .off) (a .n) (omega arith) (omega arith) (omega arith))
 
 join-requires : tie.Need-join-requires
@@ -85,7 +82,7 @@ get-spec =
     sub-t
     sub-get
     get-requires-3
-    add-head
-    head-requires
+    add-get
+    get-requires-4
     join-requires
     returns-4)

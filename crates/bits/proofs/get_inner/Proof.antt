@@ -1,7 +1,5 @@
 -- The field is the word's: it starts in the word's first byte, so that at most 7 bits stand before it.
-use Prim.Native.Nat.{_+_, _*_, _/_, _%_}
-use mathlib.Core.Path.{_≡_}
-use native.Mathlib.Omega.{arith}
+use Rattle.bits.specs.theory.Words.{byte-and-bit}
 use borrow.Author.Needs.{needs}
 use Rattle.bits.proofs.get_inner.Statement.{statement}
 use Rattle.bits.proofs.get_inner.Tie as tie
@@ -10,10 +8,7 @@ get-requires : tie.Need-get-requires
 get-requires c κs = search needs
 
 returns : tie.Need-returns
-returns c =
-    let a = c .before .before .args in
-    let e : 8 * (a .off / 8) + a .off % 8 ≡ a .off = omega arith in
-    rw e at (c .get .ensures)
+returns c = rw byte-and-bit at (c .get .ensures)
 
 pub get-inner-spec : {M : Type 1} → statement M
 get-inner-spec = tie.close (tie.spec get-requires returns)

@@ -1,5 +1,5 @@
 -- Within one word it is written there. Past it, its bits there and then the first bits of the ninth byte (`put-cat`).
-use Prim.Native.Nat.{ℕ, _+_, _-_, _*_, _/_, _%_}
+use Prim.Native.Nat.{ℕ, _+_, _-_, _%_}
 use mathlib.Core.Path.{_≡_, sym, ap, _∙_}
 use native.Mathlib.Nat.{mod-lt}
 use native.Mathlib.Omega.{arith}
@@ -7,7 +7,7 @@ use denote.Ref.{now}
 use lib.Pow.{pow-pos, shr-lt}
 use Rattle.bits.specs.Put.{putField}
 use Rattle.bits.specs.theory.Puts.{put-zero}
-use Rattle.bits.specs.theory.Words.{put-two}
+use Rattle.bits.specs.theory.Words.{put-two, byte-and-bit}
 use borrow.Author.Needs.{needs}
 use Rattle.bits.proofs.put.Statement.{statement}
 use Rattle.bits.proofs.put.Tie as tie
@@ -39,11 +39,7 @@ same-length-2 : tie.Need-same-length-2
 same-length-2 c = search needs
 
 returns-3 : tie.Need-returns-3
-returns-3 c =
-    let k = c .before .before in
-    let a = k .before .before .before .before .before .before .args in
-    let e : 8 * (a .off / 8) + a .off % 8 ≡ a .off = omega arith in
-    rw e at (k .put2 .ensures)
+returns-3 c = rw byte-and-bit at (c .before .before .put2 .ensures)
 
 add-t : tie.Need-add-t
 add-t c = search needs
@@ -65,17 +61,17 @@ put-requires-3 c κs =
     let e : 64 - a .off % 8 + (a .off % 8 + a .n - 64) ≡ a .n = omega arith in
     (omega arith, omega arith, omega arith, shr-lt (64 - a .off % 8) t (rw e (k .pre .1)))
 
-add-put-head : tie.Need-add-put-head
-add-put-head c = search needs
+add-put : tie.Need-add-put
+add-put c = search needs
 
 pow-requires : tie.Need-pow-requires
 pow-requires c κs = search needs
 
-rem-put-head : tie.Need-rem-put-head
-rem-put-head c = rw (c .pow .ensures) (pow-pos _)
+rem-put : tie.Need-rem-put
+rem-put c = rw (c .pow .ensures) (pow-pos _)
 
-put-head-requires : tie.Need-put-head-requires
-put-head-requires c κs = (omega arith, omega arith, omega arith, rw (c .pow .ensures) (mod-lt _ (pow-pos _)))
+put-requires-4 : tie.Need-put-requires-4
+put-requires-4 c κs = (omega arith, omega arith, omega arith, rw (c .pow .ensures) (mod-lt _ (pow-pos _)))
 
 same-length-3 : tie.Need-same-length-3
 same-length-3 c = search needs
@@ -86,7 +82,7 @@ returns-4 c =
     let p = k .before in
     let q = p .before .before .before .before in
     let a = q .before .before .before .before .before .before .args in
-    k .put-head .ensures
+    k .put4 .ensures
     ∙ rw (p .pow .ensures, q .put3 .ensures)
     (put-two (now (a .s)) _ _ _ _ (a .off) (a .n) (a .v) (omega arith) (omega arith) (omega arith))
 
@@ -108,9 +104,9 @@ put-spec =
     sub-put
     shr-put
     put-requires-3
-    add-put-head
+    add-put
     pow-requires
-    rem-put-head
-    put-head-requires
+    rem-put
+    put-requires-4
     same-length-3
     returns-4)

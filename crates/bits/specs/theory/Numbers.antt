@@ -2,11 +2,11 @@
 use mathlib.Core.Path.{_≡_, sym, ap, ap₂, _∙_}
 use mathlib.Core.Logic.{_≢_}
 use Prim.Native.Nat.{ℕ, suc, _+_, _-_, _*_, _/_, _%_, _^_, _≤_, _<_}
-use native.Mathlib.Nat.{add-zero, add-assoc, add-comm, mod-lt, mul-mod-left, pow-suc, lt-of-lt-of-le, add-sub-of-le, sub-add-cancel}
+use native.Mathlib.Nat.{add-zero, add-assoc, add-comm, mod-lt, mod-eq-of-lt, mul-mod-left, pow-suc, lt-of-lt-of-le, lt-of-le-of-lt, add-sub-of-le, sub-add-cancel}
 use native.Mathlib.Numerals.{add-one, one-add}
 use native.Mathlib.Omega.{arith}
 use native.Mathlib.Decide.{decLe}
-use lib.Pow.{pow-pos, pow-add, high, low, split, mod-pow-add, mod-mod-pow, shr-shr, shr-lt, shl-shr}
+use lib.Pow.{pow-pos, pow-add, high, low, split, mod-pow-add, mod-mod-pow, shr-shr, shr-lt, shr-le, shl-shr}
 use lib.Pow as P
 use lib.Arith.{digits-lt}
 use Rattle.bits.specs.Put.{replaced}
@@ -131,3 +131,27 @@ exchanged x k m v old q lx l h eo eq =
     let i : x - old * q + v * q ≡ (x / 2 ^ (k + m) * 2 ^ m + v) * q + x % 2 ^ k = omega arith in
     let f : (x / 2 ^ (k + m) * 2 ^ m + v) * q + x % 2 ^ k < 2 ^ 64 = rw eq (replaced-lt x k m h 64 l lx) in
     record { off = omega arith; on = omega arith; sum = omega arith; is = rw (i, eq) }
+
+-- ---- a number in two halves of w bits each, h * 2 ^ w + l
+
+-- its w bits above the k low ones, which are some of l: those of h that stay, shifted left, and those of l, shifted right
+pub across-two : (h l j k w : ℕ) → j + k ≡ w → l < 2 ^ w → h * 2 ^ j % 2 ^ w + l / 2 ^ k ≡ (h * 2 ^ w + l) / 2 ^ k % 2 ^ w
+across-two h l j k w e g =
+    let f : k + j ≡ w = omega arith in
+    let y : l / 2 ^ k < 2 ^ j = shr-lt j k (rw e g) in
+    let hi : (h * 2 ^ w + l) / 2 ^ k ≡ h * 2 ^ j + l / 2 ^ k =
+    ap (λ (x : ℕ). x / 2 ^ k) (rw (← e, pow-add 2 j k) (omega (arith, split l k))) ∙ high (h * 2 ^ j + l / 2 ^ k) k (mod-lt l (pow-pos k)) in
+    rw (hi, ← f, shl-mod h j k, mod-pow-add (h * 2 ^ j + l / 2 ^ k) k j, high h j y, low h j y)
+
+-- the same, where they are all of l and j of h
+pub above-two : (h l j k w : ℕ) → w + j ≡ k → h < 2 ^ w → l < 2 ^ w → h / 2 ^ j ≡ (h * 2 ^ w + l) / 2 ^ k % 2 ^ w
+above-two h l j k w e f g =
+    rw (← e, ← shr-shr (h * 2 ^ w + l) w j, high h w g) (sym (mod-eq-of-lt (lt-of-le-of-lt (shr-le h j) f)))
+
+-- its k low bits are those of l
+pub low-two : (h l k w : ℕ) → k ≤ w → l < 2 ^ w → (h * 2 ^ w + l) % 2 ^ k ≡ l % 2 ^ k
+low-two h l k w e g = same-low l (h * 2 ^ w + l) {j = k} {k = w} e (low h w g ∙ sym (mod-eq-of-lt g))
+
+-- the high half of a number that fits in the low one is 0
+pub no-high : (h l p : ℕ) → h * 2 ^ 64 + l < p → p ≤ 2 ^ 64 → h ≡ 0
+no-high h l p e f = omega arith

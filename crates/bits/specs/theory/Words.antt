@@ -1,13 +1,18 @@
 -- The laws behind a load and a store of eight bytes at once, and behind reading and writing byte by byte.
 use mathlib.Core.Path.{_≡_, refl, sym, ap, _∙_}
+use mathlib.Core.Bool.{Bool, true, false, true≢false}
 use mathlib.Core.List.{List}
 use Prim.Native.Nat.{ℕ, _+_, _*_, _/_, _%_, _^_, _≤_, _<_}
 use native.Mathlib.Omega.{arith}
 use lib.ListN.{length, getD, set}
+use lib.Dec.{eqb}
+use lib.Pow.{mod-mod-pow}
+use lib.Pow as P
+use borrow.Author.Tests.{eq-eqb, ne-eqb, eqb-true}
 use Rattle.bits.specs.Bytes.{Bytes}
 use Rattle.bits.specs.Field.{field}
 use Rattle.bits.specs.Put.{replaced, putField}
-use Rattle.bits.specs.Word.{lowFirst, turned, setFour}
+use Rattle.bits.specs.Word.{lowFirst, lowFirstFour, turned, setFour}
 use Rattle.bits.specs.theory.Fields.{field-zero, field-cat, field-byte}
 use Rattle.bits.specs.theory.Puts.{put-zero, put-cat, put-in, put-bytes, put-length}
 
@@ -20,6 +25,17 @@ field-two s p m q t off n e f g = rw (e, f, ← g) (sym (field-cat s off m t))
 pub put-two : (s : List ℕ) (p m q t off n v : ℕ) → p ≡ off → q ≡ off + m → m + t ≡ n
     → putField (putField s p m (v / 2 ^ t)) q t (v % 2 ^ t) ≡ putField s off n v
 put-two s p m q t off n v e f g = rw (e, f, ← g) (sym (put-cat s off m t v))
+
+-- the same in three parts
+pub put-three : (s : List ℕ) (p m q t o b r off n v : ℕ) → p ≡ off → q ≡ off + m → o ≡ q + t → t + b ≡ r → m + r ≡ n
+    → putField (putField (putField s p m (v / 2 ^ r)) q t (v / 2 ^ b % 2 ^ t)) o b (v % 2 ^ b) ≡ putField s off n v
+put-three s p m q t o b r off n v e f g h k =
+    rw (← P.field v t b, ← mod-mod-pow v t b, h, put-two (putField s p m (v / 2 ^ r)) q t o b q r (v % 2 ^ r) refl g h)
+    (put-two s p m q r off n v e f k)
+
+-- bit off by its byte and its place there
+pub byte-and-bit : (off : ℕ) → 8 * (off / 8) + off % 8 ≡ off
+byte-and-bit off = omega arith
 
 -- ---- a field and the whole byte j after it
 
@@ -144,3 +160,87 @@ module _ (s : List ℕ) (i : ℕ) (b : Bytes s) where
       let q6 : x / 4294967296 / 65536 ≡ x / 281474976710656 = omega arith in
       let q7 : x / 4294967296 / 16777216 ≡ x / 72057594037927936 = omega arith in
       rw (p5, p6, p7, q5, q6, q7, d .at0, d .at1, d .at2, d .at3, d .at4, d .at5, d .at6, d .at7) (sym (put-eight w l))
+
+-- ---- turned round twice
+
+sum-of : (x x1 x2 x3 x4 x5 x6 x7 b0 b1 b2 b3 b4 b5 b6 b7 : ℕ) → x ≡ x1 * 256 + b0 → x1 ≡ x2 * 256 + b1 → x2 ≡ x3 * 256 + b2
+    → x3 ≡ x4 * 256 + b3 → x4 ≡ x5 * 256 + b4 → x5 ≡ x6 * 256 + b5 → x6 ≡ x7 * 256 + b6 → x7 ≡ b7
+    → b7 * 72057594037927936 + b6 * 281474976710656 + b5 * 1099511627776 + b4 * 4294967296 + b3 * 16777216 + b2 * 65536 + b1 * 256 + b0 ≡ x
+sum-of x x1 x2 x3 x4 x5 x6 x7 b0 b1 b2 b3 b4 b5 b6 b7 e0 e1 e2 e3 e4 e5 e6 e7 = omega arith
+
+turned-bytes : (x : ℕ) → Eight (turned x) (x / 72057594037927936 % 256) (x / 281474976710656 % 256) (x / 1099511627776 % 256) (x / 4294967296 % 256)
+    (x / 16777216 % 256) (x / 65536 % 256) (x / 256 % 256) (x % 256)
+turned-bytes x =
+    eight (turned x) (x / 72057594037927936 % 256) (x / 281474976710656 % 256) (x / 1099511627776 % 256) (x / 4294967296 % 256) (x / 16777216 % 256) (x / 65536 % 256) (x / 256 % 256) (x % 256)
+    (omega arith) (omega arith) (omega arith) (omega arith) (omega arith) (omega arith) (omega arith) (omega arith) (omega arith)
+
+bytes-of : (x : ℕ) → x < 2 ^ 64
+    → x / 72057594037927936 % 256 * 72057594037927936 + x / 281474976710656 % 256 * 281474976710656 + x / 1099511627776 % 256 * 1099511627776
+    + x / 4294967296 % 256 * 4294967296 + x / 16777216 % 256 * 16777216 + x / 65536 % 256 * 65536 + x / 256 % 256 * 256 + x % 256
+    ≡ x
+bytes-of x h =
+    sum-of x (x / 256) (x / 65536) (x / 16777216) (x / 4294967296) (x / 1099511627776) (x / 281474976710656) (x / 72057594037927936) _ _ _ _ _ _ _ _
+    (omega arith) (omega arith) (omega arith) (omega arith) (omega arith) (omega arith) (omega arith) (omega arith)
+
+pub turned-twice : (x : ℕ) → x < 2 ^ 64 → turned (turned x) ≡ x
+turned-twice x h = let d = turned-bytes x in rw (d .at0, d .at1, d .at2, d .at3, d .at4, d .at5, d .at6, d .at7) (bytes-of x h)
+
+-- ---- bytes compared as they stand
+
+-- a test is true or false, and the equation is known in each case
+decided : {A : Type 0} (t : Bool) → (t ≡ true → A) → (t ≡ false → A) → A
+decided true f g = f refl
+decided false f g = g refl
+
+pub eqb-both : (a b c d : ℕ) → (a ≡ b → c ≡ d) → (c ≡ d → a ≡ b) → eqb a b ≡ eqb c d
+eqb-both a b c d f g =
+    decided (eqb a b)
+    (λ p. p ∙ sym (eq-eqb c d (f (eqb-true a b p))))
+    (λ p. p ∙ sym (ne-eqb c d (λ h. true≢false (sym (eq-eqb a b (g h)) ∙ p))))
+
+four-fits : (q : ℕ) → q < 2 ^ 32 → q * 4294967296 < 2 ^ 64
+four-fits q h = omega arith
+
+module _ (s : List ℕ) (i : ℕ) (b : Bytes s) where
+  word-low : lowFirst s i < 2 ^ 64
+  word-low = omega (arith, b i, b (i + 1), b (i + 2), b (i + 3), b (i + 4), b (i + 5), b (i + 6), b (i + 7))
+
+  pub word-same : (q : ℕ) → lowFirst s i ≡ q → field s (8 * i) 64 ≡ turned q
+  word-same q e = sym (load-word s i b (lowFirst s i) refl) ∙ ap turned e
+
+  pub same-word : (q : ℕ) → q < 2 ^ 64 → field s (8 * i) 64 ≡ turned q → lowFirst s i ≡ q
+  same-word q h e =
+      sym (turned-twice (lowFirst s i) word-low)
+      ∙ ap turned (load-word s i b (lowFirst s i) refl ∙ e)
+      ∙ turned-twice q h
+
+  -- four bytes, as a number of 64 bits whose first bytes they are
+  four : field s (8 * i) 32 ≡ getD s i 0 * 16777216 + getD s (i + 1) 0 * 65536 + getD s (i + 2) 0 * 256 + getD s (i + 3) 0
+  four =
+      omega (
+        arith,
+        field-zero s (8 * i),
+        byte-more s (8 * i) 0 i (omega arith) (b i),
+        byte-more s (8 * i) 8 (i + 1) (omega arith) (b (i + 1)),
+        byte-more s (8 * i) 16 (i + 2) (omega arith) (b (i + 2)),
+        byte-more s (8 * i) 24 (i + 3) (omega arith) (b (i + 3)),
+      )
+
+  turned-four : turned (lowFirstFour s i * 4294967296) ≡ field s (8 * i) 32
+  turned-four =
+      let d =
+      eight (lowFirstFour s i * 4294967296) 0 0 0 0 (getD s i 0) (getD s (i + 1) 0) (getD s (i + 2) 0) (getD s (i + 3) 0)
+      (omega arith) (omega arith) (omega arith) (omega arith) (b i) (b (i + 1)) (b (i + 2)) (b (i + 3)) (omega arith) in
+      rw (d .at0, d .at1, d .at2, d .at3, d .at4, d .at5, d .at6, d .at7) (omega (arith, four))
+
+  four-low : lowFirstFour s i * 4294967296 < 2 ^ 64
+  four-low = omega (arith, b i, b (i + 1), b (i + 2), b (i + 3))
+
+  pub four-same : (q : ℕ) → lowFirstFour s i ≡ q → field s (8 * i) 32 ≡ turned (q * 2 ^ 32)
+  four-same q e = sym turned-four ∙ ap (λ (x : ℕ). turned (x * 4294967296)) e
+
+  pub same-four : (q : ℕ) → q < 2 ^ 32 → field s (8 * i) 32 ≡ turned (q * 2 ^ 32) → lowFirstFour s i ≡ q
+  same-four q h e =
+      let z : lowFirstFour s i * 4294967296 ≡ q * 4294967296 =
+      sym (turned-twice (lowFirstFour s i * 4294967296) four-low) ∙ ap turned (turned-four ∙ e) ∙ turned-twice (q * 4294967296) (four-fits q h) in
+      omega arith

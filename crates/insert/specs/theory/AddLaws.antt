@@ -3,13 +3,14 @@ use mathlib.Core.Path.{_≡_, refl, sym, ap, ap₂, _∙_}
 use mathlib.Core.Bool.{true, false}
 use mathlib.Core.List.{List}
 use mathlib.Core.Option.{Option, none, some}
-use Prim.Native.Nat.{ℕ, _^_, _≤_, _<_}
+use Prim.Native.Nat.{ℕ, _+_, _*_, _/_, _^_, _≤_, _<_}
 use native.Mathlib.Omega.{arith}
-use native.Mathlib.Nat.{lt-of-lt-of-le}
-use lib.Pow.{pow-mono}
+use native.Mathlib.Nat.{lt-of-lt-of-le, zero-add, mod-lt}
+use native.Mathlib.Decide.{decLe}
+use lib.Pow.{pow-pos, pow-mono, split, shr-lt}
 use lib.ListN.{length}
-use lib.Dec.{ltb}
-use borrow.Author.Tests.{ltb-true}
+use lib.Dec.{eqb, ltb}
+use borrow.Author.Tests.{eq-eqb, ne-eqb, lt-ltb, le-ltb, ltb-true}
 use Rattle.bits.specs.Bytes.{Bytes}
 use Rattle.settings.specs.theory.Cases.{cases}
 use Rattle.settings.specs.theory.Legal.{legal-means}
@@ -28,6 +29,7 @@ use Rattle.settings.specs.declared.settings.Settings.{Settings}
 use Rattle.settings.specs.declared.keys.Key.{Key}
 use Rattle.table.specs.State.{slotOf}
 use Rattle.table.specs.Follow.{Seen, content}
+use Rattle.table.specs.Take.{Done, damage, noBlock, done}
 use Rattle.table.specs.Find.{isHeld, findSeen, findIn}
 use Rattle.table.specs.Add.{Adding, append, appended, addSeen, addIn}
 use Rattle.table.specs.declared.answers.FindAnswer.the-variants as found
@@ -40,7 +42,7 @@ use Rattle.insert.specs.declared.append.Item.{Item}
 -- ---- adding, by what find answers
 
 pub record Missing (g : Layout) (st : State) (i e label n : ℕ) : Type 0 where
-  pub readable : Readable g st i
+  pub readable : Readable g st i n
   pub goes : addIn g st i e label ≡ appended g st label n (append g st i (blocksOf g (content g st i)) (slotOf g e label))
 
 same-held : (a b l n : ℕ) → found.Held a b ≡ found.Held l n → (a ≡ l) × (b ≡ n)
@@ -86,7 +88,7 @@ module _ (g : Layout) (st : State) (i e label : ℕ) where
       (λ p. rw p (λ q. held-none _ _ n q))
       (λ p. rw p (λ q.
       record {
-        readable = record { seen = v; is = w };
+        readable = record { seen = v; is = w; long = sym (same-none _ n q) };
         goes = rw (w, p) (ap (λ (m : ℕ). appended g st label m (append g st i (v .blocks) (slotOf g e label))) (same-none _ n q));
       }))
 
@@ -119,11 +121,48 @@ added-more g t u i v r m a =
       bytes = a .bytes ∙ ap (λ (x : Adding g). written g t (x .after)) (sym (m .goes));
     }
 
+-- ---- the label of an added entry is the one that was given
+
+refused-added : {X : Type 0} (why : Refusal) (l n : ℕ) → answer.Refused why ≡ answer.Added l n → X
+refused-added why l n e = absurd (let z : _≡_ {A = ℕ} 0 1 = cc in omega arith)
+
+held-added : {X : Type 0} (a b l n : ℕ) → answer.Held a b ≡ answer.Added l n → X
+held-added a b l n e = absurd (let z : _≡_ {A = ℕ} 0 1 = cc in omega arith)
+
+same-added : (a b l n : ℕ) → answer.Added a b ≡ answer.Added l n → l ≡ a
+same-added a b l n e = cc
+
+module _ (g : Layout) (st : State) (i e label l n : ℕ) where
+  label-appended : (m : ℕ) (d : Done) → appended g st label m d .answer ≡ answer.Added l n → l ≡ label
+  label-appended m damage q = refused-added refusal.Damage l n q
+  label-appended m noBlock q = refused-added refusal.NoBlock l n q
+  label-appended m (done u) q = same-added label m l n q
+
+  label-seen : (o : Option Seen) → addSeen g st i e label o .answer ≡ answer.Added l n → l ≡ label
+  unfolding addSeen
+  label-seen none = λ q. refused-added refusal.Damage l n q
+  label-seen (some v) =
+      cases (isHeld g e (v .slots))
+      (λ p. rw p (λ q. held-added _ _ l n q))
+      (λ p. rw p (λ q. label-appended (length (v .slots)) (append g st i (v .blocks) (slotOf g e label)) q))
+
+pub added-label : (g : Layout) (t u : List ℕ) (i e label : ℕ) (r : AddAnswer) → Added g t u i e label r → (l n : ℕ) → r ≡ answer.Added l n → l ≡ label
+unfolding addIn
+added-label g t u i e label r a l n q = label-seen g (decode g t) i e label l n (content g (decode g t) i) (sym (a .answer) ∙ q)
+
 -- ---- the call, by its tests
 
-pub label-number : (label : ℕ) → keyNumber (record { high = 0; low = label }) ≡ label
-unfolding keyNumber
-label-number label = omega arith
+-- a number of at most k bits
+pub fits-is : (x k : ℕ) → eqb (x / 2 ^ k) 0 ≡ ltb x (2 ^ k)
+fits-is x k = pick (decLe (2 ^ k) x)
+  where
+    pick : Dec (2 ^ k ≤ x) → eqb (x / 2 ^ k) 0 ≡ ltb x (2 ^ k)
+    pick (yes l) =
+        ne-eqb (x / 2 ^ k) 0 (λ e. omega (arith, split x k, ap (λ (n : ℕ). n * 2 ^ k) e, mod-lt x (pow-pos k)))
+        ∙ sym (le-ltb x (2 ^ k) l)
+    pick (no f) =
+        let h : x < 2 ^ (0 + k) = rw zero-add (omega arith) in
+        eq-eqb (x / 2 ^ k) 0 (omega (arith, shr-lt 0 k h)) ∙ sym (lt-ltb x (2 ^ k) (omega arith))
 
 pub label-below : (s : Settings) → legal s ≡ true → (label : ℕ) → ltb label (2 ^ s .val) ≡ true → label < 2 ^ 32
 label-below s lg label h = lt-of-lt-of-le (ltb-true label (2 ^ s .val) h) (pow-mono (legal-means s lg .ranges .val-high))

@@ -7,18 +7,20 @@ use Prim.Native.Nat.{ℕ, suc, _+_, _-_, _≤_, _<_}
 use native.Mathlib.Omega.{arith}
 use native.Mathlib.Nat.{zero-add}
 use native.Mathlib.Decide.{decLe}
+use lib.ListN.{length, take, length-append, length-take}
 use lib.Dec.{eqb, ltb}
 use borrow.Author.Tests.{eq-eqb, ne-eqb, eqb-false, lt-ltb, le-ltb, ltb-true, ltb-false}
 use Rattle.settings.specs.theory.Cases.{cases}
 use Rattle.settings.specs.declared.layout.Layout.{Layout}
 use Rattle.settings.specs.declared.refusal.Refusal.{Refusal}
 use Rattle.settings.specs.declared.refusal.Refusal.the-variants as refusal
-use Rattle.table.specs.State.{Overflow, State, basicAt, overflowAt}
-use Rattle.table.specs.Follow.{cons?, follow, content}
+use Rattle.table.specs.State.{Overflow, State, basicAt, overflowAt, unpack}
+use Rattle.table.specs.Follow.{Seen, cons?, follow, content}
 use Rattle.table.specs.Take.{Done, damage, occurs, nextFree, taking}
 use Rattle.table.specs.Add.{Adding, appended}
-use Rattle.table.specs.Steps.{lastFrom}
-use Rattle.table.specs.theory.Walks.{follow-here, follow-on, Turn, content-high, content-bad}
+use Rattle.table.specs.Steps.{lastFrom, gatherFrom}
+use Rattle.table.specs.theory.Walks.{follow-here, follow-on, followed, Turn, turn, content-short, content-high, content-bad, content-long}
+use Rattle.table.specs.theory.Reads.{unpack-length}
 use Rattle.table.specs.declared.answers.AddAnswer.the-variants as answer
 use Rattle.insert.specs.Adds.{freeOf, meetsFrom, EndsIn, Readable}
 use Rattle.insert.specs.declared.append.Free.the-variants as free
@@ -153,21 +155,82 @@ module _ (g : Layout) (os : List Overflow) (f : ℕ) where
 
 -- ---- a list that can be followed
 
-module _ (g : Layout) (st : State) (i : ℕ) (R : Readable g st i) where
+module _ (g : Layout) (st : State) (i n : ℕ) (R : Readable g st i n) where
   not-damaged : {X : Type 0} → content g st i ≡ none → X
   not-damaged e = absurd (let q = R .is in let z : _≡_ {A = ℕ} 0 1 = cc in omega arith)
 
-  pub ends-in : (c h j : ℕ) → c ≡ basicAt (st .basic) i .counter → g .sib < c → h ≡ basicAt (st .basic) i .head → j ≡ lastFrom g (g .nob) (st .overflow) h
-      → EndsIn g st i h j
-  ends-in c h j ec hc eh ej =
-      record { full = full-is (decLe c (suc (g .sib))); head = eh; last = ej; low = low-is (decLe (g .nob) j) }
-    where
-      full-is : Dec (c ≤ suc (g .sib)) → basicAt (st .basic) i .counter ≡ suc (g .sib)
-      full-is (yes l) = omega arith
-      full-is (no l) = not-damaged (content-high g st i (omega arith))
+  module _ (hc : g .sib < basicAt (st .basic) i .counter) where
+    full-is : basicAt (st .basic) i .counter ≡ suc (g .sib)
+    full-is = pick (decLe (basicAt (st .basic) i .counter) (suc (g .sib)))
+      where
+        pick : Dec (basicAt (st .basic) i .counter ≤ suc (g .sib)) → basicAt (st .basic) i .counter ≡ suc (g .sib)
+        pick (yes l) = omega arith
+        pick (no l) = not-damaged (content-high g st i (omega arith))
 
-      low-is : Dec (g .nob ≤ j) → j < g .nob
-      low-is (yes l) =
-          let e : j ≡ lastFrom g (g .nob) (st .overflow) (basicAt (st .basic) i .head) = ej ∙ ap (lastFrom g (g .nob) (st .overflow)) eh in
-          not-damaged (content-bad g st i (full-is (decLe c (suc (g .sib)))) (omega arith))
-      low-is (no l) = omega arith
+    last-low : lastFrom g (g .nob) (st .overflow) (basicAt (st .basic) i .head) < g .nob
+    last-low = pick (decLe (g .nob) (lastFrom g (g .nob) (st .overflow) (basicAt (st .basic) i .head)))
+      where
+        pick : Dec (g .nob ≤ lastFrom g (g .nob) (st .overflow) (basicAt (st .basic) i .head)) → lastFrom g (g .nob) (st .overflow) (basicAt (st .basic) i .head) < g .nob
+        pick (yes l) = not-damaged (content-bad g st i full-is l)
+        pick (no l) = omega arith
+
+    pub ends-in : (h j : ℕ) → h ≡ basicAt (st .basic) i .head → j ≡ lastFrom g (g .nob) (st .overflow) h → EndsIn g st i h j
+    ends-in h j eh ej =
+        record { full = full-is; head = eh; last = ej; low = omega (arith, last-low, ej ∙ ap (lastFrom g (g .nob) (st .overflow)) eh) }
+
+  -- the list's length, by its basic block's counter
+  length-is : (v : Seen) → content g st i ≡ some v → n ≡ length (v .slots)
+  length-is v e =
+      let q = R .is in
+      let z : R .seen ≡ v = cc in
+      R .long ∙ ap (λ (x : Seen). length (x .slots)) z
+
+  short-length : basicAt (st .basic) i .counter ≤ g .sib → n ≡ basicAt (st .basic) i .counter
+  short-length h =
+      let b = basicAt (st .basic) i in
+      omega (
+        arith,
+        length-is _ (content-short g st i h),
+        length-take (b .counter) (unpack g (b .head) (b .rest)),
+        unpack-length g (b .head) (b .rest),
+      )
+
+  module _ (sized : (j : ℕ) → j < g .nob → length (overflowAt (st .overflow) j .slots) ≡ g .sio) (some-slots : 0 < g .sio) where
+    first-some : (b : ℕ) → b < g .nob → 0 < length (take (suc (overflowAt (st .overflow) b .counter)) (overflowAt (st .overflow) b .slots))
+    first-some b h =
+        let o = overflowAt (st .overflow) b in
+        omega (arith, length-take (suc (o .counter)) (o .slots), sized b h)
+
+    blocks-some : (b : ℕ) → Turn g (st .overflow) (g .nob) b → 0 < length (gatherFrom g (g .nob) (st .overflow) b)
+    blocks-some b k = pick (decLe (g .sio) (overflowAt (st .overflow) b .counter))
+      where
+        pick : Dec (g .sio ≤ overflowAt (st .overflow) b .counter) → 0 < length (gatherFrom g (g .nob) (st .overflow) b)
+        pick (yes l) =
+            let e : overflowAt (st .overflow) b .counter ≡ g .sio = omega (arith, k .count) in
+            omega (arith, first-some b (k .low), simp length-append at (ap length (k .more e)))
+        pick (no l) = omega (arith, first-some b (k .low), ap length (k .last (omega arith)))
+
+    long-length : g .sib < basicAt (st .basic) i .counter → g .sib < n
+    long-length h =
+        let b = basicAt (st .basic) i in
+        let f = followed g (st .overflow) (g .nob) (b .head) (last-low h) in
+        omega (
+          arith,
+          simp length-append at (length-is _ (content-long g st i (full-is h) f)),
+          unpack-length g (overflowAt (st .overflow) (lastFrom g (g .nob) (st .overflow) (b .head)) .link) (b .rest),
+          blocks-some (b .head) (turn g (st .overflow) (g .nob) (b .head) f),
+        )
+
+    pub few : n ≤ g .sib → n ≡ basicAt (st .basic) i .counter
+    few h = pick (decLe (basicAt (st .basic) i .counter) (g .sib))
+      where
+        pick : Dec (basicAt (st .basic) i .counter ≤ g .sib) → n ≡ basicAt (st .basic) i .counter
+        pick (yes l) = short-length l
+        pick (no l) = absurd (omega (arith, long-length (omega arith)))
+
+    pub many : g .sib < n → g .sib < basicAt (st .basic) i .counter
+    many h = pick (decLe (basicAt (st .basic) i .counter) (g .sib))
+      where
+        pick : Dec (basicAt (st .basic) i .counter ≤ g .sib) → g .sib < basicAt (st .basic) i .counter
+        pick (yes l) = absurd (omega (arith, short-length l))
+        pick (no l) = omega arith

@@ -3,7 +3,7 @@ use mathlib.Core.Path.{_≡_, refl, sym, ap, ap₂, subst, _∙_}
 use mathlib.Core.Bool.{true, false}
 use mathlib.Core.List.{List, [], _∷_, _++_, append-nil}
 use mathlib.Core.Option.{Option, none, some}
-use Prim.Native.Nat.{ℕ, zero, suc, _+_, _-_, _*_, _^_, _≤_, _<_}
+use Prim.Native.Nat.{ℕ, zero, suc, _+_, _-_, _^_, _≤_, _<_}
 use native.Mathlib.Omega.{arith}
 use native.Mathlib.Decide.{decLe, ℕ-discrete}
 use lib.ListN.{length, getD, set, take, length-append, length-take}
@@ -11,28 +11,24 @@ use lib.Seq.{getD-append-add, getD-take, getD-set-same, getD-set-other, set-out}
 use lib.Dec.{eqb, ltb}
 use borrow.Author.Tests.{eqb-true, eqb-false, ltb-true, ltb-false, lt-ltb, le-ltb}
 use lib.Pow.{pow-pos}
-use Rattle.bits.specs.Field.{field}
 use Rattle.bits.specs.Put.{putField}
-use Rattle.bits.specs.theory.Fields.{field-lt, field-cat}
+use Rattle.bits.specs.theory.Fields.{field-lt}
+use Rattle.bits.specs.theory.Puts.{put-own}
 use Rattle.settings.specs.theory.Cases.{cases}
 use Rattle.settings.specs.Proper.{Proper}
-use Rattle.settings.specs.Key.{keyNumber}
-use Rattle.settings.specs.declared.keys.Key.{Key}
 use Rattle.settings.specs.declared.layout.Layout.{Layout}
 use Rattle.table.specs.Arrays.{padded}
 use Rattle.table.specs.State.{Overflow, State, mkBasic, mkOverflow, mkState, basicAt, overflowAt, unpack, headOf, restOf}
-use Rattle.table.specs.Decode.{basicSlots, readOverflow, decode}
+use Rattle.table.specs.Decode.{basicSlots, linkAt, overflowSlots, readOverflow, decode}
 use Rattle.table.specs.Table.{Table}
 use Rattle.table.specs.Follow.{lastOf, prevOf, cons?, follow, gather}
 use Rattle.table.specs.Take.{damage, done, linkFree}
 use Rattle.table.specs.Delete.{pokeOverflow, poke, shrink}
-use Rattle.table.specs.theory.Arrays.{length-tab}
-use Rattle.table.specs.theory.Changes.{at-over}
+use Rattle.table.specs.theory.Changes.{basic-ends, over-low, at-over}
 use Rattle.table.specs.theory.Reads.{link-lt}
 use Rattle.stores.specs.Stores.{Poked, basicSlot, overflowSlot, freePut, basicCounterPut, headPut, overflowCounterPut, linkPut, slotPut, renewed}
-use Rattle.stores.specs.theory.StoreLaws.{overBasic, overOverflow, withFree, basic-twice, overflow-twice, basics, overflows, Stored, stored-then, stored-as, stored-free, stored-basic-counter, stored-head, stored-overflow-counter, stored-link, stored-overflow-slot, stored-renewed, poked-head, stored-poked}
-use Rattle.remove.specs.DeleteSteps.{blocksFrom, endIn, spotIn, Ends, Reaches, clipped, released, shrinkAt, stuckAt, Shrinkable, pokeBasic, pokeSpot, pokeAt, Holding}
-use Rattle.remove.specs.declared.poke.Moved.{Moved}
+use Rattle.stores.specs.theory.StoreLaws.{overflow-slot-ends, overBasic, overOverflow, withFree, basic-twice, overflow-twice, basics, overflows, Stored, stored-then, stored-as, stored-free, stored-basic-counter, stored-head, stored-overflow-counter, stored-link, stored-overflow-slot, stored-renewed, poked-head, stored-poked}
+use Rattle.remove.specs.DeleteSteps.{blocksFrom, endIn, spotIn, Ends, Reaches, clipped, released, shrinkAt, stuckAt, Shrinkable, pokeBasic, pokeSpot, pokeAt, Movable}
 use Rattle.remove.specs.declared.poke.Spot.{Spot}
 use Rattle.remove.specs.declared.shrink.End.{End}
 
@@ -345,27 +341,23 @@ module _ (g : Layout) (st : State) (i : ℕ) where
 
 -- ---- stores
 
--- a slot read in parts
-pub key-short : (k : Key) → k .high ≡ 0 → keyNumber k ≡ k .low
-unfolding keyNumber
-key-short k h = rw h (omega arith)
+-- a link that stands there already
+link-own : (g : Layout) (t : List ℕ) → Table g t → (j : ℕ) → j < g .nob → linkPut g t j (overflowAt (decode g t .overflow) j .link) ≡ t
+unfolding linkPut readOverflow
+link-own g t T j h =
+    ap (λ (o : Overflow). putField t (linkAt g j) (g .link) (o .link)) (at-over g (T .proper) t j h) ∙ put-own t (linkAt g j) (g .link)
 
-pub key-long : (t : List ℕ) (at n m : ℕ) (k : Key) → n + 64 ≡ m → k .high ≡ field t at n → k .low ≡ field t (at + n) 64 → keyNumber k ≡ field t at m
-unfolding keyNumber
-key-long t at n m k e h l = ap₂ (λ (x y : ℕ). x * 2 ^ 64 + y) h l ∙ sym (field-cat t at n 64) ∙ ap (field t at) e
+-- the basic blocks end where the overflow blocks begin
+module _ (g : Layout) (F : Proper g) where
+  pub head-before : (i : ℕ) → i < g .lists → basicSlots g i + g .link ≤ g .overflow .start
+  unfolding basicSlots
+  head-before i h = omega (arith, basic-ends g F i h, F .basic-is, F .link-fits)
 
-pub holding : (g : Layout) → Proper g → (t : List ℕ) (at : ℕ) (v : Moved) → keyNumber (v .entry) ≡ field t at (g .bie) → v .label ≡ field t (at + g .bie) (g .val) → Holding g t at v
-holding g F t at v e l =
-    record {
-      slotted = record { entry-fits = rw e (field-lt t at (g .bie)); label-fits = rw l (field-lt t (at + g .bie) (g .val)) };
-      is = ap₂ (λ (x y : ℕ). x * 2 ^ g .val + y) e l ∙ sym (field-cat t at (g .bie) (g .val)) ∙ ap (field t at) (sym (F .slot-is));
-    }
+  pub slot-movable : (j n at : ℕ) → j < g .nob → n < g .sio → at ≡ overflowSlot g j n → Movable g at
+  unfolding overflowSlot overflowSlots
+  slot-movable j n at h l e = record { behind = omega (arith, over-low g F j, e); ends = omega (arith, overflow-slot-ends g F j h n l, e) }
 
 module _ (g : Layout) (t : List ℕ) (T : Table g t) where
-  pub sized : (j : ℕ) → j < g .nob → length (overflowAt (decode g t .overflow) j .slots) ≡ g .sio
-  unfolding readOverflow
-  sized j h = ap (λ (o : Overflow). length (o .slots)) (at-over g (T .proper) t j h) ∙ length-tab (g .sio) _
-
   pub stored-basic : (i : ℕ) → i < g .lists → (n h : ℕ) → n ≤ suc (g .sib) → h < 2 ^ g .link → (a u : List ℕ) → a ≡ basicCounterPut g t i n → u ≡ headPut g a i h
       → Stored g t u (overBasic i (λ b. mkBasic n h (b .rest)) (decode g t))
   stored-basic i l n h hn hh a u ea eu =
@@ -409,28 +401,43 @@ module _ (g : Layout) (t : List ℕ) (T : Table g t) where
       (stored-then (withFree j) s (stored-free g a (s .table) u j (omega (arith, T .proper .free-holds)) eu))
       (ap (λ (x : ℕ). withFree j (overOverflow j (λ o. mkOverflow 0 x (padded (g .sio) [])) (decode g t))) (ev ∙ ap (λ (x : ℕ). linkFree g x j) ef))
 
-  pub stored-poke : (i l p v x base at : ℕ) → i < g .lists → l < g .nob → p < g .sib → x < 2 ^ g .slot → v ≡ overflowAt (decode g t .overflow) l .link
-      → base ≡ basicSlots g i → at ≡ basicSlot g i p → (a u : List ℕ) (r : ℕ) → Poked g t a base v at x r → u ≡ linkPut g a l r
-      → Stored g t u (pokeBasic g i l p x (decode g t))
-  stored-poke i l p v x base at hi hl hp hx ev eb ea a u r P eu =
-      let hv : v < 2 ^ g .link = rw ev (link-lt g t T l hl) in
-      let Q : Poked g t a (basicSlots g i) v (basicSlot g i p) x r = subst (λ (n : ℕ). Poked g t a n v (basicSlot g i p) x r) eb (subst (λ (n : ℕ). Poked g t a base v n x r) ea P) in
-      let s = stored-poked g t T i hi p v x hp hv hx a r Q in
-      let hr : r < 2 ^ g .link = rw (Q .head) (field-lt _ (basicSlots g i) (g .link)) in
-      let b = basicAt (decode g t .basic) i in
-      let o = overflowAt (decode g t .overflow) l in
-      stored-as (pokeBasic g i l p x (decode g t))
-      (stored-then (overOverflow l (λ q. mkOverflow (q .counter) r (q .slots))) s (stored-link g a (s .table) l hl u r hr eu))
-      (ap
-      (λ (n : ℕ). mkState (decode g t .free)
-      (set (decode g t .basic) i (mkBasic (b .counter) (b .head) (restOf g (set (unpack g v (b .rest)) p x))))
-      (set (decode g t .overflow) l (mkOverflow (o .counter) n (o .slots))))
-      (poked-head g t T i hi p v x hp hv hx a r Q)
-      ∙ ap
-      (λ (n : ℕ). mkState (decode g t .free)
-      (set (decode g t .basic) i (mkBasic (b .counter) (b .head) (restOf g (set (unpack g n (b .rest)) p x))))
-      (set (decode g t .overflow) l (mkOverflow (o .counter) (headOf g (set (unpack g n (b .rest)) p x)) (o .slots))))
-      ev)
+  -- a slot under the displaced bits, which count as the last block's link, v
+  module _ (i l p v x base at : ℕ) (hi : i < g .lists) (hl : l < g .nob) (hp : p < g .sib) (hx : x < 2 ^ g .slot) (ev : v ≡ overflowAt (decode g t .overflow) l .link)
+      (eb : base ≡ basicSlots g i) (ea : at ≡ basicSlot g i p) (a : List ℕ) (r : ℕ) (P : Poked g t a base v at x r) where
+    hv : v < 2 ^ g .link
+    hv = rw ev (link-lt g t T l hl)
+
+    Q : Poked g t a (basicSlots g i) v (basicSlot g i p) x r
+    Q = subst (λ (n : ℕ). Poked g t a n v (basicSlot g i p) x r) eb (subst (λ (n : ℕ). Poked g t a base v n x r) ea P)
+
+    under : Stored g t a (overBasic i (λ b. mkBasic (b .counter) (b .head) (restOf g (set (unpack g v (b .rest)) p x))) (decode g t))
+    under = stored-poked g t T i hi p v x hp hv hx a r Q
+
+    pub stored-poke : (u : List ℕ) → u ≡ linkPut g a l r → Stored g t u (pokeBasic g i l p x (decode g t))
+    stored-poke u eu =
+        let hr : r < 2 ^ g .link = rw (Q .head) (field-lt _ (basicSlots g i) (g .link)) in
+        let b = basicAt (decode g t .basic) i in
+        let o = overflowAt (decode g t .overflow) l in
+        stored-as (pokeBasic g i l p x (decode g t))
+        (stored-then (overOverflow l (λ q. mkOverflow (q .counter) r (q .slots))) under (stored-link g a (under .table) l hl u r hr eu))
+        (ap
+        (λ (n : ℕ). mkState (decode g t .free)
+        (set (decode g t .basic) i (mkBasic (b .counter) (b .head) (restOf g (set (unpack g v (b .rest)) p x))))
+        (set (decode g t .overflow) l (mkOverflow (o .counter) n (o .slots))))
+        (poked-head g t T i hi p v x hp hv hx a r Q)
+        ∙ ap
+        (λ (n : ℕ). mkState (decode g t .free)
+        (set (decode g t .basic) i (mkBasic (b .counter) (b .head) (restOf g (set (unpack g n (b .rest)) p x))))
+        (set (decode g t .overflow) l (mkOverflow (o .counter) (headOf g (set (unpack g n (b .rest)) p x)) (o .slots))))
+        ev)
+
+    -- these bits are as before, and so is the link
+    pub stored-poke-same : r ≡ v → Stored g t a (pokeBasic g i l p x (decode g t))
+    stored-poke-same e =
+        stored-poke a
+        (sym
+        (ap (linkPut g a l) (e ∙ ev ∙ sym (ap (λ (st : State). overflowAt (st .overflow) l .link) (under .state)))
+        ∙ link-own g a (under .table) l hl))
 
   pub stored-spot : (s : Spot) (x at : ℕ) → s .block < g .nob → s .slot < g .sio → x < 2 ^ g .slot → at ≡ overflowSlot g (s .block) (s .slot) → (u : List ℕ) → u ≡ slotPut g t at x
       → Stored g t u (pokeSpot g s x (decode g t))

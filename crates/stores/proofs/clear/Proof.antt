@@ -1,70 +1,116 @@
--- The invariant: the bits up to `done` are zero. The measure is what is left.
-use mathlib.Core.Path.{_≡_, refl, sym, ap, _∙_}
-use Prim.Native.Nat.{_-_, _≤_}
+-- Few bits are one field. More are the last bits of the first byte, whole bytes, and the first bits of the last byte.
+use mathlib.Core.Path.{_≡_, ap, _∙_}
+use Prim.Native.Nat.{ℕ, _+_, _-_, _*_, _/_, _%_}
 use native.Mathlib.Omega.{arith}
-use lib.ListN.{length}
+use denote.Ref.{now}
+use lib.ListN.{length, set, length-set}
 use lib.Pow.{pow-pos}
-use Rattle.bits.specs.Put.{putField}
-use Rattle.bits.specs.theory.Puts.{put-zero, put-length}
 use borrow.Author.Needs.{needs}
-use Rattle.stores.specs.theory.StoreLaws.{clear-more}
+use Rattle.bits.specs.Bytes.{Bytes}
+use Rattle.bits.specs.Put.{putField}
+use Rattle.bits.specs.theory.Puts.{put-bytes, put-length}
+use Rattle.stores.specs.theory.StoreLaws.{clear-first, clear-last, clear-more}
 use Rattle.stores.proofs.clear.Statement.{statement}
 use Rattle.stores.proofs.clear.Tie as tie
 
-abbrev Inv-loop : tie.InvT-loop
-Inv-loop t₀ off n done₀ t done = (done ≤ n) × (t ≡ putField t₀ off done 0) × (length t ≡ length t₀)
+put-requires : tie.Need-put-requires
+put-requires c κs = (search needs, pow-pos _)
 
-abbrev μ-loop : tie.MeasureT-loop
-μ-loop t₀ off n done₀ t done = n - done
+same-length : tie.Need-same-length
+same-length c = search needs
 
-loop-holds : tie.Need-loop-holds Inv-loop μ-loop
-loop-holds c = (omega arith, sym (put-zero _ _ _), refl)
+returns : tie.Need-returns
+returns c = search needs
 
-sub-least : tie.Need-sub-least Inv-loop μ-loop
-sub-least c = omega arith
+add-e : tie.Need-add-e
+add-e c = search needs
 
-least-requires : tie.Need-least-requires Inv-loop μ-loop
-least-requires c κs = search needs
+add-k : tie.Need-add-k
+add-k c = search needs
 
-add-put : tie.Need-add-put Inv-loop μ-loop
-add-put c = omega arith
+slice-read-first-bits : tie.Need-slice-read-first-bits
+slice-read-first-bits c = search needs
 
-put-requires : tie.Need-put-requires Inv-loop μ-loop
-put-requires c κs = (omega arith, pow-pos _)
+first-bits-requires : tie.Need-first-bits-requires
+first-bits-requires c κs = search needs
 
-add-done : tie.Need-add-done Inv-loop μ-loop
-add-done c = omega arith
+slice-write-t : tie.Need-slice-write-t
+slice-write-t c = search needs
 
-loop-less : tie.Need-loop-less Inv-loop μ-loop
-loop-less c = omega arith
+add-clear-bytes : tie.Need-add-clear-bytes
+add-clear-bytes c = search needs
 
-loop-again : tie.Need-loop-again Inv-loop μ-loop
-loop-again c =
-    let l = c .before .before .before .before .before .before .loop in
-    let e = c .before .before .put .ensures in
-    (omega arith, clear-more _ _ _ _ _ _ (l .inv .1) e, ap length e ∙ put-length _ _ _ _ ∙ l .inv .2)
+-- the first byte, and the whole bytes behind it
+first-byte : (c : tie.After-first-bits) → let a = c .before .before .before .before .args in set (now (a .t)) (a .off / 8) (c .first-bits .result) ≡ putField (now (a .t)) (a .off) (8 - a .off % 8) 0
+first-byte c = let a = c .before .before .before .before .args in clear-first (now (a .t)) (a .off) _ (omega arith) (c .first-bits .ensures)
 
-same-length : tie.Need-same-length Inv-loop μ-loop
-same-length c = c .before .loop .inv .2
+whole-bytes : (c : tie.After-clear-bytes) → let a = c .before .before .before .before .before .before .args in c .clear-bytes .last .0 ≡ putField (now (a .t)) (a .off) (8 * ((a .off + a .n) / 8) - a .off) 0
+whole-bytes c =
+    let a = c .before .before .before .before .before .before .args in
+    clear-more (now (a .t)) _ _ (a .off) (8 - a .off % 8) (8 * (a .off / 8 + 1)) (8 * ((a .off + a .n) / 8 - (a .off / 8 + 1))) (8 * ((a .off + a .n) / 8) - a .off)
+    (omega arith) (omega arith) (first-byte (c .before .before)) (c .clear-bytes .ensures)
 
-returns : tie.Need-returns Inv-loop μ-loop
-returns c =
-    let e : c .before .loop .done ≡ c .before .before .before .args .n = omega arith in
-    rw e at (c .before .loop .inv .1)
+long : (c : tie.After-clear-bytes) → length (c .clear-bytes .last .0) ≡ length (now (c .before .before .before .before .before .before .args .t))
+long c = let a = c .before .before .before .before .before .before .args in ap length (whole-bytes c) ∙ put-length (now (a .t)) (a .off) (8 * ((a .off + a .n) / 8) - a .off) 0
+
+clear-bytes-requires : tie.Need-clear-bytes-requires
+clear-bytes-requires c κs =
+    let a = c .before .before .before .before .before .args in
+    let k = c .before .before .before .before in
+    let e = first-byte (c .before) in
+    let b : Bytes (now (a .t)) = λ j. omega (arith, k .slice-known .given j) in
+    (rw e (put-bytes (now (a .t)) (a .off) (8 - a .off % 8) 0 b), omega arith, rw length-set (omega arith))
+
+slice-read-last-bits : tie.Need-slice-read-last-bits
+slice-read-last-bits c = omega (arith, long (c .before .before .before .before))
+
+last-bits-requires : tie.Need-last-bits-requires
+last-bits-requires c κs = search needs
+
+slice-write-t-2 : tie.Need-slice-write-t-2
+slice-write-t-2 c = omega (arith, long (c .before .before .before .before .before))
+
+same-length-2 : tie.Need-same-length-2
+same-length-2 c =
+    let k = c .before .before .before .before .before in
+    let a = k .before .before .before .before .before .before .args in
+    length-set (k .clear-bytes .last .0) ((a .off + a .n) / 8) (c .last-bits .result) ∙ long k
+
+returns-2 : tie.Need-returns-2
+returns-2 c =
+    let k = c .before .before .before .before .before in
+    let a = k .before .before .before .before .before .before .args in
+    clear-more (now (a .t)) _ _ (a .off) _ (8 * ((a .off + a .n) / 8)) ((a .off + a .n) % 8) (a .n) (omega arith) (omega arith) (whole-bytes k)
+    (clear-last (k .clear-bytes .last .0) ((a .off + a .n) / 8) ((a .off + a .n) % 8) _ (omega (arith, long k)) (omega arith) (c .last-bits .ensures))
+
+same-length-3 : tie.Need-same-length-3
+same-length-3 c = long (c .before .before .before)
+
+returns-3 : tie.Need-returns-3
+returns-3 c =
+    let k = c .before .before .before in
+    let a = k .before .before .before .before .before .before .args in
+    let e : 8 * ((a .off + a .n) / 8) - a .off ≡ a .n = omega arith in
+    whole-bytes k ∙ ap (λ (m : ℕ). putField (now (a .t)) (a .off) m 0) e
 
 pub clear-spec : {M : Type 1} → statement M
 clear-spec =
     tie.close
     (tie.spec
-    Inv-loop
-    μ-loop
-    loop-holds
-    sub-least
-    least-requires
-    add-put
     put-requires
-    add-done
-    loop-less
-    loop-again
     same-length
-    returns)
+    returns
+    add-e
+    add-k
+    slice-read-first-bits
+    first-bits-requires
+    slice-write-t
+    add-clear-bytes
+    clear-bytes-requires
+    slice-read-last-bits
+    last-bits-requires
+    slice-write-t-2
+    same-length-2
+    returns-2
+    same-length-3
+    returns-3)

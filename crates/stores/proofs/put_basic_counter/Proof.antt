@@ -1,13 +1,13 @@
 -- The counter stands before the slots, and within the table.
 use mathlib.Core.Path.{_≡_, ap, _∙_}
-use Prim.Native.Nat.{ℕ, _-_}
+use Prim.Native.Nat.{ℕ, suc, _-_}
 use native.Mathlib.Omega.{arith}
 use denote.Ref.{now}
 use borrow.Author.Needs.{needs}
 use Rattle.bits.specs.Put.{putField}
 use Rattle.table.specs.Decode.{blockAt, basicSlots}
 use Rattle.stores.specs.Stores.{basicCounterPut}
-use Rattle.stores.specs.theory.StoreLaws.{basic-counter-ends}
+use Rattle.stores.specs.theory.StoreLaws.{some-bits, basic-counter-ends}
 use Rattle.stores.proofs.put_basic_counter.Statement.{statement}
 use Rattle.stores.proofs.put_basic_counter.Tie as tie
 
@@ -18,12 +18,12 @@ sub-at : tie.Need-sub-at
 unfolding basicSlots
 sub-at c = omega (arith, c .before .basic-slots .ensures)
 
-put-requires : tie.Need-put-requires
+put-short-requires : tie.Need-put-short-requires
 unfolding basicSlots
-put-requires c κs =
+put-short-requires c κs =
     let s = c .before .before .before .before in
     let F = s .pre .0 .proper in
-    (omega (arith, basic-counter-ends (s .args .g) F (s .args .i) (s .pre .1), F .basic-high, s .pre .0 .room, c .before .before .basic-slots .ensures), s .pre .2)
+    (some-bits (suc (s .args .g .sib)) (s .args .g .basic .counter) (omega arith) (F .basic-holds), omega (arith, F .basic-high), omega (arith, basic-counter-ends (s .args .g) F (s .args .i) (s .pre .1), s .pre .0 .room, c .before .before .basic-slots .ensures), s .pre .2)
 
 same-length : tie.Need-same-length
 same-length c = search needs
@@ -35,8 +35,8 @@ returns c =
     let g = s .args .g in
     let e : c .before .before .before .before .before .basic-slots .result - g .basic .counter ≡ blockAt (g .basic) (s .args .i) =
     omega (arith, c .before .before .before .before .before .basic-slots .ensures) in
-    c .before .before .put .ensures ∙ ap (λ (x : ℕ). putField (now (s .args .t)) x (g .basic .counter) (s .args .n)) e
+    c .before .before .put-short .ensures ∙ ap (λ (x : ℕ). putField (now (s .args .t)) x (g .basic .counter) (s .args .n)) e
 
 pub put-basic-counter-spec : {M : Type 1} → statement M
 put-basic-counter-spec =
-    tie.close (tie.spec basic-slots-requires sub-at put-requires same-length returns)
+    tie.close (tie.spec basic-slots-requires sub-at put-short-requires same-length returns)

@@ -7,7 +7,7 @@ use borrow.Author.Needs.{needs}
 use Rattle.bits.specs.Put.{putField}
 use Rattle.table.specs.Decode.{blockAt, overflowSlots}
 use Rattle.stores.specs.Stores.{overflowCounterPut}
-use Rattle.stores.specs.theory.StoreLaws.{overflow-counter-ends}
+use Rattle.stores.specs.theory.StoreLaws.{some-bits, overflow-counter-ends}
 use Rattle.stores.proofs.put_overflow_counter.Statement.{statement}
 use Rattle.stores.proofs.put_overflow_counter.Tie as tie
 
@@ -21,12 +21,12 @@ sub-at : tie.Need-sub-at
 unfolding overflowSlots
 sub-at c = omega (arith, c .before .overflow-slots .ensures)
 
-put-requires : tie.Need-put-requires
+put-short-requires : tie.Need-put-short-requires
 unfolding overflowSlots
-put-requires c κs =
+put-short-requires c κs =
     let s = c .before .before .before .before in
     let F = s .pre .0 .proper in
-    (omega (arith, overflow-counter-ends (s .args .g) F (s .args .j) (s .pre .1), F .overflow-high, s .pre .0 .room, c .before .before .overflow-slots .ensures), s .pre .2)
+    (some-bits (s .args .g .sio) (s .args .g .overflow .counter) (F .sio-low) (F .overflow-holds), omega (arith, F .overflow-high), omega (arith, overflow-counter-ends (s .args .g) F (s .args .j) (s .pre .1), s .pre .0 .room, c .before .before .overflow-slots .ensures), s .pre .2)
 
 same-length : tie.Need-same-length
 same-length c = search needs
@@ -38,8 +38,8 @@ returns c =
     let g = s .args .g in
     let e : c .before .before .before .before .before .overflow-slots .result - (g .overflow .counter + g .link) ≡ blockAt (g .overflow) (s .args .j) =
     omega (arith, c .before .before .before .before .before .overflow-slots .ensures) in
-    c .before .before .put .ensures ∙ ap (λ (x : ℕ). putField (now (s .args .t)) x (g .overflow .counter) (s .args .n)) e
+    c .before .before .put-short .ensures ∙ ap (λ (x : ℕ). putField (now (s .args .t)) x (g .overflow .counter) (s .args .n)) e
 
 pub put-overflow-counter-spec : {M : Type 1} → statement M
 put-overflow-counter-spec =
-    tie.close (tie.spec overflow-slots-requires add-at sub-at put-requires same-length returns)
+    tie.close (tie.spec overflow-slots-requires add-at sub-at put-short-requires same-length returns)

@@ -1,122 +1,84 @@
--- Its two or three fields stand side by side. An entry of at most 64 bits has no high word.
-use mathlib.Core.Path.{_≡_}
-use Prim.Native.Nat.{_+_, _*_, _^_, _≤_, _<_}
+-- Up to 128 bits it is two words (`slot-words`) in one store. Of more the label goes first, and the entry before it.
+use mathlib.Core.Path.{_≡_, refl, ap, ap₂, _∙_}
+use Prim.Native.Nat.{ℕ, _+_, _*_, _^_}
+use native.Mathlib.Nat.{zero-add}
 use native.Mathlib.Omega.{arith}
 use denote.Ref.{now}
-use lib.ListN.{length}
 use borrow.Author.Needs.{needs}
-use Rattle.settings.specs.Key.{keyNumber}
-use Rattle.table.specs.theory.Changes.{bits-high}
-use Rattle.stores.specs.Stores.{Slotted}
-use Rattle.stores.specs.theory.StoreLaws.{low-fits, high-fits, slot-two, slot-three}
+use Rattle.bits.specs.Put.{putField}
+use Rattle.stores.specs.theory.StoreLaws.{slot-fits, slot-words, entry-high, put-back}
 use Rattle.stores.proofs.put_slot.Statement.{statement}
 use Rattle.stores.proofs.put_slot.Tie as tie
 
-low-word : (s : tie.Start) → s .args .entry .low < 2 ^ 64
-low-word s = omega arith
+add-n : tie.Need-add-n
+add-n c = search needs
 
-slotted : (s : tie.Start) → Slotted (s .args .g) (s .args .entry .high * 2 ^ 64 + s .args .entry .low) (s .args .label)
-unfolding keyNumber
-slotted s = s .pre .2
+above-requires : tie.Need-above-requires
+above-requires c κs =
+    let s = c .before .before .before in
+    let a = s .args in
+    (s .pre .3, entry-high (a .high) (a .low) (a .bie) (a .val) (s .pre .3) (omega arith) (omega arith) (s .pre .4))
 
--- all of the slot is within the largest table
-ends : (s : tie.Start) → let g = s .args .g in (s .args .at + g .bie + g .val ≤ 8 * length (now (s .args .t))) × (s .args .at + g .bie + g .val ≤ 2 ^ 27)
-ends s =
-    let F = s .pre .0 .proper in
-    (omega (arith, F .slot-is, s .pre .1, s .pre .0 .room), omega (arith, F .slot-is, s .pre .1, bits-high (s .args .g) F))
+below-requires : tie.Need-below-requires
+below-requires c κs = search needs
 
-put-requires : tie.Need-put-requires
-put-requires c κs =
-    let s = c .before .before .before .before in
-    (omega (arith, ends s, c .before .if1 .taken), low-fits (s .args .g) (s .pre .0 .proper) (s .args .entry .high) (s .args .entry .low) (s .args .label) (slotted s) (low-word s) (c .before .if1 .taken))
+-- the two words are the slot
+words : (c : tie.After-below) → let a = c .before .before .before .before .before .args in
+    c .before .above .result * 2 ^ 64 + c .below .result ≡ (a .high * 2 ^ 64 + a .low) * 2 ^ a .val + a .label
+words c =
+    let s = c .before .before .before .before .before in
+    let a = s .args in
+    ap₂ (λ (x y : ℕ). x * 2 ^ 64 + y) (c .before .above .ensures) (c .below .ensures) ∙ slot-words (a .val) (s .pre .3) (a .high) (a .low) (a .label)
 
-add-put : tie.Need-add-put
-add-put c =
-    let s = c .before .before .before .before .before .before .before .before .before in
-    omega (arith, ends s)
-
-put-requires-2 : tie.Need-put-requires-2
-put-requires-2 c κs =
-    let s = c .before .before .before .before .before .before .before .before .before in
-    let l : length (c .before .before .before .before .put .last .0) ≡ length (now (s .args .t)) = c .before .before .before .before .put .kept .0 in
-    (omega (arith, l, ends s, s .pre .0 .proper .val-high), s .pre .2 .label-fits)
+put-wide-requires : tie.Need-put-wide-requires
+put-wide-requires c κs =
+    let s = c .before .before .before .before .before in
+    let a = s .args in
+    (omega arith, omega arith, omega arith, rw (words c) (slot-fits (a .high * 2 ^ 64 + a .low) (a .label) (a .bie) (a .val) (s .pre .4) (s .pre .5)))
 
 same-length : tie.Need-same-length
 same-length c = search needs
 
 returns : tie.Need-returns
-unfolding keyNumber
 returns c =
-    let s = c .before .before .before .before .before .before .before .before .before .before .before .before in
-    slot-two (s .args .g) (s .pre .0 .proper) (s .args .entry .high) (s .args .entry .low) (s .args .label) (slotted s) (low-word s) _ _ _ (s .args .at)
-    (c .before .before .before .before .before .before .before .before .before .if1 .taken)
-    (c .before .before .before .before .before .before .before .put .ensures)
-    (c .before .before .put2 .ensures)
+    let k = c .before .before in
+    let a = k .before .before .before .before .before .before .args in
+    k .put-wide .ensures ∙ ap (putField (now (a .t)) (a .at) (a .bie + a .val)) (words (k .before))
 
-sub-put : tie.Need-sub-put
-sub-put c = search needs
+add-put-wide : tie.Need-add-put-wide
+add-put-wide c = search needs
 
-put-requires-3 : tie.Need-put-requires-3
-put-requires-3 c κs =
-    let s = c .before .before .before .before .before in
-    (omega (arith, ends s, s .pre .0 .proper .bie-high), high-fits (s .args .g) (s .pre .0 .proper) (s .args .entry .high) (s .args .entry .low) (s .args .label) (slotted s) (low-word s) (omega arith))
+put-wide-requires-2 : tie.Need-put-wide-requires-2
+put-wide-requires-2 c κs = search needs
 
-sub-put-2 : tie.Need-sub-put-2
-sub-put-2 c = search needs
-
-add-put-2 : tie.Need-add-put-2
-add-put-2 c =
-    let s = c .before .before .before .before .before .before .before .before .before .before in
-    omega (arith, ends s)
-
-put-requires-4 : tie.Need-put-requires-4
-put-requires-4 c κs =
-    let s = c .before .before .before .before .before .before .before .before .before .before in
-    let l : length (c .before .before .before .before .put3 .last .0) ≡ length (now (s .args .t)) = c .before .before .before .before .put3 .kept .0 in
-    (omega (arith, l, ends s, c .before .before .before .before .before .before .before .if1 .left), low-word s)
-
-add-put-3 : tie.Need-add-put-3
-add-put-3 c =
-    let s = c .before .before .before .before .before .before .before .before .before .before .before .before .before .before .before in
-    omega (arith, ends s)
-
-put-requires-5 : tie.Need-put-requires-5
-put-requires-5 c κs =
-    let s = c .before .before .before .before .before .before .before .before .before .before .before .before .before .before .before in
-    let l : length (c .before .before .before .before .before .before .before .before .before .put3 .last .0) ≡ length (now (s .args .t)) =
-    c .before .before .before .before .before .before .before .before .before .put3 .kept .0 in
-    let m : length (c .before .before .before .before .put4 .last .0) ≡ length (c .before .before .before .before .before .before .before .before .before .put3 .last .0) =
-    c .before .before .before .before .put4 .kept .0 in
-    (omega (arith, l, m, ends s, s .pre .0 .proper .val-high), s .pre .2 .label-fits)
+put-wide-requires-3 : tie.Need-put-wide-requires-3
+put-wide-requires-3 c κs = search needs
 
 same-length-2 : tie.Need-same-length-2
 same-length-2 c = search needs
 
 returns-2 : tie.Need-returns-2
-unfolding keyNumber
 returns-2 c =
-    let s = c .before .before .before .before .before .before .before .before .before .before .before .before .before .before .before .before .before .before in
-    slot-three (s .args .g) (s .pre .0 .proper) (s .args .entry .high) (s .args .entry .low) (s .args .label) (slotted s) (low-word s) _ _ _ _ (s .args .at)
-    (omega (arith, c .before .before .before .before .before .before .before .before .before .before .before .before .before .before .before .if1 .left))
-    (c .before .before .before .before .before .before .before .before .before .before .before .before .put3 .ensures)
-    (c .before .before .before .before .before .before .before .put4 .ensures)
-    (c .before .before .put5 .ensures)
+    let k = c .before .before .before .before .before .before .before .before .before in
+    let s = k .before in
+    let a = s .args in
+    put-back (now (a .t)) _ _ (a .at) (a .bie) (a .at + a .bie) (a .val) (a .bie + a .val) (a .high * 2 ^ 64 + a .low) (0 + a .label) _
+    (λ j. omega (arith, k .slice-known .given j)) (omega arith) refl refl (rw zero-add (s .pre .5)) (ap (λ (y : ℕ). (a .high * 2 ^ 64 + a .low) * 2 ^ a .val + y) (omega arith))
+    (c .before .before .before .before .before .before .put-wide2 .ensures)
+    (c .before .before .put-wide3 .ensures)
 
 pub put-slot-spec : {M : Type 1} → statement M
 put-slot-spec =
     tie.close
     (tie.spec
-    put-requires
-    add-put
-    put-requires-2
+    add-n
+    above-requires
+    below-requires
+    put-wide-requires
     same-length
     returns
-    sub-put
-    put-requires-3
-    sub-put-2
-    add-put-2
-    put-requires-4
-    add-put-3
-    put-requires-5
+    add-put-wide
+    put-wide-requires-2
+    put-wide-requires-3
     same-length-2
     returns-2)

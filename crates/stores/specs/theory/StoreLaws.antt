@@ -4,16 +4,18 @@ use mathlib.Core.Logic.{_≢_, _⊎_, inl, inr}
 use mathlib.Core.List.{List, [], _∷_}
 use Prim.Native.Nat.{ℕ, zero, suc, _+_, _-_, _*_, _/_, _%_, _^_, _≤_, _<_}
 use native.Mathlib.Omega.{arith}
-use native.Mathlib.Nat.{mul-le-mul-right, lt-of-lt-of-le, zero-div, zero-mod}
+use native.Mathlib.Nat.{add-zero, zero-add, mul-le-mul-right, lt-of-lt-of-le, zero-div, zero-mod, mod-lt, mul-mod-left}
 use native.Mathlib.Decide.{decLe}
-use lib.ListN.{length, set}
+use lib.ListN.{length, getD, set}
 use lib.Seq.{getD-set-same, set-set}
-use lib.Pow.{high, low, shr-lt, pow-pos, pow-mono, pow-add}
+use lib.Pow.{high, low, shr-lt, shl-shr, pow-pos, pow-mono, pow-add, mod-pow-add, split}
+use lib.Arith.{digits-lt}
 use Rattle.bits.specs.Bytes.{Bytes}
 use Rattle.bits.specs.Field.{field}
-use Rattle.bits.specs.Put.{putField}
+use Rattle.bits.specs.Put.{replaced, putField}
 use Rattle.bits.specs.theory.Fields.{field-cat, field-lt, sub-field}
-use Rattle.bits.specs.theory.Puts.{put-same, put-out, put-cat}
+use Rattle.bits.specs.theory.Puts.{put-length, put-bytes, put-same, put-own, put-out, put-cat, put-in, put-put, put-comm}
+use Rattle.bits.specs.theory.Words.{put-byte-more}
 use Rattle.settings.specs.Proper.{Proper}
 use Rattle.settings.specs.declared.layout.Layout.{Layout}
 use Rattle.table.specs.Arrays.{tabulate, packed, unpacked, padded}
@@ -22,7 +24,7 @@ use Rattle.table.specs.Decode.{blockAt, basicSlots, linkAt, overflowSlots, read
 use Rattle.table.specs.Table.{Table}
 use Rattle.table.specs.theory.Arrays.{length-tab, tab-ext, tab-set, fields-packed}
 use Rattle.table.specs.theory.Decode.{Only, put-only, only-refl, only-trans, only-wide, written-of}
-use Rattle.table.specs.theory.Changes.{basic-ends, over-ends, start-low, start-high, slot-ends, slot-low, decode-free, decode-basic, decode-over, at-basic, at-over}
+use Rattle.table.specs.theory.Changes.{bits-high, basic-ends, over-ends, start-low, start-high, slot-ends, slot-low, decode-free, decode-basic, decode-over, at-basic, at-over}
 use Rattle.table.specs.theory.Reads.{unpacked-fields}
 use Rattle.stores.specs.Stores.{Slotted, Poked, basicSlot, overflowSlot, freePut, basicCounterPut, headPut, overflowCounterPut, linkPut, slotPut, renewed}
 
@@ -31,6 +33,11 @@ pub table-kept : {g : Layout} {t : List ℕ} (u : List ℕ) → length u ≡ len
 table-kept u e T = record { proper = T .proper; room = omega (arith, T .room) }
 
 -- ---- places
+
+-- a field that holds a number above 0 has a bit
+pub some-bits : (n m : ℕ) → 0 < n → n < 2 ^ m → 0 < m
+some-bits n zero h l = absurd (omega arith)
+some-bits n (suc m) h l = omega arith
 
 module _ (g : Layout) (F : Proper g) where
   module _ (i : ℕ) (h : i < g .lists) where
@@ -59,66 +66,150 @@ module _ (g : Layout) (F : Proper g) where
 
 -- ---- a slot in parts
 
+-- an entry of bie bits and a label of val bits
+pub slot-fits : (e label bie val : ℕ) → e < 2 ^ bie → label < 2 ^ val → e * 2 ^ val + label < 2 ^ (bie + val)
+slot-fits e label bie val he hl = rw (pow-add 2 bie val) (digits-lt he hl)
+
 pub slot-lt : (g : Layout) → Proper g → (e label : ℕ) → Slotted g e label → slotOf g e label < 2 ^ g .slot
-slot-lt g F e label S =
-    let m : suc e * 2 ^ g .val ≤ 2 ^ g .bie * 2 ^ g .val = mul-le-mul-right (2 ^ g .val) (S .entry-fits) in
-    let q : 2 ^ g .slot ≡ 2 ^ g .bie * 2 ^ g .val = ap (λ (n : ℕ). 2 ^ n) (F .slot-is) ∙ pow-add 2 (g .bie) (g .val) in
-    omega (arith, S .label-fits)
+slot-lt g F e label S = rw (F .slot-is) (slot-fits e label (g .bie) (g .val) (S .entry-fits) (S .label-fits))
 
-module _ (g : Layout) (F : Proper g) (hi lo label : ℕ) (S : Slotted g (hi * 2 ^ 64 + lo) label) (ll : lo < 2 ^ 64) where
-  slot-cat : (t : List ℕ) (at : ℕ) → putField (putField t at (g .bie) (hi * 2 ^ 64 + lo)) (at + g .bie) (g .val) label ≡ slotPut g t at (slotOf g (hi * 2 ^ 64 + lo) label)
-  unfolding slotPut
-  slot-cat t at =
-      let e = hi * 2 ^ 64 + lo in
-      sym
-      (ap (λ (n : ℕ). putField t at n (e * 2 ^ g .val + label)) (F .slot-is)
-      ∙ put-cat t at (g .bie) (g .val) (e * 2 ^ g .val + label)
-      ∙ ap₂ (λ (x y : ℕ). putField (putField t at (g .bie) x) (at + g .bie) (g .val) y) (high e (g .val) (S .label-fits)) (low e (g .val) (S .label-fits)))
+-- what put_slot asks and leaves, in a table
+pub slot-asks : (g : Layout) (t : List ℕ) → Table g t → (at e label : ℕ) → at + g .slot ≤ g .bits → Slotted g e label
+    → (at + (g .bie + g .val) ≤ 8 * length t) × (at + (g .bie + g .val) ≤ 2 ^ 27) × (g .bie ≤ 128) × (g .val ≤ 32) × (e < 2 ^ g .bie) × (label < 2 ^ g .val)
+slot-asks g t T at e label l S =
+    let F = T .proper in
+    (omega (arith, F .slot-is, T .room), omega (arith, F .slot-is, bits-high g F), F .bie-high, F .val-high, S .entry-fits, S .label-fits)
 
-  low-only : g .bie ≤ 64 → hi * 2 ^ 64 + lo ≡ lo
-  low-only l = let h : hi * 2 ^ 64 + lo < 2 ^ 64 = lt-of-lt-of-le (S .entry-fits) (pow-mono l) in omega arith
+pub slot-put : (g : Layout) → Proper g → (t u : List ℕ) (at x : ℕ) → u ≡ putField t at (g .bie + g .val) x → u ≡ slotPut g t at x
+unfolding slotPut
+slot-put g F t u at x e = e ∙ ap (λ (n : ℕ). putField t at n x) (sym (F .slot-is))
 
-  pub low-fits : g .bie ≤ 64 → lo < 2 ^ g .bie
-  low-fits l = rw (low-only l) at (S .entry-fits)
+-- what copy asks, for a slot of a table
+pub copy-asks : (g : Layout) (t : List ℕ) → Table g t → (from to : ℕ) → from + g .slot ≤ g .bits → to + g .slot ≤ g .bits
+    → (1 ≤ g .slot) × (g .slot ≤ 160) × (from + g .slot ≤ 8 * length t) × (from + g .slot ≤ 2 ^ 27) × (to + g .slot ≤ 8 * length t) × (to + g .slot ≤ 2 ^ 27)
+copy-asks g t T from to l m =
+    let F = T .proper in
+    let high = bits-high g F in
+    let room = T .room in
+    (omega (arith, F .slot-is, F .bie-low), omega (arith, F .slot-is, F .bie-high, F .val-high), omega arith, omega arith, omega arith, omega arith)
 
-  pub high-fits : 64 < g .bie → hi < 2 ^ (g .bie - 64)
-  high-fits l =
-      let h : hi * 2 ^ 64 + lo < 2 ^ (g .bie - 64 + 64) = lt-of-lt-of-le (S .entry-fits) (pow-mono (omega arith)) in
-      rw (high hi 64 ll) at (shr-lt (g .bie - 64) 64 h)
+-- a slot as two words of 64 bits, where the label's bits push out the first bits of the low one
+module _ (val : ℕ) (hv : val ≤ 32) where
+  whole-word : 2 ^ (64 - val) * 2 ^ val ≡ 2 ^ 64
+  whole-word =
+      let e : 64 - val + val ≡ 64 = omega arith in
+      sym (pow-add 2 (64 - val) val) ∙ ap (λ (n : ℕ). 2 ^ n) e
 
-  -- an entry of at most 64 bits, and a longer one
-  pub slot-two : (t a b : List ℕ) (at : ℕ) → g .bie ≤ 64 → a ≡ putField t at (g .bie) lo → b ≡ putField a (at + g .bie) (g .val) label
-      → b ≡ slotPut g t at (slotOf g (hi * 2 ^ 64 + lo) label)
-  slot-two t a b at l ea eb =
-      eb
-      ∙ ap (λ (x : List ℕ). putField x (at + g .bie) (g .val) label) (ea ∙ ap (putField t at (g .bie)) (sym (low-only l)))
-      ∙ slot-cat t at
+  pushed : (lo : ℕ) → lo * 2 ^ val % 2 ^ 64 ≡ lo % 2 ^ (64 - val) * 2 ^ val
+  pushed lo =
+      let e : 64 - val + val ≡ 64 = omega arith in
+      rw e at (mod-pow-add (lo * 2 ^ val) (64 - val) val) ∙ rw (shl-shr lo val, mul-mod-left lo (2 ^ val)) (add-zero _)
 
-  pub slot-three : (t a b c : List ℕ) (at : ℕ) → 64 < g .bie → a ≡ putField t at (g .bie - 64) hi → b ≡ putField a (at + (g .bie - 64)) 64 lo → c ≡ putField b (at + g .bie) (g .val) label
-      → c ≡ slotPut g t at (slotOf g (hi * 2 ^ 64 + lo) label)
-  slot-three t a b c at l ea eb ec =
-      let e : g .bie - 64 + 64 ≡ g .bie = omega arith in
-      ec
-      ∙ ap (λ (x : List ℕ). putField x (at + g .bie) (g .val) label)
-      (eb
-      ∙ ap (λ (x : List ℕ). putField x (at + (g .bie - 64)) 64 lo) ea
-      ∙ sym
-      (ap (λ (n : ℕ). putField t at n (hi * 2 ^ 64 + lo)) (sym e)
-      ∙ put-cat t at (g .bie - 64) 64 (hi * 2 ^ 64 + lo)
-      ∙ ap₂ (λ (x y : ℕ). putField (putField t at (g .bie - 64) x) (at + (g .bie - 64)) 64 y) (high hi 64 ll) (low hi 64 ll)))
-      ∙ slot-cat t at
+  pub low-word : (lo label : ℕ) → label < 2 ^ val → lo * 2 ^ val % 2 ^ 64 + label < 2 ^ 64
+  low-word lo label h = rw (pushed lo) (rw whole-word at (digits-lt (mod-lt lo (pow-pos (64 - val))) h))
+
+  pub high-word : (hi lo : ℕ) → hi < 2 ^ (64 - val) → lo < 2 ^ 64 → hi * 2 ^ val + lo / 2 ^ (64 - val) < 2 ^ 64
+  high-word hi lo h l =
+      let e : val + (64 - val) ≡ 64 = omega arith in
+      let q : lo / 2 ^ (64 - val) < 2 ^ val = shr-lt val (64 - val) (rw e l) in
+      rw whole-word at (digits-lt h q)
+
+  pub slot-words : (hi lo label : ℕ) → (hi * 2 ^ val + lo / 2 ^ (64 - val)) * 2 ^ 64 + (lo * 2 ^ val % 2 ^ 64 + label) ≡ (hi * 2 ^ 64 + lo) * 2 ^ val + label
+  slot-words hi lo label =
+      omega (
+        arith,
+        pushed lo,
+        ap (λ (x : ℕ). x * 2 ^ val) (split lo (64 - val)),
+        ap (λ (x : ℕ). lo / 2 ^ (64 - val) * x) whole-word,
+      )
+
+-- the first word of an entry whose slot has at most 128 bits
+pub entry-high : (hi lo bie val : ℕ) → val ≤ 32 → bie + val ≤ 128 → lo < 2 ^ 64 → hi * 2 ^ 64 + lo < 2 ^ bie → hi < 2 ^ (64 - val)
+entry-high hi lo bie val hv hn l h =
+    let w : hi * 2 ^ 64 + lo < 2 ^ (64 - val + 64) = lt-of-lt-of-le h (pow-mono (omega arith)) in
+    rw (high hi 64 l) at (shr-lt (64 - val) 64 w)
+
+-- two fields side by side, the second put first
+pub put-back : (t a u : List ℕ) (at m p k n x y v : ℕ) → Bytes t → p + k ≤ 8 * length t → p ≡ at + m → m + k ≡ n → y < 2 ^ k → v ≡ x * 2 ^ k + y
+    → a ≡ putField t p k y → u ≡ putField a at m x → u ≡ putField t at n v
+put-back t a u at m p k n x y v b l ep en hy ev ea eu =
+    eu
+    ∙ ap (λ (s : List ℕ). putField s at m x) ea
+    ∙ sym
+    (ap₂ (putField t at) (sym en) ev
+    ∙ put-cat t at m k (x * 2 ^ k + y)
+    ∙ ap₂ (λ (q w : ℕ). putField (putField t at m q) (at + m) k w) (high x k hy) (low x k hy)
+    ∙ ap (λ (o : ℕ). putField (putField t at m x) o k y) (sym ep)
+    ∙ put-comm t at m x p k y b (omega arith) l)
 
 pub poked : (g : Layout) (t a b u : List ℕ) (base h at x old new : ℕ) → old ≡ field t base (g .link) → a ≡ putField t base (g .link) h → b ≡ slotPut g a at x
     → new ≡ field b base (g .link) → u ≡ putField b base (g .link) old → Poked g t u base h at x new
 poked g t a b u base h at x old new eo ea eb en eu = record { head = rw (en, eb, ea); bytes = rw (eu, eb, ea, eo) }
 
+-- behind the displaced bits nothing of them is touched
+pub poked-behind : (g : Layout) (t u : List ℕ) (base h at x : ℕ) → Bytes t → base + g .link ≤ at → at + g .slot ≤ 8 * length t → h < 2 ^ g .link
+    → u ≡ putField t at (g .slot) x → Poked g t u base h at x h
+unfolding slotPut
+poked-behind g t u base h at x b l r hh e =
+    let m = g .link in
+    let n = g .slot in
+    let shown = putField t base (g .link) h in
+    let y = putField t at (g .slot) x in
+    let long : length y ≡ length t = put-length t at (g .slot) x in
+    let c : putField shown at (g .slot) x ≡ putField y base (g .link) h = put-comm t base (g .link) h at (g .slot) x b l r in
+    record {
+      head = sym (ap (λ (s : List ℕ). field s base (g .link)) c ∙ put-same y base (g .link) h (omega arith) hh);
+      bytes =
+          e
+          ∙ sym
+          (ap (λ (s : List ℕ). putField s base (g .link) (field t base (g .link))) c
+          ∙ put-put y base (g .link) h (field t base (g .link)) (put-bytes t at (g .slot) x b) (omega arith)
+          ∙ ap (putField y base (g .link)) (sym (put-out t at (g .slot) x base (g .link) r (inl l)))
+          ∙ put-own y base (g .link));
+    }
+
 -- ---- zeros
 
-pub clear-more : (s t u : List ℕ) (off d m : ℕ) → t ≡ putField s off d 0 → u ≡ putField t (off + d) m 0 → u ≡ putField s off (d + m) 0
-clear-more s t u off d m et eu =
+-- a byte with its last m bits zero, and with its first k bits zero
+pub first-bits : (b m : ℕ) → b / 2 ^ m * 2 ^ m ≡ replaced b 0 m 0
+unfolding replaced
+first-bits b m = rw (zero-add m) (omega arith)
+
+pub last-bits : (b k : ℕ) → k ≤ 8 → b < 256 → b % 2 ^ (8 - k) ≡ replaced b (8 - k) k 0
+unfolding replaced
+last-bits b k h l =
+    let e : 8 - k + k ≡ 8 = omega arith in
+    let z : b / 256 ≡ 0 = omega arith in
+    rw (e, z) (omega arith)
+
+-- a byte more of zeros
+pub clear-byte : (s t : List ℕ) (i k : ℕ) → Bytes s → i ≤ k → k < length s → t ≡ putField s (8 * i) (8 * (k - i)) 0
+    → set t k 0 ≡ putField s (8 * i) (8 * (k + 1 - i)) 0
+clear-byte s t i k b l h e =
+    let w : 8 * (k + 1 - i) ≡ 8 * (k - i) + 8 = omega arith in
+    ap (λ (x : List ℕ). set x k 0) e
+    ∙ sym (ap (λ (m : ℕ). putField s (8 * i) m 0) w ∙ put-byte-more s (8 * i) (8 * (k - i)) k 0 b (omega arith) h)
+
+-- zeros to the end of the byte where they begin, in the byte where they end, and in a row
+pub clear-first : (s : List ℕ) (off x : ℕ) → off < 8 * length s → x ≡ replaced (getD s (off / 8) 0) 0 (8 - off % 8) 0 → set s (off / 8) x ≡ putField s off (8 - off % 8) 0
+clear-first s off x l e =
+    let p : 8 * (off / 8) + off % 8 ≡ off = omega arith in
+    ap (set s (off / 8)) e
+    ∙ sym (rw (p, zero-mod (2 ^ (8 - off % 8))) at (put-in s (off / 8) (off % 8) (8 - off % 8) 0 0 (omega arith) (omega arith)))
+
+pub clear-last : (s : List ℕ) (i k x : ℕ) → i < length s → k ≤ 8 → x ≡ replaced (getD s i 0) (8 - k) k 0 → set s i x ≡ putField s (8 * i) k 0
+clear-last s i k x l h e =
+    let p : 8 * i + 0 ≡ 8 * i = omega arith in
+    ap (set s i) e ∙ sym (rw (p, zero-mod (2 ^ k)) at (put-in s i 0 k (8 - k) 0 l (omega arith)))
+
+pub clear-more : (s t u : List ℕ) (off d p m n : ℕ) → p ≡ off + d → d + m ≡ n → t ≡ putField s off d 0 → u ≡ putField t p m 0 → u ≡ putField s off n 0
+clear-more s t u off d p m n ep en et eu =
     eu
-    ∙ ap (λ (x : List ℕ). putField x (off + d) m 0) et
-    ∙ sym (put-cat s off d m 0 ∙ ap₂ (λ (x y : ℕ). putField (putField s off d x) (off + d) m y) (zero-div (2 ^ m)) (zero-mod (2 ^ m)))
+    ∙ ap₂ (λ (x : List ℕ) (q : ℕ). putField x q m 0) et ep
+    ∙ sym
+    (ap (λ (w : ℕ). putField s off w 0) (sym en)
+    ∙ put-cat s off d m 0
+    ∙ ap₂ (λ (x y : ℕ). putField (putField s off d x) (off + d) m y) (zero-div (2 ^ m)) (zero-mod (2 ^ m)))
 
 zero-part : (t : List ℕ) (off n a m : ℕ) → off + n ≤ 8 * length t → a + m ≤ n → field (putField t off n 0) (off + a) m ≡ 0
 zero-part t off n a m l h =
@@ -188,6 +279,11 @@ module _ (g : Layout) (t : List ℕ) where
   pub overflows : length (decode g t .overflow) ≡ g .nob
   unfolding decode
   overflows = length-tab (g .nob) (readOverflow g t)
+
+  -- a decoded block has sio slots
+  pub sized : Table g t → (j : ℕ) → j < g .nob → length (overflowAt (decode g t .overflow) j .slots) ≡ g .sio
+  unfolding readOverflow
+  sized T j h = ap (λ (o : Overflow). length (o .slots)) (at-over g (T .proper) t j h) ∙ length-tab (g .sio) _
 
 -- ---- stores
 

@@ -2,7 +2,7 @@
 use mathlib.Core.Path.{_≡_}
 use mathlib.Core.Logic.{_≢_, _⊎_, inl, inr, ⊎-elim}
 use mathlib.Core.List.{List, []}
-use Prim.Native.Nat.{ℕ, suc, _+_, _-_, _*_, _^_, _≤_, _<_}
+use Prim.Native.Nat.{ℕ, zero, suc, _+_, _-_, _*_, _^_, _≤_, _<_}
 use native.Mathlib.Omega.{arith}
 use native.Mathlib.Nat.{mul-le-mul-right}
 use native.Mathlib.Decide.{decLe}
@@ -15,7 +15,18 @@ use Rattle.table.specs.Decode.{blockAt, basicSlots, linkAt, overflowSlot
 use Rattle.table.specs.theory.Arrays.{getD-tab, tab-ext, tab-set}
 use Rattle.table.specs.theory.Decode.{Only, only-field}
 
+-- a field that holds a number above 0 has bits
+some-bits : (x n : ℕ) → 0 < x → x < 2 ^ n → 0 < n
+some-bits x zero p q = absurd (omega arith)
+some-bits x (suc n) p q = omega arith
+
 module _ (g : Layout) (F : Proper g) where
+  pub basic-some : 0 < g .basic .counter
+  basic-some = some-bits (suc (g .sib)) (g .basic .counter) (omega arith) (F .basic-holds)
+
+  pub over-some : 0 < g .overflow .counter
+  over-some = some-bits (g .sio) (g .overflow .counter) (F .sio-low) (F .overflow-holds)
+
   -- places
   pub basic-ends : (i : ℕ) → i < g .lists → blockAt (g .basic) i + g .basic .bits ≤ g .overflow .start
   unfolding blockAt

@@ -1,4 +1,5 @@
--- The settings are legal, every key has 128 bits, and the layout is known: what is left of each call is its work on the list.
+-- The settings are legal, every key has 128 bits, and the layout is known: what is left of each call is its work on the list,
+-- once it is known what find answers.
 use mathlib.Core.Path.{_≡_, refl, sym}
 use mathlib.Core.Bool.{true}
 use Prim.Native.Nat.{ℕ, _^_, _≤_, _<_}
@@ -33,6 +34,10 @@ inside s = key-in (s .args .key) (fits s .0) (fits s .1)
 abbrev start : tie.After-entry → tie.Start
 start c = c .before .before .before .before .before
 
+-- the place before find: what holds of the key's list there is what add and delete need behind it
+abbrev sought : tie.After-find-in → tie.After-entry
+sought f = f .before .before
+
 laid : (c : tie.After-entry) → layoutOf program ≡ c .before .before .before .layout .result
 laid c = sym (c .before .before .before .layout .ensures)
 
@@ -64,8 +69,8 @@ module _ (c : tie.After-entry) where
   entry-is : keyNumber (p .entry) ≡ entry program key
   entry-is = place-entry program _ program-legal (laid c) key (inside (start c)) p placed
 
-label-in : (c : tie.Else1) → ltb (start (c .before .before .before) .args .label) (2 ^ 8) ≡ true
-label-in c = lt-ltb (start (c .before .before .before) .args .label) (2 ^ 8) (omega arith)
+label-in : (c : tie.Else1) → ltb (start (sought (c .before .before .before)) .args .label) (2 ^ 8) ≡ true
+label-in c = lt-ltb (start (sought (c .before .before .before)) .args .label) (2 ^ 8) (omega arith)
 
 layout-requires : tie.Need-layout-requires
 layout-requires c κs = search needs
@@ -75,21 +80,30 @@ place-requires c κs =
     let s = c .before .before in
     (legal-means program program-legal, key-below (s .args .key) (fits s .0) (fits s .1))
 
+find-in-requires : tie.Need-find-in-requires
+find-in-requires c κs =
+    let e = c .before in
+    (table e, list-below e, entry-below e)
+
 enum-told : tie.Need-enum-told
 enum-told c = search needs
+
+same-length : tie.Need-same-length
+same-length c = search needs
 
 returns : tie.Need-returns
 unfolding ofAdd
 returns c =
-    let e = c .before .before .before in
+    let e = sought (c .before .before .before) in
     let a = start e .args in
     applied-add (now (a .t)) (a .key) (a .label) (c .before .enum-told .given .1) refl
     (add.call-label program (now (a .t)) (a .key) (a .label) _ program-legal (laid e) (bytes e) (inside (start e)) (le-ltb (a .label) (2 ^ 8) (omega arith)))
 
-add-in-requires : tie.Need-add-in-requires
-add-in-requires c κs =
-    let e = c .before .before .before .before in
-    (table e, list-below e, record { entry-fits = entry-below e; label-fits = add.label-slot program _ (laid e) _ (label-in (c .before)) })
+add-found-requires : tie.Need-add-found-requires
+add-found-requires c κs =
+    let f = c .before .before .before .before in
+    let e = sought f in
+    (table e, list-below e, record { entry-fits = entry-below e; label-fits = add.label-slot program _ (laid e) _ (label-in (c .before)) }, f .find-in .ensures)
 
 added-requires : tie.Need-added-requires
 added-requires c κs = search needs
@@ -97,10 +111,11 @@ added-requires c κs = search needs
 enum-told-2 : tie.Need-enum-told-2
 enum-told-2 c = search needs
 
-delete-in-requires : tie.Need-delete-in-requires
-delete-in-requires c κs =
-    let e = c .before .before .before in
-    (table e, list-below e, entry-below e)
+delete-found-requires : tie.Need-delete-found-requires
+delete-found-requires c κs =
+    let f = c .before .before .before in
+    let e = sought f in
+    (table e, list-below e, entry-below e, f .find-in .ensures)
 
 deleted-requires : tie.Need-deleted-requires
 deleted-requires c κs = search needs
@@ -108,49 +123,44 @@ deleted-requires c κs = search needs
 enum-told-3 : tie.Need-enum-told-3
 enum-told-3 c = search needs
 
-find-in-requires : tie.Need-find-in-requires
-find-in-requires c κs =
-    let e = c .before .before .before in
-    (table e, list-below e, entry-below e)
-
 found-requires : tie.Need-found-requires
 found-requires c κs = search needs
 
-same-length : tie.Need-same-length
-same-length c = search needs
+same-length-2 : tie.Need-same-length-2
+same-length-2 c = search needs
 
 returns-2 : tie.Need-returns-2
 returns-2 c =
     let x = c .before .before .before in
     let l = x .before .before in
-    let e = l .before .before .before in
+    let e = sought (l .before .before .before) in
     let a = start e .args in
     applied-add (now (a .t)) (a .key) (a .label) (l .before .enum-told .given .1) (c .added .ensures)
-    (add.call-on program (now (a .t)) (a .key) (a .label) _ program-legal (laid e) (bytes e) (inside (start e)) (label-in l) _ _ _ _ (list-is e) (entry-is e) (x .add-in .ensures))
+    (add.call-on program (now (a .t)) (a .key) (a .label) _ program-legal (laid e) (bytes e) (inside (start e)) (label-in l) _ _ _ _ (list-is e) (entry-is e) (x .add-found .ensures))
 
-same-length-2 : tie.Need-same-length-2
-same-length-2 c = search needs
+same-length-3 : tie.Need-same-length-3
+same-length-3 c = search needs
 
 returns-3 : tie.Need-returns-3
 returns-3 c =
     let x = c .before .before .before in
     let l = x .before .before in
-    let e = l .before .before in
+    let e = sought (l .before .before) in
     let a = start e .args in
     applied-delete (now (a .t)) (a .key) (a .label) (l .enum-told2 .given .1) (c .deleted .ensures)
-    (delete.call-on program (now (a .t)) (a .key) _ program-legal (laid e) (bytes e) (inside (start e)) _ _ _ _ (list-is e) (entry-is e) (x .delete-in .ensures))
+    (delete.call-on program (now (a .t)) (a .key) _ program-legal (laid e) (bytes e) (inside (start e)) _ _ _ _ (list-is e) (entry-is e) (x .delete-found .ensures))
 
-same-length-3 : tie.Need-same-length-3
-same-length-3 c = search needs
+same-length-4 : tie.Need-same-length-4
+same-length-4 c = search needs
 
 returns-4 : tie.Need-returns-4
 returns-4 c =
-    let x = c .before in
-    let l = x .before .before in
-    let e = l .before .before in
+    let l = c .before in
+    let f = l .before .before in
+    let e = sought f in
     let a = start e .args in
     applied-find (now (a .t)) (a .key) (a .label) (l .enum-told3 .given .1) (c .found .ensures)
-    (found-at (now (a .t)) (a .key) _ (laid e) (omega (arith, start e)) (inside (start e)) (list-is e) (entry-is e) (x .find-in .ensures))
+    (found-at (now (a .t)) (a .key) _ (laid e) (omega (arith, start e)) (inside (start e)) (list-is e) (entry-is e) (f .find-in .ensures))
 
 pub apply-spec : {M : Type 1} → statement M
 apply-spec =
@@ -158,19 +168,20 @@ apply-spec =
     (tie.spec
     layout-requires
     place-requires
+    find-in-requires
     enum-told
+    same-length
     returns
-    add-in-requires
+    add-found-requires
     added-requires
     enum-told-2
-    delete-in-requires
+    delete-found-requires
     deleted-requires
     enum-told-3
-    find-in-requires
     found-requires
-    same-length
-    returns-2
     same-length-2
-    returns-3
+    returns-2
     same-length-3
+    returns-3
+    same-length-4
     returns-4)

@@ -1,57 +1,29 @@
--- Up to 64 bits are the low half; of more, the last 64.
-use mathlib.Core.Path.{_≡_, sym, ap, ap₂, _∙_}
-use Prim.Native.Nat.{ℕ, _+_, _-_, _*_, _^_}
+-- Behind the displaced bits the entry is read as it stands.
+use mathlib.Core.Path.{_∙_}
 use native.Mathlib.Omega.{arith}
 use denote.Ref.{now}
-use Rattle.bits.specs.Field.{field}
-use Rattle.bits.specs.theory.Fields.{field-cat}
-use Rattle.settings.specs.Key.{keyNumber}
-use Rattle.table.specs.Steps.{shown}
+use Rattle.table.specs.theory.Reads.{shown-out}
 use borrow.Author.Needs.{needs}
 use Rattle.audit.proofs.entries.entry_at.Statement.{statement}
 use Rattle.audit.proofs.entries.entry_at.Tie as tie
 
-seen-requires : tie.Need-seen-requires
-seen-requires c κs = search needs
+add-if1 : tie.Need-add-if1
+add-if1 c = search needs
+
+plain-entry-requires : tie.Need-plain-entry-requires
+plain-entry-requires c κs = search needs
 
 returns : tie.Need-returns
-unfolding keyNumber
-returns c = omega (arith, c .seen .ensures)
+returns c =
+    let s = c .before .before .before .before in
+    c .plain-entry .ensures ∙ shown-out (now (s .args .t)) (s .args .b) (s .args .at) (s .args .n) (s .pre .0) (omega arith)
 
-sub-seen : tie.Need-sub-seen
-sub-seen c = search needs
-
-seen-requires-2 : tie.Need-seen-requires-2
-seen-requires-2 c κs = search needs
-
-sub-seen-2 : tie.Need-sub-seen-2
-sub-seen-2 c = search needs
-
-add-seen : tie.Need-add-seen
-add-seen c = search needs
-
-seen-requires-3 : tie.Need-seen-requires-3
-seen-requires-3 c κs = search needs
+seen-entry-requires : tie.Need-seen-entry-requires
+seen-entry-requires c κs = search needs
 
 returns-2 : tie.Need-returns-2
-unfolding keyNumber
-returns-2 c =
-    let s = c .before .before .before .before in
-    let u = shown (now (s .args .t)) (s .args .b) in
-    let e : s .args .n - 64 + 64 ≡ s .args .n = omega arith in
-    ap₂ (λ (x y : ℕ). x * 2 ^ 64 + y) (c .before .seen2 .ensures) (c .seen3 .ensures)
-    ∙ sym (field-cat u (s .args .at) (s .args .n - 64) 64)
-    ∙ ap (field u (s .args .at)) e
+returns-2 c = search needs
 
 pub entry-at-spec : {M : Type 1} → statement M
 entry-at-spec =
-    tie.close
-    (tie.spec
-    seen-requires
-    returns
-    sub-seen
-    seen-requires-2
-    sub-seen-2
-    add-seen
-    seen-requires-3
-    returns-2)
+    tie.close (tie.spec add-if1 plain-entry-requires returns seen-entry-requires returns-2)

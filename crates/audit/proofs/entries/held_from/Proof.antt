@@ -1,14 +1,20 @@
 -- Each turn looks in one block; what is left is looked for in the blocks after it.
 use mathlib.Core.Path.{_≡_, refl, sym, ap, _∙_}
-use Prim.Native.Nat.{ℕ, _-_}
+use mathlib.Core.Logic.{⊎-elim}
+use Prim.Native.Nat.{ℕ, suc, _-_, _≤_, _<_}
 use native.Mathlib.Omega.{arith}
 use denote.Ref.{now}
 use Rattle.settings.specs.Key.{keyNumber}
 use Rattle.table.specs.Decode.{decode}
+use Rattle.table.specs.Find.{position}
 use Rattle.table.specs.Check.{hasEntry}
-use Rattle.audit.specs.Entries.{slotsFrom}
-use Rattle.audit.specs.theory.Doubles.{slots-out, slots-high}
-use Rattle.audit.specs.theory.Runs.{run-within, held-here, held-on}
+use Rattle.table.specs.Steps.{slotsIn, overflowRun}
+use Rattle.table.specs.theory.Scans.{overflow-row, plain-position}
+use Rattle.table.specs.declared.slots.Slots.{Slots}
+use Rattle.audit.specs.Entries.{nextOf, runOf, slotsFrom}
+use Rattle.audit.specs.theory.Doubles.{slots-out, slots-high, next-further, next-last}
+use Rattle.audit.specs.theory.Runs.{run-is, held-here, held-on}
+use borrow.Author.Needs.{needs}
 use Rattle.audit.proofs.entries.held_from.Statement.{statement}
 use Rattle.audit.proofs.entries.held_from.Tie as tie
 
@@ -20,38 +26,90 @@ Inv-loop t g first most entry b₀ left₀ b left =
 abbrev μ-loop : tie.MeasureT-loop
 μ-loop t g first most entry b₀ left₀ b left = left
 
+abbrev start : tie.At-loop Inv-loop μ-loop → tie.Start Inv-loop μ-loop
+start m = m .before .before
+
+abbrev head : tie.After-overflow-run Inv-loop μ-loop → tie.At-loop Inv-loop μ-loop
+head c = c .before .before .before .before .before .before
+
+-- there is a block to look in
+here : (c : tie.Else1 Inv-loop μ-loop) → let m = c .before .before .before in
+    (m .loop .left ≡ suc (m .loop .left - 1)) × (m .loop .b < start m .args .g .nob)
+here c = (omega arith, omega arith)
+
+-- the slots of the block
+run : (c : tie.After-overflow-run Inv-loop μ-loop) → let m = head c in
+    let s = start m in
+    c .overflow-run .result ≡ runOf (s .args .g) (decode (s .args .g) (now (s .args .t)) .overflow) (m .loop .b)
+run c =
+    let m = head c in
+    let s = start m in
+    run-is (s .args .g) (decode (s .args .g) (now (s .args .t)) .overflow) (m .loop .b) _ _ (c .overflow-run .result)
+    (c .before .before .overflow-front .ensures .0) (c .before .least .ensures) (c .overflow-run .ensures)
+
+-- the entry's place in them
+place : (d : tie.After-scan Inv-loop μ-loop) → let s = start (head (d .before)) in
+    d .scan .result ≡ position (s .args .g) (keyNumber (s .args .entry)) (slotsIn (s .args .g) (now (s .args .t)) (d .before .overflow-run .result))
+unfolding keyNumber overflowRun
+place d =
+    let s = start (head (d .before)) in
+    plain-position (s .args .g) (s .pre .0 .proper) (now (s .args .t)) (d .before .overflow-run .result)
+    (ap (λ (r : Slots). r .link) (d .before .overflow-run .ensures)) (keyNumber (s .args .entry)) (d .scan .result) (d .scan .ensures)
+
+-- the block after it
+next : (c : tie.Joined3 Inv-loop μ-loop) → let m = head (c .before .before .before .before .before .before) in
+    let s = start m in
+    c .if3 .b ≡ nextOf (s .args .g) (decode (s .args .g) (now (s .args .t)) .overflow) (m .loop .b)
+next c =
+    let k = c .before .before .before .before .before .before in
+    let f = k .before .before .overflow-front .ensures in
+    let m = head k in
+    let s = start m in
+    let os = decode (s .args .g) (now (s .args .t)) .overflow in
+    ⊎-elim
+    (λ w. w .1 ∙ f .1 ∙ sym (next-further (s .args .g) os (m .loop .b) (sym (f .0) ∙ w .0 .taken)))
+    (λ w. w .1 ∙ sym (next-last (s .args .g) os (m .loop .b) (λ e. w .0 .left (f .0 ∙ e))))
+    (c .if3 .came)
+
 loop-holds : tie.Need-loop-holds Inv-loop μ-loop
 loop-holds c = refl
 
 returns : tie.Need-returns Inv-loop μ-loop
 returns c =
     let m = c .before .before .before in
-    let s = m .before .before in
+    let s = start m in
     ap (hasEntry (s .args .g) (keyNumber (s .args .entry)))
     (sym (slots-high (s .args .g) (decode (s .args .g) (now (s .args .t)) .overflow) (m .loop .left) (m .loop .b) (omega arith)))
     ∙ m .loop .inv
 
-run-of-requires : tie.Need-run-of-requires Inv-loop μ-loop
-run-of-requires c κs = (c .before .before .before .before .before .pre .0, omega arith)
+overflow-front-requires : tie.Need-overflow-front-requires Inv-loop μ-loop
+overflow-front-requires c κs = (start (c .before .before .before) .pre .0, omega arith)
+
+least-requires : tie.Need-least-requires Inv-loop μ-loop
+least-requires c κs = search needs
+
+overflow-run-requires : tie.Need-overflow-run-requires Inv-loop μ-loop
+overflow-run-requires c κs =
+    (start (c .before .before .before .before .before) .pre .0 .proper, omega arith, omega (arith, c .least .ensures))
 
 scan-requires : tie.Need-scan-requires Inv-loop μ-loop
+unfolding overflowRun keyNumber
 scan-requires c κs =
-    let m = c .before .before .before .before in
-    let s = m .before .before in
-    (s .pre .0 .proper, rw (c .run-of .ensures) (run-within (s .args .g) (now (s .args .t)) (s .pre .0) (m .loop .b) (omega arith)), s .pre .1)
+    let m = head c in
+    let s = start m in
+    let n : c .overflow-run .result .count ≤ s .args .g .sio = omega (arith, ap (λ (r : Slots). r .count) (c .overflow-run .ensures)) in
+    (rw (c .overflow-run .ensures) (overflow-row (s .args .g) (now (s .args .t)) (s .pre .0) (m .loop .b) (omega arith)), n, s .pre .1)
 
 returns-2 : tie.Need-returns-2 Inv-loop μ-loop
 returns-2 c =
-    let r = c .before .before .before in
-    let m = r .before .before .before .before in
-    let s = m .before .before in
+    let d = c .before .before in
+    let h = here (d .before .before .before .before) in
+    let m = head (d .before) in
+    let s = start m in
     sym
     (held-here (s .args .g) (now (s .args .t)) (s .pre .0) (keyNumber (s .args .entry)) (m .loop .left) (m .loop .left - 1) (m .loop .b)
-    (r .run-of .result) (omega arith) (omega arith) (r .run-of .ensures) (omega (arith, c .before .before .scan .ensures)))
+    (d .before .overflow-run .result) (h .0) (h .1) (run (d .before)) (omega (arith, c .if2 .taken, place d)))
     ∙ m .loop .inv
-
-next-block-requires : tie.Need-next-block-requires Inv-loop μ-loop
-next-block-requires c κs = (c .before .before .before .before .before .before .before .before .before .pre .0, omega arith)
 
 sub-left : tie.Need-sub-left Inv-loop μ-loop
 sub-left c = omega arith
@@ -61,20 +119,22 @@ loop-less c = omega arith
 
 loop-again : tie.Need-loop-again Inv-loop μ-loop
 loop-again c =
-    let r = c .before .before .before .before in
-    let m = r .before .before .before .before in
-    let s = m .before .before in
+    let k = c .before .before .before in
+    let d = k .before .before in
+    let h = here (d .before .before .before .before) in
+    let m = head (d .before) in
+    let s = start m in
     let os = decode (s .args .g) (now (s .args .t)) .overflow in
-    ap (λ (x : ℕ). hasEntry (s .args .g) (keyNumber (s .args .entry)) (slotsFrom (s .args .g) (m .loop .left - 1) os x)) (c .next-block .ensures)
+    ap (λ (x : ℕ). hasEntry (s .args .g) (keyNumber (s .args .entry)) (slotsFrom (s .args .g) (m .loop .left - 1) os x)) (next c)
     ∙ sym
     (held-on (s .args .g) (now (s .args .t)) (s .pre .0) (keyNumber (s .args .entry)) (m .loop .left) (m .loop .left - 1) (m .loop .b)
-    (r .run-of .result) (omega arith) (omega arith) (r .run-of .ensures) (omega (arith, c .before .before .before .scan .ensures)))
+    (d .before .overflow-run .result) (h .0) (h .1) (run (d .before)) (omega (arith, k .if2 .left, place d)))
     ∙ m .loop .inv
 
 returns-3 : tie.Need-returns-3 Inv-loop μ-loop
 returns-3 c =
     let m = c .before in
-    let s = m .before .before in
+    let s = start m in
     ap (hasEntry (s .args .g) (keyNumber (s .args .entry)))
     (sym (slots-out (s .args .g) (decode (s .args .g) (now (s .args .t)) .overflow) (m .loop .left) (m .loop .b) (omega arith)))
     ∙ m .loop .inv
@@ -87,10 +147,11 @@ held-from-spec =
     μ-loop
     loop-holds
     returns
-    run-of-requires
+    overflow-front-requires
+    least-requires
+    overflow-run-requires
     scan-requires
     returns-2
-    next-block-requires
     sub-left
     loop-less
     loop-again

@@ -1,9 +1,6 @@
 -- The run of the block's own counter.
-use mathlib.Core.Path.{ap, _∙_}
-use Prim.Native.Nat.{ℕ, min}
 use borrow.Author.Needs.{needs}
-use Rattle.table.specs.Steps.{overflowRun}
-use Rattle.audit.specs.Entries.{runOf}
+use Rattle.audit.specs.theory.Runs.{run-is}
 use Rattle.audit.proofs.entries.run_of.Statement.{statement}
 use Rattle.audit.proofs.entries.run_of.Tie as tie
 
@@ -17,12 +14,7 @@ overflow-run-requires : tie.Need-overflow-run-requires
 overflow-run-requires c κs = search needs
 
 returns : tie.Need-returns
-unfolding runOf
-returns c =
-    let s = c .before .before .before .before in
-    c .overflow-run .ensures
-    ∙ ap (overflowRun (s .args .g) (s .args .b))
-    (c .before .least .ensures ∙ ap (λ (n : ℕ). min n (s .args .g .sio)) (c .before .before .overflow-counter .ensures))
+returns c = run-is _ _ _ _ _ _ (c .before .before .overflow-counter .ensures) (c .before .least .ensures) (c .overflow-run .ensures)
 
 pub run-of-spec : {M : Type 1} → statement M
 run-of-spec =

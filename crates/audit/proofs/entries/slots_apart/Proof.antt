@@ -12,10 +12,12 @@ use Rattle.bits.specs.theory.Fields.{field-lt}
 use Rattle.settings.specs.Key.{keyNumber}
 use Rattle.table.specs.State.{entryOf}
 use Rattle.table.specs.Decode.{decode}
-use Rattle.table.specs.Steps.{slotsIn}
+use Rattle.table.specs.Steps.{shown, First, slotsIn}
+use Rattle.table.specs.theory.Rows.{fewer}
+use Rattle.table.specs.theory.Scans.{run-row}
 use Rattle.audit.specs.Entries.{slotsFrom, alone}
 use Rattle.audit.specs.theory.Tests.{every-if, every-not}
-use Rattle.audit.specs.theory.Runs.{entry-view, entry-is, alone-before, alone-behind, alone-yes}
+use Rattle.audit.specs.theory.Runs.{entry-view, entry-is, met-before, none-before, alone-before, alone-behind, alone-yes}
 use Rattle.audit.proofs.entries.slots_apart.Statement.{statement}
 use Rattle.audit.proofs.entries.slots_apart.Tie as tie
 
@@ -48,6 +50,13 @@ entry c =
 small : (c : tie.After-entry-at Inv-loop μ-loop) → let m = c .before .before .before in keyNumber (c .entry-at .result) < 2 ^ start m .args .g .bie
 small c = rw (c .entry-at .ensures) (field-lt _ _ _)
 
+-- the first j slots were looked through for it
+looked : (c : tie.After-scan-run Inv-loop μ-loop) → let m = c .before .before .before .before in let s = start m in
+    First (shown (now (s .args .t)) (s .args .b)) (s .args .b .start) (s .args .g .slot) (s .args .g .bie) (keyNumber (c .before .entry-at .result)) (m .loop .j)
+    (c .scan-run .result)
+unfolding shown
+looked c = c .scan-run .ensures
+
 loop-holds : tie.Need-loop-holds Inv-loop μ-loop
 loop-holds c = (omega arith, omega arith, λ k h. absurd (omega arith))
 
@@ -59,10 +68,13 @@ entry-at-requires c κs =
       s .pre .0 .proper .bie-high,
     )
 
-scan-requires : tie.Need-scan-requires Inv-loop μ-loop
-scan-requires c κs =
-    let s = start (c .before .before .before) in
-    (s .pre .0 .proper, s .pre .1, small c)
+scan-run-requires : tie.Need-scan-run-requires Inv-loop μ-loop
+scan-run-requires c κs =
+    let m = c .before .before .before in
+    let s = start m in
+    let R = s .pre .1 in
+    let row = run-row (s .args .g) (s .pre .0 .proper) (now (s .args .t)) (s .args .b) R in
+    ((fewer _ _ _ _ _ row (m .loop .j) (m .loop .inv .0), small c), (R .block, R .link, R .fits))
 
 returns : tie.Need-returns Inv-loop μ-loop
 returns c =
@@ -71,7 +83,9 @@ returns c =
     let s = start m in
     sym
     (every-not (s .args .b .count) (alone (s .args .g) (slots m) (later m)) (m .loop .j) (omega arith)
-    (alone-before (s .args .g) (slots m) (later m) (m .loop .j) (keyNumber (k .entry-at .result)) (entry k) (omega (arith, c .before .scan .ensures))))
+    (alone-before (s .args .g) (slots m) (later m) (m .loop .j) (keyNumber (k .entry-at .result)) (entry k)
+    (met-before (s .args .g) (s .pre .0 .proper) (now (s .args .t)) (s .args .b) (s .pre .1) (keyNumber (k .entry-at .result)) (m .loop .j) (c .before .scan-run .result)
+    (m .loop .inv .0) (looked (c .before)) (omega (arith, c .if2 .taken)))))
 
 held-from-requires : tie.Need-held-from-requires Inv-loop μ-loop
 held-from-requires c κs =
@@ -105,14 +119,17 @@ loop-less c = omega arith
 loop-again : tie.Need-loop-again Inv-loop μ-loop
 loop-again c =
     let e = c .before in
-    let k = e .before .before .before .before in
+    let n = e .before .before in
+    let k = n .before .before in
     let m = k .before .before .before in
     let s = start m in (
       omega arith,
       omega (arith, m .loop .inv .1),
       below-more _ _ (m .loop .inv .2)
           (alone-yes (s .args .g) (slots m) (later m) (m .loop .j) (keyNumber (k .entry-at .result)) (entry k)
-          (omega (arith, e .before .before .before .scan .ensures)) (sym (e .before .held-from .ensures) ∙ e .if3 .left)),
+          (none-before (s .args .g) (s .pre .0 .proper) (now (s .args .t)) (s .args .b) (s .pre .1) (keyNumber (k .entry-at .result)) (m .loop .j) (n .before .scan-run .result)
+          (m .loop .inv .0) (looked (n .before)) (omega (arith, n .if2 .left)))
+          (sym (e .before .held-from .ensures) ∙ e .if3 .left)),
     )
 
 returns-3 : tie.Need-returns-3 Inv-loop μ-loop
@@ -129,7 +146,7 @@ slots-apart-spec =
     μ-loop
     loop-holds
     entry-at-requires
-    scan-requires
+    scan-run-requires
     returns
     held-from-requires
     returns-2

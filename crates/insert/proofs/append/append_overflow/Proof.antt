@@ -6,7 +6,7 @@ use Prim.Native.Nat.{suc, _+_}
 use denote.Ref.{now}
 use borrow.Author.Needs.{needs}
 use Rattle.settings.specs.Key.{keyNumber}
-use Rattle.stores.specs.theory.StoreLaws.{table-kept, slot-lt, overflow-slot-ends}
+use Rattle.stores.specs.theory.StoreLaws.{table-kept, slot-asks, slot-put, slot-lt, overflow-slot-ends}
 use Rattle.insert.specs.theory.AppendLaws.{counter-small, append-last}
 use Rattle.insert.proofs.append.append_overflow.Statement.{statement}
 use Rattle.insert.proofs.append.append_overflow.Tie as tie
@@ -23,12 +23,12 @@ overflow-slot-requires : tie.Need-overflow-slot-requires
 overflow-slot-requires c κs = let s = c .before .before .before .before .before .before .before in (s .pre .0 .table .proper, s .pre .1 .low, c .before .before .if1 .taken)
 
 put-slot-requires : tie.Need-put-slot-requires
+unfolding keyNumber
 put-slot-requires c κs =
-    let s = c .before .before .before .before .before .before .before .before in (
-      s .pre .0 .table,
-      omega (arith, c .overflow-slot .ensures, overflow-slot-ends (s .args .g) (s .pre .0 .table .proper) (s .args .j) (s .pre .1 .low) _ (c .before .before .before .if1 .taken)),
-      s .pre .0 .slotted,
-    )
+    let s = c .before .before .before .before .before .before .before .before in
+    slot-asks (s .args .g) (now (s .args .t)) (s .pre .0 .table) (c .overflow-slot .result) _ _
+    (omega (arith, c .overflow-slot .ensures, overflow-slot-ends (s .args .g) (s .pre .0 .table .proper) (s .args .j) (s .pre .1 .low) _ (c .before .before .before .if1 .taken)))
+    (s .pre .0 .slotted)
 
 put-overflow-counter-requires : tie.Need-put-overflow-counter-requires
 put-overflow-counter-requires c κs =
@@ -42,6 +42,7 @@ same-length : tie.Need-same-length
 same-length c = search needs
 
 returns : tie.Need-returns
+unfolding keyNumber
 returns c =
     let s = c .before .before .before .before .before .before .before .before .before .before .before .before .before .before .before .before in
     let a = c .before .before .before .before .before .before .before .before .before .before .before .before .before .before .before in
@@ -53,7 +54,7 @@ returns c =
     (slot-lt g (T .proper) (keyNumber (v .entry)) (v .label) (s .pre .0 .slotted)) (s .args .h) (s .args .j) (s .pre .1) (d .overflow-counter .result + 1)
     (add-one (d .overflow-counter .result) ∙ ap suc (d .overflow-counter .ensures)) (c .before .before .before .before .before .before .before .before .before .before .before .if1 .taken) _ _ _ _
     (c .before .before .before .before .before .before .before .before .overflow-slot .ensures)
-    (c .before .before .before .before .before .before .before .put-slot .ensures)
+    (slot-put g (T .proper) _ _ _ _ (c .before .before .before .before .before .before .before .put-slot .ensures))
     (c .before .before .before .put-overflow-counter .ensures)
     (c .added .ensures)
 

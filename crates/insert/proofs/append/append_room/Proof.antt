@@ -3,7 +3,7 @@ use native.Mathlib.Omega.{arith}
 use denote.Ref.{now}
 use borrow.Author.Needs.{needs}
 use Rattle.settings.specs.Key.{keyNumber}
-use Rattle.stores.specs.theory.StoreLaws.{table-kept, slot-lt, basic-slot-ends}
+use Rattle.stores.specs.theory.StoreLaws.{table-kept, slot-asks, slot-put, slot-lt, basic-slot-ends}
 use Rattle.insert.specs.theory.AppendLaws.{append-room}
 use Rattle.insert.proofs.append.append_room.Statement.{statement}
 use Rattle.insert.proofs.append.append_room.Tie as tie
@@ -14,12 +14,12 @@ basic-slot-requires c κs =
     (s .pre .0 .table .proper, s .pre .0 .list, s .pre .1)
 
 put-slot-requires : tie.Need-put-slot-requires
+unfolding keyNumber
 put-slot-requires c κs =
-    let s = c .before .before .before .before in (
-      s .pre .0 .table,
-      omega (arith, c .basic-slot .ensures, basic-slot-ends (s .args .g) (s .pre .0 .table .proper) (s .args .i) (s .pre .0 .list) (s .args .c) (s .pre .1)),
-      s .pre .0 .slotted,
-    )
+    let s = c .before .before .before .before in
+    slot-asks (s .args .g) (now (s .args .t)) (s .pre .0 .table) (c .basic-slot .result) _ _
+    (omega (arith, c .basic-slot .ensures, basic-slot-ends (s .args .g) (s .pre .0 .table .proper) (s .args .i) (s .pre .0 .list) (s .args .c) (s .pre .1)))
+    (s .pre .0 .slotted)
 
 add-put-basic-counter : tie.Need-add-put-basic-counter
 add-put-basic-counter c =
@@ -38,6 +38,7 @@ same-length : tie.Need-same-length
 same-length c = search needs
 
 returns : tie.Need-returns
+unfolding keyNumber
 returns c =
     let s = c .before .before .before .before .before .before .before .before .before .before .before .before in
     let k = c .before .before .before .before .before .before .before .before .before .before .before in
@@ -47,7 +48,7 @@ returns c =
     append-room g (now (s .args .t)) T (λ j. omega (arith, k .slice-known .given j)) (s .args .i) v (s .pre .0 .list)
     (slot-lt g (T .proper) (keyNumber (v .entry)) (v .label) (s .pre .0 .slotted)) (s .args .c) (s .pre .1) (s .pre .2) _ _ _ _
     (c .before .before .before .before .before .before .before .before .basic-slot .ensures)
-    (c .before .before .before .before .before .before .before .put-slot .ensures)
+    (slot-put g (T .proper) _ _ _ _ (c .before .before .before .before .before .before .before .put-slot .ensures))
     (c .before .before .before .put-basic-counter .ensures)
     (c .added .ensures)
 

@@ -4,7 +4,7 @@ use native.Mathlib.Omega.{arith}
 use denote.Ref.{now}
 use borrow.Author.Needs.{needs}
 use Rattle.settings.specs.Key.{keyNumber}
-use Rattle.stores.specs.theory.StoreLaws.{table-kept, slot-lt, overflow-slot-ends}
+use Rattle.stores.specs.theory.StoreLaws.{table-kept, slot-asks, slot-put, slot-lt, overflow-slot-ends}
 use Rattle.insert.specs.theory.AppendLaws.{stored-take}
 use Rattle.insert.proofs.append.take.Statement.{statement}
 use Rattle.insert.proofs.append.take.Tie as tie
@@ -20,13 +20,13 @@ overflow-slot-requires c κs =
     (s .pre .0 .proper, s .pre .1, s .pre .0 .proper .sio-low)
 
 put-slot-requires : tie.Need-put-slot-requires
+unfolding keyNumber
 put-slot-requires c κs =
     let s = c .before .before .before .before .before .before .before .before in
-    let F = s .pre .0 .proper in (
-      table-kept _ (c .before .before .before .before .renew .kept .0) (s .pre .0),
-      omega (arith, c .overflow-slot .ensures, overflow-slot-ends (s .args .g) F (s .args .f) (s .pre .1) 0 (F .sio-low)),
-      s .pre .4,
-    )
+    let F = s .pre .0 .proper in
+    slot-asks (s .args .g) (c .before .before .before .before .renew .last .0) (table-kept _ (c .before .before .before .before .renew .kept .0) (s .pre .0)) (c .overflow-slot .result) _ _
+    (omega (arith, c .overflow-slot .ensures, overflow-slot-ends (s .args .g) F (s .args .f) (s .pre .1) 0 (F .sio-low)))
+    (s .pre .4)
 
 put-free-start-requires : tie.Need-put-free-start-requires
 put-free-start-requires c κs =
@@ -39,6 +39,7 @@ same-length : tie.Need-same-length
 same-length c = search needs
 
 returns : tie.Need-returns
+unfolding keyNumber
 returns c =
     let s = c .before .before .before .before .before .before .before .before .before .before .before .before .before .before .before in
     let v = s .args .v in
@@ -46,7 +47,7 @@ returns c =
     (slot-lt (s .args .g) (s .pre .0 .proper) (keyNumber (v .entry)) (v .label) (s .pre .4)) _ _ _ _
     (c .before .before .before .before .before .before .before .before .before .before .before .renew .ensures)
     (c .before .before .before .before .before .before .before .overflow-slot .ensures)
-    (c .before .before .before .before .before .before .put-slot .ensures)
+    (slot-put (s .args .g) (s .pre .0 .proper) _ _ _ _ (c .before .before .before .before .before .before .put-slot .ensures))
     (c .before .before .put-free-start .ensures)
 
 pub take-spec : {M : Type 1} → statement M

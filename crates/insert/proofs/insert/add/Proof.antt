@@ -1,7 +1,7 @@
 -- The tests come in the order of the refusals; behind them the bytes hold a table, and the key has a list in it.
-use mathlib.Core.Path.{_≡_, sym, ap, _∙_}
+use mathlib.Core.Path.{_≡_, sym, _∙_}
 use mathlib.Core.Bool.{true}
-use Prim.Native.Nat.{ℕ, _^_}
+use Prim.Native.Nat.{_^_}
 use native.Mathlib.Omega.{arith}
 use denote.Ref.{now}
 use lib.Dec.{ltb}
@@ -12,7 +12,7 @@ use Rattle.settings.specs.Layout.{layoutOf}
 use Rattle.settings.specs.Key.{keyNumber}
 use Rattle.settings.specs.theory.Legal.{legal-means, laid-layout, laid-refused}
 use Rattle.table.specs.theory.Opened.{opened-table, place-list, place-entry, place-list-below, place-entry-below}
-use Rattle.insert.specs.theory.AddLaws.{label-number, label-below, label-slot, call-illegal, call-short, call-key, call-label, call-on}
+use Rattle.insert.specs.theory.AddLaws.{label-below, label-slot, added-label, call-illegal, call-short, call-key, call-label, call-on}
 use Rattle.insert.proofs.insert.add.Statement.{statement}
 use Rattle.insert.proofs.insert.add.Tie as tie
 
@@ -24,9 +24,7 @@ key-in : (c : tie.Else2) → let s = c .before .before .before .before .before .
 key-in c = sym (c .before .within .ensures) ∙ not-false (c .before .within .result) (c .if2 .left)
 
 label-in : (c : tie.Else3) → let s = c .before .before .before .before .before .before .before .before .before .before .before .args in ltb (s .label) (2 ^ s .s .val) ≡ true
-label-in c =
-    let s = c .before .before .before .before .before .before .before .before .before .before .before .args in
-    ap (λ (n : ℕ). ltb n (2 ^ s .s .val)) (sym (label-number (s .label))) ∙ sym (c .before .within2 .ensures) ∙ not-false (c .before .within2 .result) (c .if3 .left)
+label-in c = sym (c .before .fits2 .ensures) ∙ not-false (c .before .fits2 .result) (c .if3 .left)
 
 layout-requires : tie.Need-layout-requires
 layout-requires c κs = search needs
@@ -52,8 +50,8 @@ returns-2 c =
     call-key (s .s) (now (s .t)) (s .key) (s .label) (k .g .given .0 .0) (laid k .0) (laid k .1) (omega arith)
     (sym (c .before .within .ensures) ∙ not-true (c .before .within .result) (c .if2 .taken))
 
-within-requires-2 : tie.Need-within-requires-2
-within-requires-2 c κs =
+fits-requires : tie.Need-fits-requires
+fits-requires c κs =
     let k = c .before .before .before .before .before in
     omega (arith, legal-means (k .before .before .before .before .args .s) (laid k .0) .ranges .val-high)
 
@@ -62,7 +60,7 @@ returns-3 c =
     let k = c .before .before .before .before .before .before .before in
     let s = k .before .before .before .before .args in
     call-label (s .s) (now (s .t)) (s .key) (s .label) (k .g .given .0 .0) (laid k .0) (laid k .1) (omega (arith, c .before .before .before .before .if1 .left)) (key-in (c .before .before))
-    (ap (λ (n : ℕ). ltb n (2 ^ s .s .val)) (sym (label-number (s .label))) ∙ sym (c .before .within2 .ensures) ∙ not-true (c .before .within2 .result) (c .if3 .taken))
+    (sym (c .before .fits2 .ensures) ∙ not-true (c .before .fits2 .result) (c .if3 .taken))
 
 place-requires : tie.Need-place-requires
 place-requires c κs =
@@ -70,14 +68,8 @@ place-requires c κs =
     let s = k .before .before .before .before .args in
     (legal-means (s .s) (laid k .0), ltb-true (keyNumber (s .key)) (2 ^ s .s .w) (key-in (c .before .before)))
 
-cast-add-in : tie.Need-cast-add-in
-cast-add-in c =
-    let k = c .before .before .before .before .before .before .before .before .before .before .before in
-    let s = k .before .before .before .before .args in
-    record { fits = label-below (s .s) (laid k .0) (s .label) (label-in (c .before .before .before .before)) }
-
-add-in-requires : tie.Need-add-in-requires
-add-in-requires c κs =
+find-in-requires : tie.Need-find-in-requires
+find-in-requires c κs =
     let d = c .before .before .before in
     let k = c .before .before .before .before .before .before .before .before .before .before .before in
     let s = k .before .before .before .before .args in
@@ -85,11 +77,39 @@ add-in-requires c κs =
     let g = k .g .given .0 .0 in (
       opened-table (s .s) g (laid k .0) (laid k .1) (now (s .t)) (omega (arith, c .before .before .before .before .before .before .before .before .if1 .left)),
       place-list-below (s .s) g (laid k .0) (laid k .1) (keyNumber (s .key)) w (d .place .result) (d .place .ensures),
+      place-entry-below (s .s) g (laid k .0) (laid k .1) (keyNumber (s .key)) w (d .place .result) (d .place .ensures),
+    )
+
+cast-add-found : tie.Need-cast-add-found
+cast-add-found c =
+    let k = c .before .before .before .before .before .before .before .before .before .before .before .before .before in
+    let s = k .before .before .before .before .args in
+    record { fits = label-below (s .s) (laid k .0) (s .label) (label-in (c .before .before .before .before .before .before)) }
+
+add-found-requires : tie.Need-add-found-requires
+add-found-requires c κs =
+    let d = c .before .before .before .before .before in
+    let k = c .before .before .before .before .before .before .before .before .before .before .before .before .before in
+    let s = k .before .before .before .before .args in
+    let w = key-in (c .before .before .before .before .before .before .before .before) in
+    let g = k .g .given .0 .0 in (
+      opened-table (s .s) g (laid k .0) (laid k .1) (now (s .t)) (omega (arith, c .before .before .before .before .before .before .before .before .before .before .if1 .left)),
+      place-list-below (s .s) g (laid k .0) (laid k .1) (keyNumber (s .key)) w (d .place .result) (d .place .ensures),
       record {
         entry-fits = place-entry-below (s .s) g (laid k .0) (laid k .1) (keyNumber (s .key)) w (d .place .result) (d .place .ensures);
-        label-fits = label-slot (s .s) g (laid k .1) (s .label) (label-in (c .before .before .before .before));
+        label-fits = label-slot (s .s) g (laid k .1) (s .label) (label-in (c .before .before .before .before .before .before));
       },
+      c .before .find-in .ensures,
     )
+
+cast-with-label : tie.Need-cast-with-label
+cast-with-label c =
+    let k = c .before .before .before .before .before .before .before .before .before .before .before .before .before .before .before .before in
+    let s = k .before .before .before .before .args in
+    record { fits = label-below (s .s) (laid k .0) (s .label) (label-in (c .before .before .before .before .before .before .before .before .before)) }
+
+with-label-requires : tie.Need-with-label-requires
+with-label-requires c κs = added-label _ _ _ _ _ _ _ (c .before .before .add-found .ensures)
 
 enum-known-why : tie.Need-enum-known-why
 enum-known-why c = search needs
@@ -99,15 +119,16 @@ same-length c = search needs
 
 returns-4 : tie.Need-returns-4
 returns-4 c =
-    let d = c .before .before .before .before .before .before in
-    let k = c .before .before .before .before .before .before .before .before .before .before .before .before .before .before in
+    let d = c .before .before .before .before .before .before .before .before .before in
+    let k = c .before .before .before .before .before .before .before .before .before .before .before .before .before .before .before .before .before in
     let s = k .before .before .before .before .args in
-    let w = key-in (c .before .before .before .before .before .before .before .before .before) in
+    let w = key-in (c .before .before .before .before .before .before .before .before .before .before .before .before) in
     let g = k .g .given .0 .0 in
-    call-on (s .s) (now (s .t)) (s .key) (s .label) g (laid k .0) (laid k .1) (omega (arith, c .before .before .before .before .before .before .before .before .before .before .before .if1 .left)) w (label-in (c .before .before .before .before .before .before .before)) _ _ _ _
+    rw (c .with-label .ensures)
+    (call-on (s .s) (now (s .t)) (s .key) (s .label) g (laid k .0) (laid k .1) (omega (arith, c .before .before .before .before .before .before .before .before .before .before .before .before .before .before .if1 .left)) w (label-in (c .before .before .before .before .before .before .before .before .before .before)) _ _ _ _
     (place-list (s .s) g (laid k .0) (laid k .1) (keyNumber (s .key)) w (d .place .result) (d .place .ensures))
     (place-entry (s .s) g (laid k .0) (laid k .1) (keyNumber (s .key)) w (d .place .result) (d .place .ensures))
-    (c .before .before .add-in .ensures)
+    (c .before .before .before .add-found .ensures))
 
 returns-5 : tie.Need-returns-5
 returns-5 c =
@@ -125,11 +146,14 @@ add-spec =
     returns
     within-requires
     returns-2
-    within-requires-2
+    fits-requires
     returns-3
     place-requires
-    cast-add-in
-    add-in-requires
+    find-in-requires
+    cast-add-found
+    add-found-requires
+    cast-with-label
+    with-label-requires
     enum-known-why
     same-length
     returns-4

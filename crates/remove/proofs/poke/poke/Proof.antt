@@ -1,14 +1,16 @@
 -- By the place: in the basic block, or in one of the overflow blocks.
 use mathlib.Core.Path.{_≡_, ap, _∙_}
-use Prim.Native.Nat.{ℕ, _-_, _≤_, _<_}
+use Prim.Native.Nat.{_-_, _<_}
 use native.Mathlib.Omega.{arith}
 use denote.Ref.{now}
 use borrow.Author.Needs.{needs}
-use Rattle.settings.specs.Key.{keyNumber}
+use Rattle.bits.specs.Field.{field}
+use Rattle.bits.specs.theory.Fields.{field-lt}
 use Rattle.table.specs.Decode.{decode}
-use Rattle.stores.specs.theory.StoreLaws.{slot-lt, overflow-slot-ends, stored-as}
-use Rattle.remove.specs.DeleteSteps.{slotMoved, pokeSpot, pokeAt}
-use Rattle.remove.specs.theory.DeleteLaws.{poke-low, poke-high, sized, spotted-at, stored-spot}
+use Rattle.stores.specs.Stores.{slotPut}
+use Rattle.stores.specs.theory.StoreLaws.{copy-asks, overflow-slot-ends, sized, stored-as}
+use Rattle.remove.specs.DeleteSteps.{pokeSpot, pokeAt}
+use Rattle.remove.specs.theory.DeleteLaws.{poke-low, poke-high, spotted-at, stored-spot}
 use Rattle.remove.specs.declared.poke.Spot.{Spot}
 use Rattle.remove.proofs.poke.poke.Statement.{statement}
 use Rattle.remove.proofs.poke.poke.Tie as tie
@@ -23,8 +25,9 @@ returns : tie.Need-returns
 returns c =
     let a = c .before .before .before .before .before .before .before .args in
     let st = decode (a .g) (now (a .t)) in
-    stored-as (pokeAt (a .g) (a .i) (a .h) (a .l) (a .p) (slotMoved (a .g) (a .v)) st) (c .before .before .poke-basic .ensures)
-    (poke-low (a .g) st (a .i) (a .l) (a .p) (a .h) (slotMoved (a .g) (a .v)) (c .before .before .before .before .if1 .taken))
+    let x = field (now (a .t)) (a .from) (a .g .slot) in
+    stored-as (pokeAt (a .g) (a .i) (a .h) (a .l) (a .p) x st) (c .before .before .poke-basic .ensures)
+    (poke-low (a .g) st (a .i) (a .l) (a .p) (a .h) x (c .before .before .before .before .if1 .taken))
 
 spot-of-requires : tie.Need-spot-of-requires
 spot-of-requires c κs = let s = c .before .before .before .before .before in (s .pre .0, s .pre .1 .reaches (c .before .before .if1 .left))
@@ -40,29 +43,32 @@ spot-low c =
     (omega (arith, b, k .low), omega (arith, d, k .few))
 
 overflow-slot-requires : tie.Need-overflow-slot-requires
-overflow-slot-requires c κs = let k = spot-low (c .before .before) in (c .before .before .before .before .before .before .before .before .pre .0 .proper, k .0, k .1)
+overflow-slot-requires c κs = let k = spot-low (c .before) in (c .before .before .before .before .before .before .before .pre .0 .proper, k .0, k .1)
 
-put-slot-requires : tie.Need-put-slot-requires
-put-slot-requires c κs =
-    let s = c .before .before .before .before .before .before .before .before .before in
-    let k = spot-low (c .before .before .before) in
-    let r = c .before .before .before .spot-of .result in
-    (s .pre .0, omega (arith, overflow-slot-ends (s .args .g) (s .pre .0 .proper) (r .block) (k .0) (r .slot) (k .1), c .overflow-slot .ensures), s .pre .2)
+copy-requires : tie.Need-copy-requires
+copy-requires c κs =
+    let s = c .before .before .before .before .before .before .before .before in
+    let k = spot-low (c .before .before) in
+    let r = c .before .before .spot-of .result in
+    copy-asks (s .args .g) (now (s .args .t)) (s .pre .0) (s .args .from) (c .overflow-slot .result) (s .pre .2 .ends)
+    (omega (arith, overflow-slot-ends (s .args .g) (s .pre .0 .proper) (r .block) (k .0) (r .slot) (k .1), c .overflow-slot .ensures))
 
 same-length-2 : tie.Need-same-length-2
 same-length-2 c = search needs
 
 returns-2 : tie.Need-returns-2
+unfolding slotPut
 returns-2 c =
-    let s = c .before .before .before .before .before .before .before .before .before .before .before .before in
+    let s = c .before .before .before .before .before .before .before .before .before .before .before in
     let a = s .args in
     let st = decode (a .g) (now (a .t)) in
-    let x = slotMoved (a .g) (a .v) in
-    let k = spot-low (c .before .before .before .before .before .before) in
+    let x = field (now (a .t)) (a .from) (a .g .slot) in
+    let q = c .before .before .before .before .before in
+    let k = spot-low q in
     stored-as (pokeAt (a .g) (a .i) (a .h) (a .l) (a .p) x st)
-    (stored-spot (a .g) (now (a .t)) (s .pre .0) (c .before .before .before .before .before .before .spot-of .result) x _ (k .0) (k .1) (slot-lt (a .g) (s .pre .0 .proper) (keyNumber (a .v .entry)) (a .v .label) (s .pre .2))
-    (c .before .before .before .overflow-slot .ensures) _ (c .before .before .put-slot .ensures))
-    (ap (λ (y : Spot). pokeSpot (a .g) y x st) (c .before .before .before .before .before .before .spot-of .ensures) ∙ poke-high (a .g) st (a .i) (a .l) (a .p) (a .h) x (c .before .before .before .before .before .before .before .before .before .if1 .left))
+    (stored-spot (a .g) (now (a .t)) (s .pre .0) (q .spot-of .result) x _ (k .0) (k .1) (field-lt (now (a .t)) (a .from) (a .g .slot))
+    (c .before .before .before .overflow-slot .ensures) _ (c .before .before .copy .ensures))
+    (ap (λ (y : Spot). pokeSpot (a .g) y x st) (q .spot-of .ensures) ∙ poke-high (a .g) st (a .i) (a .l) (a .p) (a .h) x (c .before .before .before .before .before .before .before .before .if1 .left))
 
 pub poke-spec : {M : Type 1} → statement M
 poke-spec =
@@ -73,6 +79,6 @@ poke-spec =
     returns
     spot-of-requires
     overflow-slot-requires
-    put-slot-requires
+    copy-requires
     same-length-2
     returns-2)

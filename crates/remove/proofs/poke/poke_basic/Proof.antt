@@ -1,15 +1,14 @@
--- The slot is stored under the displaced bits, and what these are now becomes the last block's link.
-use mathlib.Core.Path.{_≡_}
+-- The slot is stored under the displaced bits, and what these are now becomes the last block's link, unless it is that already.
 use Prim.Native.Nat.{_^_, _<_}
 use native.Mathlib.Omega.{arith}
 use denote.Ref.{now}
 use borrow.Author.Needs.{needs}
+use Rattle.bits.specs.Field.{field}
 use Rattle.bits.specs.theory.Fields.{field-lt}
-use Rattle.settings.specs.Key.{keyNumber}
 use Rattle.table.specs.theory.Reads.{link-lt}
-use Rattle.stores.specs.theory.StoreLaws.{slot-lt, table-kept, basic-head-ends, basic-slot-ends}
-use Rattle.remove.specs.DeleteSteps.{slotMoved}
-use Rattle.remove.specs.theory.DeleteLaws.{stored-poke}
+use Rattle.stores.specs.Stores.{basicSlot}
+use Rattle.stores.specs.theory.StoreLaws.{table-kept, basic-slot-ends}
+use Rattle.remove.specs.theory.DeleteLaws.{head-before, stored-poke, stored-poke-same}
 use Rattle.remove.proofs.poke.poke_basic.Statement.{statement}
 use Rattle.remove.proofs.poke.poke_basic.Tie as tie
 
@@ -23,26 +22,29 @@ basic-slot-requires : tie.Need-basic-slot-requires
 basic-slot-requires c κs = search needs
 
 -- the displaced bits fit a link
-old-fits : (c : tie.After-overflow-link) → c .overflow-link .result < 2 ^ c .before .before .before .before .args .g .link
-old-fits c = let s = c .before .before .before .before in rw (c .overflow-link .ensures) (link-lt (s .args .g) (now (s .args .t)) (s .pre .0) (s .args .l) (s .pre .2))
+old-fits : (c : tie.After-overflow-link) → c .overflow-link .result < 2 ^ c .before .before .before .args .g .link
+old-fits c = let s = c .before .before .before in rw (c .overflow-link .ensures) (link-lt (s .args .g) (now (s .args .t)) (s .pre .0) (s .args .l) (s .pre .2))
 
 poke-displaced-requires : tie.Need-poke-displaced-requires
+unfolding basicSlot
 poke-displaced-requires c κs =
-    let s = c .before .before .before .before .before .before .before in
-    let F = s .pre .0 .proper in (
+    let s = c .before .before .before .before .before .before in
+    let F = s .pre .0 .proper in
+    let M = s .pre .4 in (
       s .pre .0,
-      omega (arith, basic-head-ends (s .args .g) F (s .args .i) (s .pre .1), c .before .before .basic-slots .ensures),
       old-fits (c .before .before .before),
+      omega (arith, c .before .before .basic-slots .ensures, c .before .basic-slot .ensures),
       omega (arith, basic-slot-ends (s .args .g) F (s .args .i) (s .pre .1) (s .args .p) (s .pre .3), c .before .basic-slot .ensures),
-      s .pre .4,
+      omega (arith, head-before (s .args .g) F (s .args .i) (s .pre .1), c .before .before .basic-slots .ensures, M .behind),
+      M .ends,
     )
 
 put-overflow-link-requires : tie.Need-put-overflow-link-requires
 put-overflow-link-requires c κs =
     let s = c .before .before .before .before .before .before .before .before .before .before .before in
-    let d = c .before .before .before .poke-displaced in
+    let d = c .before .before .before .before .poke-displaced in
     let new : d .result < 2 ^ s .args .g .link = rw (d .ensures .head) (field-lt _ _ _) in
-    let old = old-fits (c .before .before .before .before .before .before .before) in
+    let old = old-fits (c .before .before .before .before .before .before .before .before) in
     (table-kept _ (d .kept .0) (s .pre .0), s .pre .2, omega arith)
 
 same-length : tie.Need-same-length
@@ -52,10 +54,20 @@ returns : tie.Need-returns
 returns c =
     let s = c .before .before .before .before .before .before .before .before .before .before .before .before .before .before in
     let a = s .args in
-    let x = slot-lt (a .g) (s .pre .0 .proper) (keyNumber (a .v .entry)) (a .v .label) (s .pre .4) in
-    stored-poke (a .g) (now (a .t)) (s .pre .0) (a .i) (a .l) (a .p) (c .before .before .before .before .before .before .before .before .before .before .overflow-link .result) (slotMoved (a .g) (a .v)) _ _
-    (s .pre .1) (s .pre .2) (s .pre .3) x (c .before .before .before .before .before .before .before .before .before .before .overflow-link .ensures) (c .before .before .before .before .before .before .before .before .before .basic-slots .ensures) (c .before .before .before .before .before .before .before .before .basic-slot .ensures) _ _ _
-    (c .before .before .before .before .before .before .poke-displaced .ensures) (c .before .before .put-overflow-link .ensures)
+    stored-poke (a .g) (now (a .t)) (s .pre .0) (a .i) (a .l) (a .p) (c .before .before .before .before .before .before .before .before .before .before .before .overflow-link .result) (field (now (a .t)) (a .from) (a .g .slot)) _ _
+    (s .pre .1) (s .pre .2) (s .pre .3) (field-lt (now (a .t)) (a .from) (a .g .slot)) (c .before .before .before .before .before .before .before .before .before .before .before .overflow-link .ensures) (c .before .before .before .before .before .before .before .before .before .before .basic-slots .ensures) (c .before .before .before .before .before .before .before .before .before .basic-slot .ensures) _ _
+    (c .before .before .before .before .before .before .before .poke-displaced .ensures) _ (c .before .before .put-overflow-link .ensures)
+
+same-length-2 : tie.Need-same-length-2
+same-length-2 c = search needs
+
+returns-2 : tie.Need-returns-2
+returns-2 c =
+    let s = c .before .before .before .before .before .before .before .before .before .before in
+    let a = s .args in
+    stored-poke-same (a .g) (now (a .t)) (s .pre .0) (a .i) (a .l) (a .p) (c .before .before .before .before .before .before .before .overflow-link .result) (field (now (a .t)) (a .from) (a .g .slot)) _ _
+    (s .pre .1) (s .pre .2) (s .pre .3) (field-lt (now (a .t)) (a .from) (a .g .slot)) (c .before .before .before .before .before .before .before .overflow-link .ensures) (c .before .before .before .before .before .before .basic-slots .ensures) (c .before .before .before .before .before .basic-slot .ensures) _ _
+    (c .before .before .before .poke-displaced .ensures) (c .if1 .left)
 
 pub poke-basic-spec : {M : Type 1} → statement M
 poke-basic-spec =
@@ -67,4 +79,6 @@ poke-basic-spec =
     poke-displaced-requires
     put-overflow-link-requires
     same-length
-    returns)
+    returns
+    same-length-2
+    returns-2)

@@ -1,10 +1,9 @@
 -- The place from here on, less the slots of the blocks passed, is that of the whole list.
-use mathlib.Core.Path.{_≡_}
-use Prim.Native.Nat.{_-_, _≤_, _<_}
 use native.Mathlib.Omega.{arith}
 use denote.Ref.{now}
 use Rattle.table.specs.Decode.{decode}
-use Rattle.remove.specs.theory.DeleteLaws.{chain-low, Going, going-first, going-here, going-on, sized}
+use Rattle.stores.specs.theory.StoreLaws.{sized}
+use Rattle.remove.specs.theory.DeleteLaws.{chain-low, Going, going-first, going-here, going-on}
 use Rattle.remove.proofs.poke.spot_of.Statement.{statement}
 use Rattle.remove.proofs.poke.spot_of.Tie as tie
 

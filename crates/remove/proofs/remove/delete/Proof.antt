@@ -50,8 +50,8 @@ place-requires c κs =
     let s = c .before .before .before .before .before .before .before .before .before .args in
     (legal-means (s .s) (laid (c .before .before .before .before .before) .0), ltb-true (keyNumber (s .key)) (2 ^ s .s .w) (key-in c))
 
-delete-in-requires : tie.Need-delete-in-requires
-delete-in-requires c κs =
+find-in-requires : tie.Need-find-in-requires
+find-in-requires c κs =
     let p = c .before .before .before .place in
     let k = c .before .before .before .before .before .before .before .before .before in
     let s = c .before .before .before .before .before .before .before .before .before .before .before .before .before .args in
@@ -62,6 +62,11 @@ delete-in-requires c κs =
       place-entry-below (s .s) g (laid k .0) (laid k .1) (keyNumber (s .key)) w (p .result) (p .ensures),
     )
 
+delete-found-requires : tie.Need-delete-found-requires
+delete-found-requires c κs =
+    let q = find-in-requires (c .before .before) (c .before .find-in .lifetimes) in
+    (q .0, q .1, q .2, c .before .find-in .ensures)
+
 enum-known-why : tie.Need-enum-known-why
 enum-known-why c = search needs
 
@@ -70,15 +75,15 @@ same-length c = search needs
 
 returns-3 : tie.Need-returns-3
 returns-3 c =
-    let p = c .before .before .before .before .before .before .place in
-    let k = c .before .before .before .before .before .before .before .before .before .before .before .before in
-    let s = c .before .before .before .before .before .before .before .before .before .before .before .before .before .before .before .before .args in
-    let w = key-in (c .before .before .before .before .before .before .before) in
+    let p = c .before .before .before .before .before .before .before .before .place in
+    let k = c .before .before .before .before .before .before .before .before .before .before .before .before .before .before in
+    let s = c .before .before .before .before .before .before .before .before .before .before .before .before .before .before .before .before .before .before .args in
+    let w = key-in (c .before .before .before .before .before .before .before .before .before) in
     let g = k .g .given .0 .0 in
-    call-on (s .s) (now (s .t)) (s .key) g (laid k .0) (laid k .1) (omega (arith, c .before .before .before .before .before .before .before .before .before .if1 .left)) w _ _ _ _
+    call-on (s .s) (now (s .t)) (s .key) g (laid k .0) (laid k .1) (omega (arith, c .before .before .before .before .before .before .before .before .before .before .before .if1 .left)) w _ _ _ _
     (place-list (s .s) g (laid k .0) (laid k .1) (keyNumber (s .key)) w (p .result) (p .ensures))
     (place-entry (s .s) g (laid k .0) (laid k .1) (keyNumber (s .key)) w (p .result) (p .ensures))
-    (c .before .before .delete-in .ensures)
+    (c .before .before .delete-found .ensures)
 
 returns-4 : tie.Need-returns-4
 returns-4 c =
@@ -97,7 +102,8 @@ delete-spec =
     within-requires
     returns-2
     place-requires
-    delete-in-requires
+    find-in-requires
+    delete-found-requires
     enum-known-why
     same-length
     returns-3

@@ -1,14 +1,15 @@
 -- The blocks are followed once; the last slot goes into the hole, and the list is shrunk.
-use mathlib.Core.Path.{_≡_, sym, subst, _∙_}
-use Prim.Native.Nat.{ℕ, _<_}
+use mathlib.Core.Path.{refl, sym, subst, _∙_}
+use Prim.Native.Nat.{_<_}
 use native.Mathlib.Omega.{arith}
 use denote.Ref.{now}
 use borrow.Author.Needs.{needs}
+use Rattle.bits.specs.Field.{field}
 use Rattle.table.specs.State.{State}
 use Rattle.table.specs.Decode.{decode}
-use Rattle.stores.specs.theory.StoreLaws.{overflow-slot-ends}
-use Rattle.remove.specs.DeleteSteps.{slotMoved, Ends, Shrinkable}
-use Rattle.remove.specs.theory.DeleteLaws.{sized, poke-keeps, shrinkable-kept}
+use Rattle.stores.specs.theory.StoreLaws.{sized}
+use Rattle.remove.specs.DeleteSteps.{Shrinkable}
+use Rattle.remove.specs.theory.DeleteLaws.{slot-movable, poke-keeps, shrinkable-kept}
 use Rattle.remove.specs.theory.RemoveLaws.{Route, long-ends, route, removed-shut, removed-open}
 use Rattle.remove.proofs.remove.remove_long.Statement.{statement}
 use Rattle.remove.proofs.remove.remove_long.Tie as tie
@@ -55,30 +56,27 @@ slot-there c = omega (arith, way (c .before .before .before .before .before) .fe
 overflow-slot-requires : tie.Need-overflow-slot-requires
 overflow-slot-requires c κs = (c .before .before .before .before .before .before .before .before .before .before .before .pre .0 .proper, way (c .before .before .before .before .before .before) .low, slot-there (c .before))
 
-slot-at-requires : tie.Need-slot-at-requires
-slot-at-requires c κs =
-    let s = c .before .before .before .before .before .before .before .before .before .before .before .before in
-    (s .pre .0, omega (arith, overflow-slot-ends (s .args .g) (s .pre .0 .proper) (c .before .before .before .before .before .before .before .end-of .result .last) (way (c .before .before .before .before .before .before .before) .low) (c .before .before .overflow-counter .result) (slot-there (c .before .before)), c .overflow-slot .ensures))
-
 poke-requires : tie.Need-poke-requires
 poke-requires c κs =
-    let s = c .before .before .before .before .before .before .before .before .before .before .before .before .before .before in
-    let w = way (c .before .before .before .before .before .before .before .before .before) in
-    (s .pre .0, record { list = s .pre .1; last = w .low; reaches = w .reaches }, c .before .slot-at .ensures .slotted)
+    let s = c .before .before .before .before .before .before .before .before .before .before .before .before in
+    let q = c .before .before .before .before .before .before .before in
+    let w = way q in
+    (s .pre .0, record { list = s .pre .1; last = w .low; reaches = w .reaches }, slot-movable (s .args .g) (s .pre .0 .proper) (q .end-of .result .last) (c .before .before .overflow-counter .result) _ (w .low) (slot-there (c .before .before)) (c .overflow-slot .ensures))
 
 shrink-requires : tie.Need-shrink-requires
 shrink-requires c κs =
-    let s = c .before .before .before .before .before .before .before .before .before .before .before .before .before .before .before .before .before .before in
+    let s = c .before .before .before .before .before .before .before .before .before .before .before .before .before .before .before .before in
     let a = s .args in
-    let w = way (c .before .before .before .before .before .before .before .before .before .before .before .before .before) in
-    let l = c .before .before .before .before .before .before .before .before .before .before .before .before .before .end-of .result .last in
+    let q = c .before .before .before .before .before .before .before .before .before .before .before in
+    let w = way q in
+    let l = q .end-of .result .last in
     let st = decode (a .g) (now (a .t)) in
     let e = c .before .before .before .poke .ensures in (
       e .table,
       s .pre .1,
       subst (λ (u : State). Shrinkable (a .g) u l) (sym (e .state))
-          (shrinkable-kept (a .g) st (a .i) _ (poke-keeps (a .g) st (a .i) (c .before .before .before .before .before .before .before .before .before .before .before .before .before .before .before .basic-head .result) l (a .p) (slotMoved (a .g) (c .before .before .before .before .before .slot-at .result))) l
-          (record { low = w .low; few = w .few; free = sym (c .before .before .before .before .before .before .before .before .before .before .before .stuck .ensures) ∙ c .before .before .before .before .before .before .before .before .before .before .if1 .left })),
+          (shrinkable-kept (a .g) st (a .i) _ (poke-keeps (a .g) st (a .i) (c .before .before .before .before .before .before .before .before .before .before .before .before .before .basic-head .result) l (a .p) (field (now (a .t)) (c .before .before .before .before .overflow-slot .result) (a .g .slot))) l
+          (record { low = w .low; few = w .few; free = sym (c .before .before .before .before .before .before .before .before .before .stuck .ensures) ∙ c .before .before .before .before .before .before .before .before .if1 .left })),
     )
 
 same-length-2 : tie.Need-same-length-2
@@ -86,11 +84,12 @@ same-length-2 c = omega (arith, c .before .before .shrink .kept .0, c .before .b
 
 returns-2 : tie.Need-returns-2
 returns-2 c =
-    let s = c .before .before .before .before .before .before .before .before .before .before .before .before .before .before .before .before .before .before .before .before .before in
+    let s = c .before .before .before .before .before .before .before .before .before .before .before .before .before .before .before .before .before .before .before in
     let a = s .args in
-    removed-open (a .g) (now (a .t)) (s .pre .0) (a .i) (a .p) (s .pre .2) (sized (a .g) (now (a .t)) (s .pre .0)) (s .pre .3) (c .before .before .before .before .before .before .before .before .before .before .before .before .before .before .before .before .before .before .basic-head .result) (c .before .before .before .before .before .before .before .before .before .before .before .before .before .before .before .before .end-of .result) (way (c .before .before .before .before .before .before .before .before .before .before .before .before .before .before .before .before))
-    (c .before .before .before .before .before .before .before .before .before .before .before .before .before .before .stuck .result) (c .before .before .before .before .before .before .before .before .before .before .before .before .before .before .stuck .ensures) (c .before .before .before .before .before .before .before .before .before .before .before .before .before .if1 .left) (c .before .before .before .before .before .before .before .before .before .before .before .overflow-counter .result) (c .before .before .before .before .before .before .before .before .before .overflow-slot .result) (slotMoved (a .g) (c .before .before .before .before .before .before .before .before .slot-at .result))
-    (c .before .before .before .before .before .before .before .before .before .before .before .overflow-counter .ensures) (c .before .before .before .before .before .before .before .before .before .overflow-slot .ensures) (c .before .before .before .before .before .before .before .before .slot-at .ensures .is) _ _ (c .before .before .before .before .before .before .poke .ensures) (c .before .before .shrink .ensures)
+    let q = c .before .before .before .before .before .before .before .before .before .before .before .before .before .before in
+    removed-open (a .g) (now (a .t)) (s .pre .0) (a .i) (a .p) (s .pre .2) (sized (a .g) (now (a .t)) (s .pre .0)) (s .pre .3) (c .before .before .before .before .before .before .before .before .before .before .before .before .before .before .before .before .basic-head .result) (q .end-of .result) (way q)
+    (c .before .before .before .before .before .before .before .before .before .before .before .before .stuck .result) (c .before .before .before .before .before .before .before .before .before .before .before .before .stuck .ensures) (c .before .before .before .before .before .before .before .before .before .before .before .if1 .left) (c .before .before .before .before .before .before .before .before .before .overflow-counter .result) (c .before .before .before .before .before .before .before .overflow-slot .result) (field (now (a .t)) (c .before .before .before .before .before .before .before .overflow-slot .result) (a .g .slot))
+    (c .before .before .before .before .before .before .before .before .before .overflow-counter .ensures) (c .before .before .before .before .before .before .before .overflow-slot .ensures) refl _ _ (c .before .before .before .before .before .before .poke .ensures) (c .before .before .shrink .ensures)
 
 pub remove-long-spec : {M : Type 1} → statement M
 remove-long-spec =
@@ -103,7 +102,6 @@ remove-long-spec =
     returns
     overflow-counter-requires
     overflow-slot-requires
-    slot-at-requires
     poke-requires
     shrink-requires
     same-length-2

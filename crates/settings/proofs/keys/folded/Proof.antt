@@ -3,14 +3,13 @@ use Prim.Native.Nat.{ℕ, _+_, _*_, _/_, _%_, _^_, _≤_}
 use native.Mathlib.Nat.{mul-le-mul-right}
 use native.Mathlib.Omega.{arith}
 use borrow.Author.Needs.{needs}
-use Rattle.settings.specs.theory.Primes.{prime-high}
 use Rattle.settings.proofs.keys.folded.Statement.{statement}
 use Rattle.settings.proofs.keys.folded.Tie as tie
 
 record Bounds (s : tie.Start) : Type 0 where
-  one : s .args .e .low / 2 ^ 32 * s .args .c1 ≤ 4294967295 * s .args .c1
-  two : s .args .e .high % 2 ^ 32 * s .args .c2 ≤ 4294967295 * s .args .c2
-  three : s .args .e .high / 2 ^ 32 * s .args .c3 ≤ 4294967295 * s .args .c3
+  one : s .args .low / 2 ^ 32 * s .args .c1 ≤ 4294967295 * s .args .c1
+  two : s .args .high % 2 ^ 32 * s .args .c2 ≤ 4294967295 * s .args .c2
+  three : s .args .high / 2 ^ 32 * s .args .c3 ≤ 4294967295 * s .args .c3
 
 bounds : (s : tie.Start) → Bounds s
 bounds s =
@@ -22,11 +21,11 @@ bounds s =
 
 abbrev sum : tie.Start → ℕ
 sum s =
-    s .args .e .low % 2 ^ 32 + s .args .e .low / 2 ^ 32 * s .args .c1 + s .args .e .high % 2 ^ 32 * s .args .c2
-    + s .args .e .high / 2 ^ 32 * s .args .c3
+    s .args .low % 2 ^ 32 + s .args .low / 2 ^ 32 * s .args .c1 + s .args .high % 2 ^ 32 * s .args .c2
+    + s .args .high / 2 ^ 32 * s .args .c3
 
-product : (s : tie.Start) → s .args .s .a * sum s ≤ 65536 * sum s
-product s = mul-le-mul-right (sum s) (omega (arith, prime-high (s .args .s .bii) (s .pre .0 .ranges .bii-high)))
+product : (s : tie.Start) → s .args .a * sum s ≤ 65536 * sum s
+product s = mul-le-mul-right (sum s) (s .pre .0)
 
 mul-sum : tie.Need-mul-sum
 mul-sum c = omega (arith, bounds c)
@@ -46,19 +45,11 @@ mul-sum-3 c = omega (arith, bounds c)
 add-sum-3 : tie.Need-add-sum-3
 add-sum-3 c = omega (arith, bounds c)
 
-cast-result : tie.Need-cast-result
-cast-result c = search needs
-
 mul-result : tie.Need-mul-result
-mul-result c = omega (arith, bounds (c .before), product (c .before))
-
-cast-result-2 : tie.Need-cast-result-2
-cast-result-2 c = search needs
+mul-result c = omega (arith, bounds c, product c)
 
 add-result : tie.Need-add-result
-add-result c =
-    let s = c .before .before in
-    omega (arith, bounds s, product s, prime-high (s .args .s .bii) (s .pre .0 .ranges .bii-high))
+add-result c = omega (arith, bounds c, product c)
 
 returns : tie.Need-returns
 returns c = search needs
@@ -73,8 +64,6 @@ folded-spec =
     add-sum-2
     mul-sum-3
     add-sum-3
-    cast-result
     mul-result
-    cast-result-2
     add-result
     returns)

@@ -1,24 +1,25 @@
--- What `remainder` and `pow` ensure is what `hash` says.
+-- The low bits of what `remainder` ensures; a and b are below a prime of at most 65,537.
 use mathlib.Core.Path.{ap₂}
 use Prim.Native.Nat.{_%_}
 use native.Mathlib.Omega.{arith}
 use lib.Pow.{pow-pos}
 use borrow.Author.Needs.{needs}
-use Rattle.settings.specs.Key.{hash}
+use Rattle.settings.specs.theory.Primes.{prime-high}
 use Rattle.settings.proofs.keys.hash_of.Statement.{statement}
 use Rattle.settings.proofs.keys.hash_of.Tie as tie
 
 remainder-requires : tie.Need-remainder-requires
-remainder-requires c κs = search needs
+remainder-requires c κs =
+    let bound = prime-high (c .args .bii) (c .pre .0) in
+    (c .pre .0, omega arith, omega arith)
 
 pow-requires : tie.Need-pow-requires
 pow-requires c κs = search needs
 
 rem-result : tie.Need-rem-result
-rem-result c = omega (arith, pow-pos (c .before .before .args .s .bii))
+rem-result c = omega (arith, pow-pos (c .before .before .args .bii))
 
 returns : tie.Need-returns
-unfolding hash
 returns c = ap₂ _%_ (c .before .remainder .ensures) (c .pow .ensures)
 
 pub hash-of-spec : {M : Type 1} → statement M

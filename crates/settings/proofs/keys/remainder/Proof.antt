@@ -5,12 +5,9 @@ use native.Mathlib.Nat.{le-antisymm}
 use lib.ListN.{getD}
 use borrow.Author.Needs.{needs}
 use Rattle.settings.specs.Prime.{primeAbove}
-use Rattle.settings.specs.Key.{keyNumber}
 use Rattle.settings.specs.theory.Cases.{at-least}
 use Rattle.settings.specs.theory.Primes.{primes, prime-table}
 use Rattle.settings.specs.theory.Remainders.{folded-same}
-use Rattle.settings.specs.declared.settings.Settings.{Settings}
-use Rattle.settings.specs.declared.keys.Key.{Key}
 use Rattle.settings.proofs.keys.remainder.Statement.{statement}
 use Rattle.settings.proofs.keys.remainder.Tie as tie
 
@@ -18,20 +15,25 @@ module _ (start : tie.Start) (k c₁ c₂ c₃ : ℕ) where
   abbrev p : ℕ
   p = getD primes k 0
 
-  abbrev s : Settings
-  s = start .args .s
+  abbrev a : ℕ
+  a = start .args .a
 
-  abbrev e : Key
-  e = start .args .e
+  abbrev b : ℕ
+  b = start .args .b
 
-  arm : c₁ % p ≡ 2 ^ 32 % p → c₂ % p ≡ 2 ^ 64 % p → c₃ % p ≡ 2 ^ 96 % p → s .bii ≡ k → {r : ℕ}
-      → r ≡ s .a * (e .low % 2 ^ 32 + e .low / 2 ^ 32 * c₁ + e .high % 2 ^ 32 * c₂ + e .high / 2 ^ 32 * c₃) + s .b
-      → r % p ≡ (s .a * keyNumber e + s .b) % primeAbove (s .bii)
-  unfolding keyNumber
+  abbrev high : ℕ
+  high = start .args .high
+
+  abbrev low : ℕ
+  low = start .args .low
+
+  arm : c₁ % p ≡ 2 ^ 32 % p → c₂ % p ≡ 2 ^ 64 % p → c₃ % p ≡ 2 ^ 96 % p → start .args .bii ≡ k → {r : ℕ}
+      → r ≡ a * (low % 2 ^ 32 + low / 2 ^ 32 * c₁ + high % 2 ^ 32 * c₂ + high / 2 ^ 32 * c₃) + b
+      → r % p ≡ (a * (high * 2 ^ 64 + low) + b) % primeAbove (start .args .bii)
   arm h₁ h₂ h₃ is-k sum =
-      let small : k ≤ 16 = rw is-k at (start .pre .ranges .bii-high) in
-      ap (λ (x : ℕ). x % p) sum ∙ folded-same p c₁ c₂ c₃ h₁ h₂ h₃ (s .a) (s .b) (e .high) (e .low)
-      ∙ ap (λ (x : ℕ). (s .a * keyNumber e + s .b) % x) (sym (ap primeAbove is-k ∙ prime-table k small))
+      let small : k ≤ 16 = rw is-k at (start .pre .0) in
+      ap (λ (x : ℕ). x % p) sum ∙ folded-same p c₁ c₂ c₃ h₁ h₂ h₃ a b high low
+      ∙ ap (λ (x : ℕ). (a * (high * 2 ^ 64 + low) + b) % x) (sym (ap primeAbove is-k ∙ prime-table k small))
 
 returns : tie.Need-returns
 returns c = arm (c .before .before) 0 0 0 0 refl refl refl (c .before .match .keys1) (c .folded .ensures)
@@ -82,7 +84,7 @@ returns-16 : tie.Need-returns-16
 returns-16 c = arm (c .before .before) 15 36 1296 13885 refl refl refl (c .before .match .keys16) (c .folded16 .ensures)
 
 returns-17 : tie.Need-returns-17
-returns-17 c = arm (c .before .before) 16 1 1 1 refl refl refl (le-antisymm (c .before .before .pre .ranges .bii-high) (at-least 16 _ (c .before .match .rest))) (c .folded17 .ensures)
+returns-17 c = arm (c .before .before) 16 1 1 1 refl refl refl (le-antisymm (c .before .before .pre .0) (at-least 16 _ (c .before .match .rest))) (c .folded17 .ensures)
 
 pub remainder-spec : {M : Type 1} → statement M
 remainder-spec =

@@ -24,25 +24,22 @@ returns c =
     let s = m .before .before .args in
     sym (last-high (s .g) (decode (s .g) (now (s .t)) .overflow) (s .g .nob - m .loop .k) (m .loop .b) (omega arith)) ∙ m .loop .inv .1
 
-overflow-counter-requires : tie.Need-overflow-counter-requires Inv-loop μ-loop
-overflow-counter-requires c κs = omega arith
+overflow-front-requires : tie.Need-overflow-front-requires Inv-loop μ-loop
+overflow-front-requires c κs = omega arith
 
 returns-2 : tie.Need-returns-2 Inv-loop μ-loop
 returns-2 c =
-    let m = c .before .before .before .before .before .before .before in
+    let m = c .before .before .before .before .before .before .before .before in
     let s = m .before .before .args in
-    sym (last-here (s .g) (decode (s .g) (now (s .t)) .overflow) (s .g .nob - m .loop .k) (m .loop .b) (omega arith) (omega arith) (omega (arith, c .before .before .overflow-counter .ensures)))
+    sym (last-here (s .g) (decode (s .g) (now (s .t)) .overflow) (s .g .nob - m .loop .k) (m .loop .b) (omega arith) (omega arith) (omega (arith, c .before .before .before .overflow-front .ensures .0)))
     ∙ m .loop .inv .1
 
 returns-3 : tie.Need-returns-3 Inv-loop μ-loop
 returns-3 c =
-    let m = c .before .before .before .before .before .before .before .before .before in
+    let m = c .before .before .before .before .before .before .before .before .before .before .before in
     let s = m .before .before .args in
-    sym (last-bad (s .g) (decode (s .g) (now (s .t)) .overflow) (s .g .nob - m .loop .k) (m .loop .b) (omega (arith, c .before .before .before .before .overflow-counter .ensures)))
+    sym (last-bad (s .g) (decode (s .g) (now (s .t)) .overflow) (s .g .nob - m .loop .k) (m .loop .b) (omega (arith, c .before .before .before .before .before .before .overflow-front .ensures .0)))
     ∙ m .loop .inv .1
-
-overflow-link-requires : tie.Need-overflow-link-requires Inv-loop μ-loop
-overflow-link-requires c κs = omega arith
 
 add-k : tie.Need-add-k Inv-loop μ-loop
 add-k c = omega arith
@@ -52,12 +49,12 @@ loop-less c = omega arith
 
 loop-again : tie.Need-loop-again Inv-loop μ-loop
 loop-again c =
-    let m = c .before .before .before .before .before .before .before .before .before .before in
+    let m = c .before .before .before .before .before .before .before .before .before .before .before in
     let s = m .before .before .args in
     let os = decode (s .g) (now (s .t)) .overflow in (
       omega arith,
-      ap (lastFrom (s .g) (s .g .nob - (m .loop .k + 1)) os) (c .overflow-link .ensures)
-          ∙ sym (last-further (s .g) os (s .g .nob - m .loop .k) (s .g .nob - (m .loop .k + 1)) (m .loop .b) (omega arith) (omega arith) (omega (arith, c .before .before .before .before .before .overflow-counter .ensures)))
+      ap (lastFrom (s .g) (s .g .nob - (m .loop .k + 1)) os) (c .before .before .before .before .before .before .overflow-front .ensures .1)
+          ∙ sym (last-further (s .g) os (s .g .nob - m .loop .k) (s .g .nob - (m .loop .k + 1)) (m .loop .b) (omega arith) (omega arith) (omega (arith, c .before .before .before .before .before .before .overflow-front .ensures .0)))
           ∙ m .loop .inv .1,
     )
 
@@ -75,10 +72,9 @@ follow-spec =
     μ-loop
     loop-holds
     returns
-    overflow-counter-requires
+    overflow-front-requires
     returns-2
     returns-3
-    overflow-link-requires
     add-k
     loop-less
     loop-again

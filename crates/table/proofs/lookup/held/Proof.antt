@@ -1,29 +1,26 @@
--- The label is the slot's, and the slots compared are those before and up to it.
-use mathlib.Core.Path.{_≡_, ap₂}
-use Prim.Native.Nat.{suc, _+_}
-use native.Mathlib.Omega.{arith}
+-- A field of at most 32 bits is a label.
+use mathlib.Core.Path.{ap}
+use Prim.Native.Nat.{ℕ}
+use denote.Ref.{now}
+use Rattle.bits.specs.theory.Fields.{field-fits}
 use Rattle.table.specs.declared.answers.FindAnswer.the-variants as found
 use borrow.Author.Needs.{needs}
 use Rattle.table.proofs.lookup.held.Statement.{statement}
 use Rattle.table.proofs.lookup.held.Tie as tie
 
-label-in-requires : tie.Need-label-in-requires
-label-in-requires c κs = search needs
+get-requires : tie.Need-get-requires
+get-requires c κs = search needs
 
-add-t7 : tie.Need-add-t7
-add-t7 c = search needs
+cast-t6 : tie.Need-cast-t6
+cast-t6 c =
+    let s = c .before .before in
+    record { fits = rw (c .get .ensures) (field-fits (now (s .args .t)) (s .args .at) (s .args .val) 32 (s .pre .1)) }
 
-add-t8 : tie.Need-add-t8
-add-t8 c = search needs
-
-cast-t9 : tie.Need-cast-t9
-cast-t9 c = search needs
+cast-t7 : tie.Need-cast-t7
+cast-t7 c = search needs
 
 returns : tie.Need-returns
-returns c =
-    let a = c .before .before .args in
-    let e : a .n + (a .j + 1) ≡ a .n + suc (a .j) = omega arith in
-    ap₂ found.Held (c .label-in .ensures) e
+returns c = ap (λ (x : ℕ). found.Held x (c .before .before .args .n)) (c .get .ensures)
 
 pub held-spec : {M : Type 1} → statement M
-held-spec = tie.close (tie.spec label-in-requires add-t7 add-t8 cast-t9 returns)
+held-spec = tie.close (tie.spec get-requires cast-t6 cast-t7 returns)

@@ -27,7 +27,7 @@ hash-of-requires : tie.Need-hash-of-requires
 hash-of-requires c κs = search needs
 
 returns : tie.Need-returns
-unfolding index entry listNumber placeOf
+unfolding keyNumber index entry hash listNumber placeOf
 returns c =
     let s = c .before .before .before .before .args .s in
     let stored = c .before .before .low-bits .ensures in

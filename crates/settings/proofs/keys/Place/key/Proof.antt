@@ -7,7 +7,7 @@ use lib.Bits.{bitXor}
 use lib.Pow.{pow-mono}
 use borrow.Author.Needs.{needs}
 use Rattle.settings.specs.Sizes.{bie}
-use Rattle.settings.specs.Key.{keyNumber, keyOf, rebuilt}
+use Rattle.settings.specs.Key.{keyNumber, keyOf, hash, rebuilt}
 use Rattle.settings.specs.theory.Keys.{rebuilt-below}
 use Rattle.settings.proofs.keys.Place.key.Statement.{statement}
 use Rattle.settings.proofs.keys.Place.key.Tie as tie
@@ -19,14 +19,14 @@ sub-with-top : tie.Need-sub-with-top
 sub-with-top c = search needs
 
 with-top-requires : tie.Need-with-top-requires
-unfolding rebuilt
+unfolding keyNumber hash rebuilt
 with-top-requires c κs =
     let pre = c .before .before .before .before .pre in
     let below = lt-of-lt-of-le (rebuilt-below (pre .0) (pre .1) (pre .2)) (pow-mono (pre .0 .ranges .w-high)) in
     (omega arith, omega arith, pre .2, rw (c .before .hash-of .ensures) below)
 
 returns : tie.Need-returns
-unfolding rebuilt
+unfolding keyNumber hash rebuilt
 returns c =
     let a = c .before .before .before .before .before .args in
     c .with-top .ensures

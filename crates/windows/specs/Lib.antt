@@ -1,0 +1,4 @@
+-- Words of contracts.
+pub mod Rows
+-- Laws of them.
+pub mod theory
