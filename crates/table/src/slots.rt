@@ -122,7 +122,7 @@ fn looked_at(count: usize, room: usize) -> usize
     requires { ⌜ count ≤ room ⌝ }
     ensures { λ r. ⌜ (count ≤ r) × (r ≤ room) ⌝ }
 {
-    if room <= 8 {
+    if room <= 10 {
         return room;
     }
     count

@@ -101,7 +101,7 @@ fn candidate_words(t: &[u8], i: usize, step: usize, n: usize, q: u64) -> usize
     requires { ⌜ ((k : ℕ) → k < n → i + k * step + 8 ≤ length (now t)) × (i + n * step ≤ 2 ^ 28) ⌝ }
     ensures { λ r. ⌜ Unlike (now (t .entry)) (8 * i) (8 * step) 64 (turned q) n r ⌝ }
 {
-    if n <= 8 {
+    if n <= 10 {
         return first_word(t, i, step, n, q);
     }
     next_word(t, i, step, n, q)
@@ -112,7 +112,7 @@ fn candidate_tails(t: &[u8], at: usize, step: usize, n: usize, m: usize, q: u64)
     requires { ⌜ (0 < m) × (m ≤ 57) × ((k : ℕ) → k < n → (at + k * step) / 8 + 8 ≤ length (now t)) × (at + n * step ≤ 2 ^ 28) ⌝ }
     ensures { λ r. ⌜ Unlike (now (t .entry)) at step m q n r ⌝ }
 {
-    if n <= 8 {
+    if n <= 10 {
         return first_tail(t, at, step, n, m, q);
     }
     next_tail(t, at, step, n, m, q)
