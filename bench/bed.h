@@ -10,6 +10,7 @@ enum { CHUNK = 64 };
 
 typedef struct {
     Settings settings;
+    int late; /* whether one of the settings is stored right before each call */
     size_t size;
     uint8_t *table[LIBRARIES];
     unsigned n;     /* entries */

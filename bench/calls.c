@@ -1,5 +1,6 @@
 /* Calls on a table, product beside baseline.
  *   calls time ROUNDS            ns of each call on each table below, as a Markdown table
+ *   calls late ROUNDS            the same but for check, with one of the settings stored right before each call
  *   calls count LIBRARY TABLE    each operation once a round, for callgrind to count; prints the calls of each
  *   calls tables                 the names that count takes */
 #include <stdio.h>
@@ -38,11 +39,13 @@ enum { OPERATIONS = sizeof operations / sizeof operations[0] };
 /* A check walks the whole table, so that a few are enough. */
 enum { CHECKS = 25 };
 
-static void time_table(unsigned t, unsigned rounds)
+static void time_table(unsigned t, unsigned rounds, int late)
 {
     Bed *bed = new_bed(tables[t].settings, tables[t].n);
+    bed->late = late;
     for (unsigned i = 0; i < OPERATIONS; i++) {
         int whole = operations[i].timed == op_check;
+        if (whole && late) continue;
         unsigned entries = whole ? bed->n : CHUNK;
         double ns[LIBRARIES];
         race(bed, operations[i].before, operations[i].timed, operations[i].after, whole ? CHECKS : rounds,
@@ -53,7 +56,7 @@ static void time_table(unsigned t, unsigned rounds)
     free_bed(bed);
 }
 
-static void time_all(unsigned rounds)
+static void print_tables(void)
 {
     printf("| table | settings |\n|---|---|\n");
     for (unsigned t = 0; t < TABLES; t++) {
@@ -61,8 +64,13 @@ static void time_all(unsigned rounds)
         print_settings(tables[t].settings);
         printf(" |\n");
     }
-    printf("\n| table | call | product, ns | baseline, ns | product / baseline |\n|---|---|---|---|---|\n");
-    for (unsigned t = 0; t < TABLES; t++) time_table(t, rounds);
+    printf("\n");
+}
+
+static void time_all(unsigned rounds, int late)
+{
+    printf("| table | call | product, ns | baseline, ns | product / baseline |\n|---|---|---|---|---|\n");
+    for (unsigned t = 0; t < TABLES; t++) time_table(t, rounds, late);
 }
 
 enum { COUNTED = 20 };
@@ -91,13 +99,16 @@ static void count(int library, const char *name)
 int main(int argc, char **argv)
 {
     if (argc == 3 && strcmp(argv[1], "time") == 0) {
-        time_all((unsigned)atoi(argv[2]));
+        print_tables();
+        time_all((unsigned)atoi(argv[2]), 0);
+    } else if (argc == 3 && strcmp(argv[1], "late") == 0) {
+        time_all((unsigned)atoi(argv[2]), 1);
     } else if (argc == 4 && strcmp(argv[1], "count") == 0) {
         count(library_named(argv[2]), argv[3]);
     } else if (argc == 2 && strcmp(argv[1], "tables") == 0) {
         for (unsigned t = 0; t < TABLES; t++) printf("%s\n", tables[t].name);
     } else {
-        fail("calls time ROUNDS | calls count LIBRARY TABLE | calls tables");
+        fail("calls time ROUNDS | calls late ROUNDS | calls count LIBRARY TABLE | calls tables");
     }
     return 0;
 }

@@ -1,5 +1,6 @@
 /* Stands before the C library's read and write: standard input is read and standard output written a few
-   bytes at a time, and calls are interrupted. FAULTS is the seed, or "read": then the second read fails. */
+   bytes at a time, and calls are interrupted. FAULTS is the seed; or "read": then the second read fails; or
+   "write": then writes to standard output take nothing. */
 #define _GNU_SOURCE
 #include <dlfcn.h>
 #include <errno.h>
@@ -8,13 +9,14 @@
 #include <unistd.h>
 
 static unsigned long state;
-static int reads, failing;
+static int reads, failing, taking_nothing;
 
 static unsigned next(void)
 {
     if (!state) {
         const char *s = getenv("FAULTS");
         failing = s && !strcmp(s, "read");
+        taking_nothing = s && !strcmp(s, "write");
         state = s ? 2 * strtoul(s, 0, 10) + 1 : 1;
     }
     state = state * 6364136223846793005ul + 1442695040888963407ul;
@@ -46,6 +48,7 @@ ssize_t write(int fd, const void *buf, size_t n)
     if (!real) *(void **)&real = dlsym(RTLD_NEXT, "write");
     unsigned r = next();
     if (fd != 1 || failing) return real(fd, buf, n);
+    if (taking_nothing) return 0;
     if (r % 5 == 0) { errno = EINTR; return -1; }
     return real(fd, buf, part(n));
 }

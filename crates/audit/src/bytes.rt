@@ -1,16 +1,11 @@
 // Runs of bits and bytes that are tested or set.
+use table::slots::least;
 ghost use mathlib.Core.Path.{_≡_};
-ghost use Prim.Native.Nat.{_+_, _-_, _*_, _^_, _≤_, min};
+ghost use Prim.Native.Nat.{_+_, _-_, _*_, _^_, _≤_};
 ghost use lib.ListN.{length, replicate};
 ghost use lib.Dec.{eqb};
 ghost use Rattle.bits.specs.Field.{field};
 ghost use Rattle.table.specs.Check.{everyBelow};
-
-pub fn least(a: usize, b: usize) -> usize
-    ensures { λ r. ⌜ r ≡ min a b ⌝ }
-{
-    if a < b { a } else { b }
-}
 
 // Whether the n bits from bit at on are zero, 64 of them at a time.
 pub fn zeros(t: &[u8], at: usize, n: usize) -> bool

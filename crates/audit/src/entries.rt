@@ -1,6 +1,5 @@
 // "no entry twice in a list": each entry is looked for among those before it in its block, and in the
 // blocks that follow.
-use crate::bytes::least;
 use settings::Key;
 use settings::Layout;
 use table::blocks::overflow_counter;
@@ -8,6 +7,7 @@ use table::blocks::overflow_front;
 use table::blocks::overflow_link;
 use table::lists::overflow_run;
 use table::slots::Slots;
+use table::slots::least;
 use table::slots::scan;
 use table::slots::scan_displaced;
 use table::slots::seen;

@@ -5,7 +5,9 @@ mod near_end;
 mod number;
 mod word;
 
+pub use number::join;
 pub use number::part_of_two;
+pub use number::pow;
 pub use word::turn;
 ghost use mathlib.Core.Path.{_≡_};
 ghost use Prim.Native.Nat.{_+_, _*_, _/_, _^_, _≤_, _<_};

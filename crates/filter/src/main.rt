@@ -9,8 +9,8 @@ ghost use lib.ListN.{length};
 ghost use Rattle.reader.specs.ReaderSteps.{Classes};
 ghost use Rattle.filter.specs.declared.More.the-variants as more;
 
-// Writes all of buf. A write that takes a part of it, or that a signal interrupts, is gone on with. Nothing is
-// promised of what a write takes, so a counter that no run uses up shows that the loop ends.
+// Writes all of buf. A write that takes a part of it, or that a signal interrupts, is gone on with; one that takes nothing
+// has failed. Nothing is promised of interrupted writes, so a counter that no run uses up shows that the loop ends.
 fn write_out(buf: &[u8]) -> bool {
     let mut done: usize = 0;
     let mut turns = u64::MAX;
@@ -20,6 +20,9 @@ fn write_out(buf: &[u8]) -> bool {
         }
         let part = &buf[done..];
         let put = libc::write(STDOUT_FILENO, part);
+        if put == 0 {
+            return false;
+        }
         if put < 0 {
             if os::errno() != libc::EINTR {
                 return false;

@@ -10,7 +10,6 @@ use Rattle.settings.specs.Key.{keyNumber}
 use Rattle.settings.specs.declared.settings.Settings.{Settings}
 use Rattle.settings.specs.declared.keys.Key.{Key}
 use Rattle.settings.specs.declared.layout.Layout.{Layout}
-use Rattle.stores.specs.Blocks.{blocksIn}
 use Rattle.settings.specs.declared.refusal.Refusal.the-variants as refusal
 use Rattle.table.specs.Arrays.{padded}
 use Rattle.table.specs.State.{Overflow, State, mkOverflow, basicAt, overflowAt, slotOf}
@@ -20,6 +19,7 @@ use Rattle.table.specs.Follow.{Seen, follow, content}
 use Rattle.table.specs.Take.{Done, occurs, nextFree}
 use Rattle.table.specs.Add.{Adding, append, appended, addIn}
 use Rattle.table.specs.Steps.{lastFrom}
+use Rattle.table.specs.Spots.{blocksIn}
 use Rattle.table.specs.Calls.{addAnswer, addBytes}
 use Rattle.table.specs.declared.answers.AddAnswer.{AddAnswer}
 use Rattle.stores.specs.Stores.{Slotted}

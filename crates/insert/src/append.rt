@@ -16,9 +16,9 @@ use table::blocks::basic_head;
 use table::blocks::free_start;
 use table::blocks::overflow_counter;
 use table::blocks::overflow_link;
-use table::lists::follow;
+use table::lists::spot_of;
 ghost use mathlib.Core.Path.{_≡_};
-ghost use Prim.Native.Nat.{suc, _+_, _^_, _≤_, _<_};
+ghost use Prim.Native.Nat.{suc, _^_, _≤_, _<_};
 ghost use Rattle.settings.specs.Key.{keyNumber};
 ghost use Rattle.table.specs.State.{mkBasic, mkOverflow, basicAt, overflowAt};
 ghost use Rattle.table.specs.Decode.{decode};
@@ -108,16 +108,17 @@ fn take(t: &mut [u8], g: Layout, f: usize, displaced: usize, next: usize, v: Ite
     ensures { λ _. ⌜ Stored g (now (t .entry)) (now (t .exit)) (taken g (decode g (now (t .entry))) f displaced next (slotFor g v)) ⌝ }
 {
     let entry = v.entry;
-    renew(t, g, f, displaced);
-    put_slot(
+    let slot = overflow_slot(g, f, 0);
+    let link_at = slot - g.link;
+    renew(
         t,
-        overflow_slot(g, f, 0),
-        g.bie,
-        g.val,
-        entry.high,
-        entry.low,
-        v.label,
+        link_at - g.overflow.counter,
+        g.overflow.bits,
+        link_at,
+        g.link,
+        displaced,
     );
+    put_slot(t, slot, g.bie, g.val, entry.high, entry.low, v.label);
     put_free_start(t, g, next);
 }
 
@@ -193,12 +194,19 @@ fn append_more(t: &mut [u8], g: Layout, i: usize, h: usize, j: usize, v: Item) -
     }
 }
 
-// The last block is j. "Counter c below sio means c + 1 entries".
-fn append_overflow(t: &mut [u8], g: Layout, i: usize, h: usize, j: usize, v: Item) -> AddAnswer
-    requires { ⌜ Appendable g (now t) i v × EndsIn g (decode g (now t)) i h j ⌝ }
+// The last block is j, with n entries. "Counter c below sio means c + 1 entries".
+fn append_overflow(
+    t: &mut [u8],
+    g: Layout,
+    i: usize,
+    h: usize,
+    j: usize,
+    n: usize,
+    v: Item,
+) -> AddAnswer
+    requires { ⌜ Appendable g (now t) i v × EndsIn g (decode g (now t)) i h j × (n ≡ suc (overflowAt (decode g (now t) .overflow) j .counter)) ⌝ }
     ensures { λ r. ⌜ Appended g (now (t .entry)) (now (t .exit)) i v r ⌝ }
 {
-    let n = overflow_counter(t, g, j) + 1;
     if n < g.sio {
         let entry = v.entry;
         put_slot(
@@ -217,7 +225,7 @@ fn append_overflow(t: &mut [u8], g: Layout, i: usize, h: usize, j: usize, v: Ite
 }
 
 // At the end of list i, which can be followed there. All its entries were compared, so that their number says
-// whether it overflows.
+// whether it overflows, and where its last entry stands.
 pub fn append(t: &mut [u8], g: Layout, i: usize, v: Item) -> AddAnswer
     requires { ⌜ Appendable g (now t) i v × Readable g (decode g (now t)) i (v .compared) ⌝ }
     ensures { λ r. ⌜ Appended g (now (t .entry)) (now (t .exit)) i v r ⌝ }
@@ -230,6 +238,6 @@ pub fn append(t: &mut [u8], g: Layout, i: usize, v: Item) -> AddAnswer
         return append_first(t, g, i, v);
     }
     let h = basic_head(t, g, i);
-    let j = follow(t, g, h);
-    append_overflow(t, g, i, h, j, v)
+    let last = spot_of(t, g, h, c - g.sib - 1);
+    append_overflow(t, g, i, h, last.block, last.slot + 1, v)
 }

@@ -10,16 +10,16 @@ use Rattle.settings.specs.declared.settings.Settings.{Settings}
 use Rattle.settings.specs.declared.keys.Key.{Key}
 use Rattle.settings.specs.declared.layout.Layout.{Layout}
 use Rattle.table.specs.Arrays.{padded}
-use Rattle.table.specs.State.{Overflow, State, mkBasic, mkOverflow, mkState, basicAt, overflowAt, unpack, headOf, restOf}
+use Rattle.table.specs.State.{State, mkBasic, mkOverflow, mkState, basicAt, overflowAt, unpack, headOf, restOf}
 use Rattle.table.specs.Decode.{decode, written}
-use Rattle.table.specs.Follow.{Seen, lastOf, prevOf, follow, gather, content}
+use Rattle.table.specs.Follow.{Seen, lastOf, prevOf, content}
 use Rattle.table.specs.Take.{Done, damage, done, linkFree}
 use Rattle.table.specs.Delete.{poke, shrink, deleteIn}
 use Rattle.table.specs.Calls.{deleteAnswer, deleteBytes}
+use Rattle.table.specs.Spots.{blocksFrom, spotIn, Reaches}
 use Rattle.table.specs.declared.answers.DeleteAnswer.{DeleteAnswer}
+use Rattle.table.specs.declared.lists.Spot.{Spot}
 use Rattle.stores.specs.theory.StoreLaws.{Stored, overBasic, overOverflow, withFree}
-use Rattle.stores.specs.Blocks.{blocksIn}
-use Rattle.remove.specs.declared.poke.Spot.{Spot}
 use Rattle.remove.specs.declared.shrink.End.{End}
 
 -- a slot at bit `from`, behind the basic blocks
@@ -28,29 +28,10 @@ pub record Movable (g : Layout) (from : ℕ) : Type 0 where
   pub ends : from + g .slot ≤ g .bits
 
 module _ (g : Layout) where
-  -- the list's overflow blocks from block b on
-  unfoldable pub blocksFrom : List Overflow → ℕ → List ℕ
-  blocksFrom os b = blocksIn (follow g (g .nob) os b)
-
   -- the last of the blocks, and the one before it; p if there is no other
   abbrev pub endIn : ℕ → List ℕ → End
   endIn p [] = record { last = g .nob; before = p }
   endIn p (c ∷ cs) = record { last = lastOf c cs; before = prevOf p c cs }
-
-  -- place q of the blocks, counted through them
-  abbrev pub spotIn : List ℕ → ℕ → Spot
-  spotIn [] q = record { block = g .nob; slot = q }
-  spotIn (b ∷ bs) q = cond (ltb q (g .sio)) (record { block = b; slot = q }) (spotIn bs (q - g .sio))
-
-  -- the list that goes on at block b has an end
-  pub record Ends (os : List Overflow) (b : ℕ) : Type 0 where
-    pub blocks : List ℕ
-    pub are : follow g (g .nob) os b ≡ some blocks
-
-  -- and place q is in it
-  pub record Reaches (os : List Overflow) (b q : ℕ) : Type 0 where
-    pub ends : Ends os b
-    pub within : q < length (gather g os (blocksFrom os b))
 
   -- ---- the last slot off
 
@@ -61,18 +42,23 @@ module _ (g : Layout) where
   abbrev pub released : ℕ → State → State
   released l st = withFree l (overOverflow l (λ o. mkOverflow 0 (linkFree g (st .free) l) (padded (g .sio) [])) st)
 
+  -- the displaced bits, the link of the last block, l, handed to the block before it, p, or, where p is nob, back to basic block i
+  unfoldable pub handed : ℕ → ℕ → ℕ → State → State
+  handed i l p st =
+      let v = overflowAt (st .overflow) l .link in
+      cond (ltb p (g .nob)) (overOverflow p (λ q. mkOverflow (g .sio - 1) v (q .slots)) st) (overBasic i (λ b. mkBasic (g .sib) v (b .rest)) st)
+
   -- the last slot of list i off, where l is the last block and p the one before it, or nob
   unfoldable pub shrinkAt : ℕ → ℕ → ℕ → State → State
-  shrinkAt i l p st =
-      let o = overflowAt (st .overflow) l in
-      cond (ltb 0 (o .counter)) (clipped l st)
-      (cond (ltb p (g .nob))
-      (released l (overOverflow p (λ q. mkOverflow (g .sio - 1) (o .link) (q .slots)) st))
-      (released l (overBasic i (λ b. mkBasic (g .sib) (o .link) (b .rest)) st)))
+  shrinkAt i l p st = cond (ltb 0 (overflowAt (st .overflow) l .counter)) (clipped l st) (released l (handed i l p st))
 
-  -- the last block, l, would be freed, and cannot
-  unfoldable pub stuckAt : ℕ → State → Bool
-  stuckAt l st = cond (ltb 0 (overflowAt (st .overflow) l .counter)) false (ltb (g .nob) (st .free))
+  -- a last block whose counter is n would be freed, and cannot
+  unfoldable pub stuckWith : ℕ → State → Bool
+  stuckWith n st = cond (ltb 0 n) false (ltb (g .nob) (st .free))
+
+  -- this of the last block, l
+  abbrev pub stuckAt : ℕ → State → Bool
+  stuckAt l st = stuckWith (overflowAt (st .overflow) l .counter) st
 
   pub record Shrinkable (st : State) (l : ℕ) : Type 0 where
     pub low : l < g .nob
@@ -96,12 +82,12 @@ module _ (g : Layout) where
   -- the slot x into place p of list i, whose overflow blocks go from h to l
   unfoldable pub pokeAt : ℕ → ℕ → ℕ → ℕ → ℕ → State → State
   pokeAt i h l p x st =
-      cond (ltb p (g .sib)) (pokeBasic i l p x st) (pokeSpot (spotIn (blocksFrom (st .overflow) h) (p - g .sib)) x st)
+      cond (ltb p (g .sib)) (pokeBasic i l p x st) (pokeSpot (spotIn g (blocksFrom g (st .overflow) h) (p - g .sib)) x st)
 
   pub record Pokable (st : State) (i h l p : ℕ) : Type 0 where
     pub list : i < g .lists
     pub last : l < g .nob
-    pub reaches : g .sib ≤ p → Reaches (st .overflow) h (p - g .sib)
+    pub reaches : g .sib ≤ p → Reaches g (st .overflow) h (p - g .sib)
 
   -- ---- both
 

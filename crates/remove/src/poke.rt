@@ -7,33 +7,13 @@ use stores::poke_displaced;
 use stores::put_overflow_link;
 use table::blocks::basic_slots;
 use table::blocks::overflow_link;
-ghost use mathlib.Core.Path.{_≡_};
+use table::lists::spot_of;
 ghost use Prim.Native.Nat.{_<_};
 ghost use Rattle.bits.specs.Field.{field};
 ghost use Rattle.table.specs.Decode.{decode};
 ghost use Rattle.table.specs.Table.{Table};
 ghost use Rattle.stores.specs.theory.StoreLaws.{Stored};
-ghost use Rattle.remove.specs.DeleteSteps.{Movable, blocksFrom, spotIn, Reaches, pokeBasic, pokeAt, Pokable};
-
-// A place in an overflow block.
-pub struct Spot {
-    pub block: usize,
-    pub slot: usize,
-}
-
-// Place p of the overflow blocks from `first` on.
-fn spot_of(t: &[u8], g: Layout, first: usize, p: usize) -> Spot
-    requires { ⌜ Table g (now t) × Reaches g (decode g (now t) .overflow) first p ⌝ }
-    ensures { λ r. ⌜ r ≡ spotIn g (blocksFrom g (decode g (now (t .entry)) .overflow) first) p ⌝ }
-{
-    let mut b = first;
-    let mut q = p;
-    while q >= g.sio {
-        b = overflow_link(t, g, b);
-        q -= g.sio;
-    }
-    Spot { block: b, slot: q }
-}
+ghost use Rattle.remove.specs.DeleteSteps.{Movable, pokeBasic, pokeAt, Pokable};
 
 // The slot at bit `from` into slot p of basic block i, which overflows to block l: what the displaced bits are now
 // goes to the link of block l.

@@ -53,12 +53,12 @@ fn remove_long(t: &mut [u8], g: Layout, i: usize, p: usize) -> bool
     let first = basic_head(t, g, i);
     let end = end_of(t, g, first);
     let last = end.last;
-    if stuck(t, g, last) {
+    let n = overflow_counter(t, g, last);
+    if stuck(t, g, n) {
         return false;
     }
-    let n = overflow_counter(t, g, last);
     poke(t, g, i, first, last, p, overflow_slot(g, last, n));
-    shrink(t, g, i, last, end.before);
+    shrink(t, g, i, last, end.before, n);
     true
 }
 

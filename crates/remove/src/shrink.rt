@@ -12,13 +12,15 @@ use table::blocks::free_start;
 use table::blocks::overflow_counter;
 use table::blocks::overflow_link;
 ghost use mathlib.Core.Path.{_≡_};
-ghost use Prim.Native.Nat.{suc, _-_, _^_, _≤_, _<_};
+ghost use Prim.Native.Nat.{suc, _^_, _≤_, _<_};
 ghost use Rattle.table.specs.State.{mkBasic, mkOverflow, overflowAt};
 ghost use Rattle.table.specs.Decode.{decode};
 ghost use Rattle.table.specs.Table.{Table};
 ghost use Rattle.table.specs.Take.{linkFree};
+ghost use Rattle.table.specs.Steps.{Followed};
+ghost use Rattle.table.specs.Spots.{blocksFrom};
 ghost use Rattle.stores.specs.theory.StoreLaws.{Stored, overBasic, overOverflow};
-ghost use Rattle.remove.specs.DeleteSteps.{blocksFrom, endIn, Ends, clipped, released, shrinkAt, stuckAt, Shrinkable};
+ghost use Rattle.remove.specs.DeleteSteps.{endIn, clipped, released, shrinkAt, stuckWith, Shrinkable};
 
 // The last block of a list, and the one before it; nob, which is no block, if there is none.
 pub struct End {
@@ -28,7 +30,7 @@ pub struct End {
 
 // The end of the list whose overflow blocks start at `first`.
 pub fn end_of(t: &[u8], g: Layout, first: usize) -> End
-    requires { ⌜ Table g (now t) × Ends g (decode g (now t) .overflow) first ⌝ }
+    requires { ⌜ Table g (now t) × Followed g (g .nob) (decode g (now t) .overflow) first ⌝ }
     ensures { λ r. ⌜ r ≡ endIn g (g .nob) (blocksFrom g (decode g (now (t .entry)) .overflow) first) ⌝ }
 {
     let mut b = first;
@@ -46,12 +48,12 @@ pub fn end_of(t: &[u8], g: Layout, first: usize) -> End
     End { last: b, before }
 }
 
-// Whether the last block, j, would be freed and cannot: "when freeing one, free start above nob".
-pub fn stuck(t: &[u8], g: Layout, j: usize) -> bool
-    requires { ⌜ Table g (now t) × (j < g .nob) ⌝ }
-    ensures { λ r. ⌜ r ≡ stuckAt g j (decode g (now (t .entry))) ⌝ }
+// Whether the last block, whose counter is n, would be freed and cannot: "when freeing one, free start above nob".
+pub fn stuck(t: &[u8], g: Layout, n: usize) -> bool
+    requires { ⌜ Table g (now t) ⌝ }
+    ensures { λ r. ⌜ r ≡ stuckWith g n (decode g (now (t .entry))) ⌝ }
 {
-    if overflow_counter(t, g, j) > 0 {
+    if n > 0 {
         return false;
     }
     free_start(t, g) > g.nob
@@ -100,28 +102,33 @@ fn release(t: &mut [u8], g: Layout, j: usize)
     ensures { λ _. ⌜ Stored g (now (t .entry)) (now (t .exit)) (released g j (decode g (now (t .entry)))) ⌝ }
 {
     let f = free_start(t, g);
-    renew(t, g, j, link_free(g, f, j));
+    let link_at = overflow_slot(g, j, 0) - g.link;
+    renew(
+        t,
+        link_at - g.overflow.counter,
+        g.overflow.bits,
+        link_at,
+        g.link,
+        link_free(g, f, j),
+    );
     put_free_start(t, g, j);
 }
 
-// The last slot off. An emptied block hands the displaced bits, its link, to the block before it, or
-// back to the basic block.
-pub fn shrink(t: &mut [u8], g: Layout, i: usize, last: usize, before: usize)
-    requires { ⌜ Table g (now t) × (i < g .lists) × Shrinkable g (decode g (now t)) last ⌝ }
+// The last slot off, where the last block's counter is n. An emptied block hands the displaced bits, its link, to the
+// block before it, or back to the basic block.
+pub fn shrink(t: &mut [u8], g: Layout, i: usize, last: usize, before: usize, n: usize)
+    requires { ⌜ Table g (now t) × (i < g .lists) × Shrinkable g (decode g (now t)) last × (n ≡ overflowAt (decode g (now t) .overflow) last .counter) ⌝ }
     ensures { λ _. ⌜ Stored g (now (t .entry)) (now (t .exit)) (shrinkAt g i last before (decode g (now (t .entry)))) ⌝ }
 {
-    let n = overflow_counter(t, g, last);
     if n > 0 {
         clip(t, g, last, n);
         return;
     }
+    let link = overflow_link(t, g, last);
     if before < g.nob {
-        let link = overflow_link(t, g, last);
         set_overflow(t, g, before, g.sio - 1, link);
-        release(t, g, last);
-        return;
+    } else {
+        set_basic(t, g, i, g.sib, link);
     }
-    let head = overflow_link(t, g, last);
-    set_basic(t, g, i, g.sib, head);
     release(t, g, last);
 }

@@ -1,11 +1,11 @@
 // From a key to its list, and back.
 ghost use mathlib.Core.Path.{_≡_};
-ghost use Prim.Native.Nat.{_+_, _*_, _/_, _%_, _^_, _<_, _≤_};
+ghost use Prim.Native.Nat.{_+_, _-_, _*_, _/_, _%_, _^_, _<_, _≤_};
 ghost use lib.Dec.{ltb};
 ghost use Rattle.settings.specs.Prime.{primeAbove};
 ghost use Rattle.settings.specs.Sizes.{bie};
 ghost use Rattle.settings.specs.Legal.{Legal};
-ghost use Rattle.settings.specs.Key.{keyNumber, keyOf, placeOf, rebuilt};
+ghost use Rattle.settings.specs.Key.{keyNumber, keyOf, hash, placeOf, rebuilt};
 use crate::settings::Settings;
 
 // A key of up to 128 bits: the number high * 2^64 + low. Laid out as C lays it out, for C callers.
@@ -50,11 +50,23 @@ impl Key {
     {
         let n = s.w - s.bii;
         let entry = self.low_bits(n);
-        let list = self.high_bits(n) ^ hash_of(s.a, s.b, s.bii, entry.high, entry.low);
+        let list = self.high_bits(n) ^ self.hash(s, entry);
         Place {
             list: ListNumber(list as usize),
             entry,
         }
+    }
+
+    // The hash of the key's entry. A key of 128 bits goes in whole: what is above its entry is cut off by literals, and no
+    // shift by a setting stands before the hash.
+    fn hash(self, s: Settings, entry: Key) -> u64
+        requires { ⌜ Legal s × (keyNumber entry ≡ keyNumber self % 2 ^ bie s) ⌝ }
+        ensures { λ r. ⌜ r ≡ hash s (keyNumber entry) ⌝ }
+    {
+        if s.w == 128 {
+            return hash_of(s.a, s.b, s.bii, self.high, self.low);
+        }
+        hash_of(s.a, s.b, s.bii, entry.high, entry.low)
     }
 
     // The low n bits.
@@ -134,38 +146,39 @@ fn pow(k: u32) -> u64
     1 << k
 }
 
-// The low bii bits of ((a * E + b) mod p), where E is high * 2^64 + low. Here and below the numbers come one by one: a struct
-// would be copied at each call.
+// The low bii bits of ((a * E + b) mod p), where E is the low 128 - bii bits of high * 2^64 + low. Here and below the
+// numbers come one by one: a struct would be copied at each call.
 fn hash_of(a: u32, b: u32, bii: u32, high: u64, low: u64) -> u64
     requires { ⌜ (bii ≤ 16) × (a < primeAbove bii) × (b < primeAbove bii) ⌝ }
-    ensures { λ r. ⌜ r ≡ (a * (high * 2 ^ 64 + low) + b) % primeAbove bii % 2 ^ bii ⌝ }
+    ensures { λ r. ⌜ r ≡ (a * ((high * 2 ^ 64 + low) % 2 ^ (128 - bii)) + b) % primeAbove bii % 2 ^ bii ⌝ }
 {
     remainder(a, b, bii, high, low) % pow(bii)
 }
 
-// (a * E + b) mod p, with an arm for each p, since a division by a literal is compiled to a multiplication.
+// (a * E + b) mod p, with an arm for each p, since a division by a literal is compiled to a multiplication. The arm cuts
+// off what is above E, by a literal too: no number that is computed from bii stands before the product with a.
 fn remainder(a: u32, b: u32, bii: u32, high: u64, low: u64) -> u64
     requires { ⌜ (bii ≤ 16) × (a ≤ 65536) × (b ≤ 65536) ⌝ }
-    ensures { λ r. ⌜ r ≡ (a * (high * 2 ^ 64 + low) + b) % primeAbove bii ⌝ }
+    ensures { λ r. ⌜ r ≡ (a * (high % 2 ^ (64 - bii) * 2 ^ 64 + low) + b) % primeAbove bii ⌝ }
 {
     match bii {
         0 => folded(a, b, high, low, 0, 0, 0) % 2,
-        1 => folded(a, b, high, low, 1, 1, 1) % 3,
-        2 => folded(a, b, high, low, 1, 1, 1) % 5,
-        3 => folded(a, b, high, low, 4, 5, 9) % 11,
-        4 => folded(a, b, high, low, 1, 1, 1) % 17,
-        5 => folded(a, b, high, low, 7, 12, 10) % 37,
-        6 => folded(a, b, high, low, 33, 17, 25) % 67,
-        7 => folded(a, b, high, low, 117, 65, 7) % 131,
-        8 => folded(a, b, high, low, 1, 1, 1) % 257,
-        9 => folded(a, b, high, low, 117, 143, 59) % 521,
-        10 => folded(a, b, high, low, 690, 809, 439) % 1031,
-        11 => folded(a, b, high, low, 964, 1340, 423) % 2053,
-        12 => folded(a, b, high, low, 2304, 211, 2462) % 4099,
-        13 => folded(a, b, high, low, 2078, 150, 7967) % 8209,
-        14 => folded(a, b, high, low, 11664, 1706, 8652) % 16411,
-        15 => folded(a, b, high, low, 36, 1296, 13885) % 32771,
-        _ => folded(a, b, high, low, 1, 1, 1) % 65537,
+        1 => folded(a, b, high % 9223372036854775808, low, 1, 1, 1) % 3,
+        2 => folded(a, b, high % 4611686018427387904, low, 1, 1, 1) % 5,
+        3 => folded(a, b, high % 2305843009213693952, low, 4, 5, 9) % 11,
+        4 => folded(a, b, high % 1152921504606846976, low, 1, 1, 1) % 17,
+        5 => folded(a, b, high % 576460752303423488, low, 7, 12, 10) % 37,
+        6 => folded(a, b, high % 288230376151711744, low, 33, 17, 25) % 67,
+        7 => folded(a, b, high % 144115188075855872, low, 117, 65, 7) % 131,
+        8 => folded(a, b, high % 72057594037927936, low, 1, 1, 1) % 257,
+        9 => folded(a, b, high % 36028797018963968, low, 117, 143, 59) % 521,
+        10 => folded(a, b, high % 18014398509481984, low, 690, 809, 439) % 1031,
+        11 => folded(a, b, high % 9007199254740992, low, 964, 1340, 423) % 2053,
+        12 => folded(a, b, high % 4503599627370496, low, 2304, 211, 2462) % 4099,
+        13 => folded(a, b, high % 2251799813685248, low, 2078, 150, 7967) % 8209,
+        14 => folded(a, b, high % 1125899906842624, low, 11664, 1706, 8652) % 16411,
+        15 => folded(a, b, high % 562949953421312, low, 36, 1296, 13885) % 32771,
+        _ => folded(a, b, high % 281474976710656, low, 1, 1, 1) % 65537,
     }
 }
 

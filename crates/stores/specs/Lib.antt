@@ -1,5 +1,4 @@
 -- Words of contracts.
 pub mod Stores
-pub mod Blocks
 -- Laws of them.
 pub mod theory

@@ -1,4 +1,5 @@
 // Stores into a table: a counter, a link, the free start, a slot, zeros.
+use bits::pow;
 use settings::Layout;
 use table::blocks::basic_slots;
 use table::blocks::overflow_slots;
@@ -10,7 +11,7 @@ ghost use Rattle.bits.specs.Field.{field};
 ghost use Rattle.bits.specs.Put.{putField, replaced};
 ghost use Rattle.settings.specs.Proper.{Proper};
 ghost use Rattle.table.specs.Table.{Table};
-ghost use Rattle.stores.specs.Stores.{Poked, basicSlot, overflowSlot, freePut, basicCounterPut, headPut, overflowCounterPut, linkPut, renewed};
+ghost use Rattle.stores.specs.Stores.{Poked, basicSlot, overflowSlot, freePut, basicCounterPut, headPut, overflowCounterPut, linkPut};
 
 pub fn put_free_start(t: &mut [u8], g: Layout, f: usize)
     requires { ⌜ Table g (now t) × (f < 2 ^ g .basic .start) ⌝ }
@@ -68,14 +69,6 @@ pub fn overflow_slot(g: Layout, j: usize, p: usize) -> usize
     overflow_slots(g, j) + p * g.slot
 }
 
-// 2 to the k.
-fn pow(k: usize) -> u64
-    requires { ⌜ k < 64 ⌝ }
-    ensures { λ r. ⌜ r ≡ 2 ^ k ⌝ }
-{
-    1 << k
-}
-
 // A slot's bits above its low 64: high, and the bits of low that val label bits push out.
 fn above(high: u64, low: u64, val: usize) -> u64
     requires { ⌜ (val ≤ 32) × (high < 2 ^ (64 - val)) ⌝ }
@@ -115,14 +108,6 @@ pub fn put_slot(t: &mut [u8], at: usize, bie: usize, val: usize, high: u64, low:
     bits::put_wide(&mut t[..], at, bie, high, low);
 }
 
-// How many of n bits, more than 64, one store writes: all up to 128, else all but the last 32.
-fn in_one(n: usize) -> usize
-    requires { ⌜ (64 < n) × (n ≤ 160) ⌝ }
-    ensures { λ r. ⌜ (64 < r) × (r ≤ 128) × (r ≤ n) × (n ≤ r + 32) ⌝ }
-{
-    if n <= 128 { n } else { n - 32 }
-}
-
 // The n bits from bit `from` on stand from bit `to` on too. All are read before any is written.
 pub fn copy(t: &mut [u8], from: usize, to: usize, n: usize)
     requires { ⌜ (1 ≤ n) × (n ≤ 160) × (from + n ≤ 8 * length (now t)) × (from + n ≤ 2 ^ 27) × (to + n ≤ 8 * length (now t)) × (to + n ≤ 2 ^ 27) ⌝ }
@@ -133,12 +118,17 @@ pub fn copy(t: &mut [u8], from: usize, to: usize, n: usize)
         bits::put_wide(&mut t[..], to, n, 0, x);
         return;
     }
-    let m = in_one(n);
-    let high = bits::get(t, from, m - 64);
-    let low = bits::get(t, from + (m - 64), 64);
-    let rest = bits::get(t, from + m, n - m);
-    bits::put_wide(&mut t[..], to + m, n - m, 0, rest);
-    bits::put_wide(&mut t[..], to, m, high, low);
+    if n <= 128 {
+        let high = bits::get(t, from, n - 64);
+        let low = bits::get(t, from + (n - 64), 64);
+        bits::put_wide(&mut t[..], to, n, high, low);
+        return;
+    }
+    let high = bits::get(t, from, 64);
+    let low = bits::get(t, from + 64, 64);
+    let rest = bits::get(t, from + 128, n - 128);
+    bits::put_wide(&mut t[..], to + 128, n - 128, 0, rest);
+    bits::put_wide(&mut t[..], to, 128, high, low);
 }
 
 // b with its last 8 - k bits zero.
@@ -189,14 +179,14 @@ pub fn clear(t: &mut [u8], off: usize, n: usize)
     }
 }
 
-// Overflow block j becomes zero, but for its link.
-pub fn renew(t: &mut [u8], g: Layout, j: usize, l: usize)
-    requires { ⌜ Table g (now t) × (j < g .nob) × (l < 2 ^ g .link) ⌝ }
-    ensures { λ _. ⌜ now (t .exit) ≡ renewed g (now (t .entry)) j l ⌝ }
+// A block of `size` bits from bit `at` on becomes zero, but for its link, of `link` bits from bit `place` on. It is told
+// plain numbers: a layout that is handed on would have to be copied whole.
+pub fn renew(t: &mut [u8], at: usize, size: usize, place: usize, link: usize, l: usize)
+    requires { ⌜ (at + size ≤ 8 * length (now t)) × (at + size ≤ 2 ^ 27) × (at ≤ place) × (place + link ≤ at + size) × (link ≤ 16) × (l < 2 ^ link) ⌝ }
+    ensures { λ _. ⌜ now (t .exit) ≡ putField (putField (now (t .entry)) at size 0) place link l ⌝ }
 {
-    let at = overflow_slots(g, j) - (g.overflow.counter + g.link);
-    clear(t, at, g.overflow.bits);
-    put_overflow_link(t, g, j, l);
+    clear(t, at, size);
+    bits::put(t, place, link, l as u64);
 }
 
 // The slot at bit `from` also to bit `at`, where the L bits from `base` on count as h and themselves stay. The answer is

@@ -19,5 +19,6 @@ pub mod Same
 -- Words that only the contracts of functions below the calls use.
 pub mod Table
 pub mod Steps
+pub mod Spots
 -- What is proved of them.
 pub mod theory

@@ -1,4 +1,5 @@
 // Where blocks stand, and what their counters and links say.
+use bits::pow;
 use settings::Blocks;
 use settings::Layout;
 ghost use mathlib.Core.Path.{_≡_};
@@ -22,14 +23,6 @@ pub fn block_at(b: Blocks, i: usize) -> usize
 pub struct Front {
     pub counter: usize,
     pub link: usize,
-}
-
-// 2 to the k.
-pub(crate) fn pow(k: usize) -> u64
-    requires { ⌜ k < 64 ⌝ }
-    ensures { λ r. ⌜ r ≡ 2 ^ k ⌝ }
-{
-    1 << k
 }
 
 // The two fields from bit `at` on, in one load.

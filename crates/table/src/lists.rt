@@ -1,6 +1,7 @@
 // A list's blocks: following them to the last, and the slots of each.
 use crate::blocks::basic_slots;
 use crate::blocks::overflow_front;
+use crate::blocks::overflow_link;
 use crate::blocks::overflow_slots;
 use crate::slots::Slots;
 use crate::slots::least;
@@ -10,6 +11,7 @@ ghost use Prim.Native.Nat.{_<_, _≤_};
 ghost use Rattle.settings.specs.Proper.{Proper};
 ghost use Rattle.table.specs.Decode.{decode};
 ghost use Rattle.table.specs.Table.{Table};
+ghost use Rattle.table.specs.Spots.{blocksFrom, spotIn, Reaches};
 ghost use Rattle.table.specs.Steps.{lastFrom, basicRun, displacedRun, overflowRun};
 
 // The last block of the list whose overflow blocks start at `first`; nob, which is no block, if there
@@ -74,4 +76,24 @@ pub fn overflow_run(g: Layout, j: usize, c: usize) -> Slots
         link: 0,
         head: 0,
     }
+}
+
+// A place in an overflow block.
+pub struct Spot {
+    pub block: usize,
+    pub slot: usize,
+}
+
+// Place p of the overflow blocks from `first` on.
+pub fn spot_of(t: &[u8], g: Layout, first: usize, p: usize) -> Spot
+    requires { ⌜ Table g (now t) × Reaches g (decode g (now t) .overflow) first p ⌝ }
+    ensures { λ r. ⌜ r ≡ spotIn g (blocksFrom g (decode g (now (t .entry)) .overflow) first) p ⌝ }
+{
+    let mut b = first;
+    let mut q = p;
+    while q >= g.sio {
+        b = overflow_link(t, g, b);
+        q -= g.sio;
+    }
+    Spot { block: b, slot: q }
 }

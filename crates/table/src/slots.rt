@@ -1,7 +1,9 @@
 // Slots in a row, and what they hold.
-use crate::blocks::pow;
+use bits::join;
+use bits::pow;
 use settings::Key;
 use settings::Layout;
+use windows::FEW;
 use windows::candidate;
 ghost use mathlib.Core.Path.{_≡_};
 ghost use Prim.Native.Nat.{ℕ, _+_, _-_, _*_, _/_, _%_, _^_, _≤_, _<_, min};
@@ -24,7 +26,7 @@ pub struct Slots {
     pub head: u64,
 }
 
-pub(crate) fn least(a: usize, b: usize) -> usize
+pub fn least(a: usize, b: usize) -> usize
     ensures { λ r. ⌜ r ≡ min a b ⌝ }
 {
     if a < b { a } else { b }
@@ -36,14 +38,6 @@ fn part(x: u64, k: usize, n: usize) -> u64
     ensures { λ r. ⌜ r ≡ x / 2 ^ k % 2 ^ n ⌝ }
 {
     x / pow(k) % pow(n)
-}
-
-// x, followed by the n bits of y.
-fn join(x: u64, n: usize, y: u64) -> u64
-    requires { ⌜ (n < 64) × (x * 2 ^ n + y < 2 ^ 64) ⌝ }
-    ensures { λ r. ⌜ r ≡ x * 2 ^ n + y ⌝ }
-{
-    x * pow(n) + y
 }
 
 // The field of n bits from bit `at` on, where the first bits of the slots are what they count as.
@@ -122,7 +116,7 @@ fn looked_at(count: usize, room: usize) -> usize
     requires { ⌜ count ≤ room ⌝ }
     ensures { λ r. ⌜ (count ≤ r) × (r ≤ room) ⌝ }
 {
-    if room <= 10 {
+    if room <= FEW {
         return room;
     }
     count

@@ -1,10 +1,12 @@
 // Looking for a number among slots by a window of their bits, which one load has whole. A slot with another window does
 // not hold the number; the first slot with the same window, and those behind it, are for the caller to compare whole.
-ghost use mathlib.Core.Path.{_≡_};
 ghost use Prim.Native.Nat.{ℕ, _+_, _*_, _/_, _%_, _^_, _≤_, _<_};
 ghost use lib.ListN.{length};
 ghost use Rattle.bits.specs.Word.{turned};
 ghost use Rattle.windows.specs.Rows.{Row, Unlike};
+
+// Up to so many slots are looked at without a branch on the data.
+pub const FEW: usize = 10;
 
 // The first of n slots whose eight bytes are q with its bytes in the other order, where those of slot 0 begin at byte i;
 // n if none is. It goes from the last slot to the first and never leaves early, so that the choice of r is a conditional
@@ -101,7 +103,7 @@ fn candidate_words(t: &[u8], i: usize, step: usize, n: usize, q: u64) -> usize
     requires { ⌜ ((k : ℕ) → k < n → i + k * step + 8 ≤ length (now t)) × (i + n * step ≤ 2 ^ 28) ⌝ }
     ensures { λ r. ⌜ Unlike (now (t .entry)) (8 * i) (8 * step) 64 (turned q) n r ⌝ }
 {
-    if n <= 10 {
+    if n <= FEW {
         return first_word(t, i, step, n, q);
     }
     next_word(t, i, step, n, q)
@@ -112,7 +114,7 @@ fn candidate_tails(t: &[u8], at: usize, step: usize, n: usize, m: usize, q: u64)
     requires { ⌜ (0 < m) × (m ≤ 57) × ((k : ℕ) → k < n → (at + k * step) / 8 + 8 ≤ length (now t)) × (at + n * step ≤ 2 ^ 28) ⌝ }
     ensures { λ r. ⌜ Unlike (now (t .entry)) at step m q n r ⌝ }
 {
-    if n <= 10 {
+    if n <= FEW {
         return first_tail(t, at, step, n, m, q);
     }
     next_tail(t, at, step, n, m, q)

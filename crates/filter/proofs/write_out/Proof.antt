@@ -31,11 +31,14 @@ part-part-end c = search needs
 write-requires : tie.Need-write-requires Inv-loop μ-loop
 write-requires c κs = search needs
 
+returns-2 : tie.Need-returns-2 Inv-loop μ-loop
+returns-2 c = search needs
+
 errno-requires : tie.Need-errno-requires Inv-loop μ-loop
 errno-requires c κs = search needs
 
-returns-2 : tie.Need-returns-2 Inv-loop μ-loop
-returns-2 c = search needs
+returns-3 : tie.Need-returns-3 Inv-loop μ-loop
+returns-3 c = search needs
 
 count-requires : tie.Need-count-requires Inv-loop μ-loop
 count-requires c κs = search needs
@@ -50,10 +53,10 @@ loop-less : tie.Need-loop-less Inv-loop μ-loop
 loop-less c = search needs
 
 loop-again : tie.Need-loop-again Inv-loop μ-loop
-loop-again c = ⊎-elim (λ w. omega arith) (λ w. omega arith) (c .if2 .came)
+loop-again c = ⊎-elim (λ w. omega arith) (λ w. omega arith) (c .if3 .came)
 
-returns-3 : tie.Need-returns-3 Inv-loop μ-loop
-returns-3 c = search needs
+returns-4 : tie.Need-returns-4 Inv-loop μ-loop
+returns-4 c = search needs
 
 pub write-out-spec : {M : Type 1} → statement M
 write-out-spec =
@@ -67,11 +70,12 @@ write-out-spec =
     part-part-start
     part-part-end
     write-requires
-    errno-requires
     returns-2
+    errno-requires
+    returns-3
     count-requires
     add-done
     sub-turns
     loop-less
     loop-again
-    returns-3)
+    returns-4)

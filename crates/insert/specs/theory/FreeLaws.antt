@@ -1,13 +1,13 @@
 -- The first free block, the blocks of a list, and a list that can be followed.
-use mathlib.Core.Path.{_≡_, sym, ap, ap₂, _∙_}
+use mathlib.Core.Path.{_≡_, refl, sym, ap, ap₂, _∙_}
 use mathlib.Core.Bool.{true, false}
 use mathlib.Core.List.{List, [], _∷_}
-use mathlib.Core.Option.{none, some}
-use Prim.Native.Nat.{ℕ, suc, _+_, _-_, _≤_, _<_}
+use mathlib.Core.Option.{some}
+use Prim.Native.Nat.{ℕ, _+_, _-_, _≤_, _<_}
 use native.Mathlib.Omega.{arith}
 use native.Mathlib.Nat.{zero-add}
 use native.Mathlib.Decide.{decLe}
-use lib.ListN.{length, take, length-append, length-take}
+use lib.ListN.{length, take, length-take}
 use lib.Dec.{eqb, ltb}
 use borrow.Author.Tests.{eq-eqb, ne-eqb, eqb-false, lt-ltb, le-ltb, ltb-true, ltb-false}
 use Rattle.settings.specs.theory.Cases.{cases}
@@ -15,12 +15,15 @@ use Rattle.settings.specs.declared.layout.Layout.{Layout}
 use Rattle.settings.specs.declared.refusal.Refusal.{Refusal}
 use Rattle.settings.specs.declared.refusal.Refusal.the-variants as refusal
 use Rattle.table.specs.State.{Overflow, State, basicAt, overflowAt, unpack}
-use Rattle.table.specs.Follow.{Seen, cons?, follow, content}
+use Rattle.table.specs.Follow.{Seen, seen, lastOf, cons?, follow, gather}
 use Rattle.table.specs.Take.{Done, damage, occurs, nextFree, taking}
 use Rattle.table.specs.Add.{Adding, appended}
-use Rattle.table.specs.Steps.{lastFrom, gatherFrom}
-use Rattle.table.specs.theory.Walks.{follow-here, follow-on, followed, Turn, turn, content-short, content-high, content-bad, content-long}
+use Rattle.table.specs.Steps.{lastFrom}
+use Rattle.table.specs.Spots.{blocksFrom, spotIn, Reaches}
+use Rattle.table.specs.theory.Walks.{follow-here, follow-on, last-low, Turn, content-short}
+use Rattle.table.specs.theory.Spots.{Chained, gather-some, last-spot, long-full, long-ends, long-blocks, long-length}
 use Rattle.table.specs.theory.Reads.{unpack-length}
+use Rattle.table.specs.declared.lists.Spot.{Spot}
 use Rattle.table.specs.declared.answers.AddAnswer.the-variants as answer
 use Rattle.insert.specs.Adds.{freeOf, meetsFrom, EndsIn, Readable}
 use Rattle.insert.specs.declared.append.Free.the-variants as free
@@ -156,81 +159,79 @@ module _ (g : Layout) (os : List Overflow) (f : ℕ) where
 -- ---- a list that can be followed
 
 module _ (g : Layout) (st : State) (i n : ℕ) (R : Readable g st i n) where
-  not-damaged : {X : Type 0} → content g st i ≡ none → X
-  not-damaged e = absurd (let q = R .is in let z : _≡_ {A = ℕ} 0 1 = cc in omega arith)
-
-  module _ (hc : g .sib < basicAt (st .basic) i .counter) where
-    full-is : basicAt (st .basic) i .counter ≡ suc (g .sib)
-    full-is = pick (decLe (basicAt (st .basic) i .counter) (suc (g .sib)))
-      where
-        pick : Dec (basicAt (st .basic) i .counter ≤ suc (g .sib)) → basicAt (st .basic) i .counter ≡ suc (g .sib)
-        pick (yes l) = omega arith
-        pick (no l) = not-damaged (content-high g st i (omega arith))
-
-    last-low : lastFrom g (g .nob) (st .overflow) (basicAt (st .basic) i .head) < g .nob
-    last-low = pick (decLe (g .nob) (lastFrom g (g .nob) (st .overflow) (basicAt (st .basic) i .head)))
-      where
-        pick : Dec (g .nob ≤ lastFrom g (g .nob) (st .overflow) (basicAt (st .basic) i .head)) → lastFrom g (g .nob) (st .overflow) (basicAt (st .basic) i .head) < g .nob
-        pick (yes l) = not-damaged (content-bad g st i full-is l)
-        pick (no l) = omega arith
-
-    pub ends-in : (h j : ℕ) → h ≡ basicAt (st .basic) i .head → j ≡ lastFrom g (g .nob) (st .overflow) h → EndsIn g st i h j
-    ends-in h j eh ej =
-        record { full = full-is; head = eh; last = ej; low = omega (arith, last-low, ej ∙ ap (lastFrom g (g .nob) (st .overflow)) eh) }
-
-  -- the list's length, by its basic block's counter
-  length-is : (v : Seen) → content g st i ≡ some v → n ≡ length (v .slots)
-  length-is v e =
-      let q = R .is in
-      let z : R .seen ≡ v = cc in
-      R .long ∙ ap (λ (x : Seen). length (x .slots)) z
-
+  -- the number of its entries, by its basic block's counter
   short-length : basicAt (st .basic) i .counter ≤ g .sib → n ≡ basicAt (st .basic) i .counter
   short-length h =
       let b = basicAt (st .basic) i in
+      let q = R .is in
+      let e = content-short g st i h in
+      let z : R .seen ≡ seen [] (take (b .counter) (unpack g (b .head) (b .rest))) = cc in
       omega (
         arith,
-        length-is _ (content-short g st i h),
+        R .long,
+        ap (λ (x : Seen). length (x .slots)) z,
         length-take (b .counter) (unpack g (b .head) (b .rest)),
         unpack-length g (b .head) (b .rest),
       )
 
-  module _ (sized : (j : ℕ) → j < g .nob → length (overflowAt (st .overflow) j .slots) ≡ g .sio) (some-slots : 0 < g .sio) where
-    first-some : (b : ℕ) → b < g .nob → 0 < length (take (suc (overflowAt (st .overflow) b .counter)) (overflowAt (st .overflow) b .slots))
-    first-some b h =
-        let o = overflowAt (st .overflow) b in
-        omega (arith, length-take (suc (o .counter)) (o .slots), sized b h)
+  module _ (sized : (j : ℕ) → j < g .nob → length (overflowAt (st .overflow) j .slots) ≡ g .sio) where
+    module _ (hc : g .sib < basicAt (st .basic) i .counter) where
+      abbrev blocks : Chained g (st .overflow) (basicAt (st .basic) i .head)
+      blocks = long-blocks g st i (R .seen) (R .is) hc
 
-    blocks-some : (b : ℕ) → Turn g (st .overflow) (g .nob) b → 0 < length (gatherFrom g (g .nob) (st .overflow) b)
-    blocks-some b k = pick (decLe (g .sio) (overflowAt (st .overflow) b .counter))
-      where
-        pick : Dec (g .sio ≤ overflowAt (st .overflow) b .counter) → 0 < length (gatherFrom g (g .nob) (st .overflow) b)
-        pick (yes l) =
-            let e : overflowAt (st .overflow) b .counter ≡ g .sio = omega (arith, k .count) in
-            omega (arith, first-some b (k .low), simp length-append at (ap length (k .more e)))
-        pick (no l) = omega (arith, first-some b (k .low), ap length (k .last (omega arith)))
+      entries : n ≡ g .sib + length (gather g (st .overflow) (basicAt (st .basic) i .head ∷ blocks .others))
+      entries = R .long ∙ long-length g st i (R .seen) (R .is) hc
 
-    long-length : g .sib < basicAt (st .basic) i .counter → g .sib < n
-    long-length h =
-        let b = basicAt (st .basic) i in
-        let f = followed g (st .overflow) (g .nob) (b .head) (last-low h) in
-        omega (
-          arith,
-          simp length-append at (length-is _ (content-long g st i (full-is h) f)),
-          unpack-length g (overflowAt (st .overflow) (lastFrom g (g .nob) (st .overflow) (b .head)) .link) (b .rest),
-          blocks-some (b .head) (turn g (st .overflow) (g .nob) (b .head) f),
-        )
+      some-over : 0 < length (gather g (st .overflow) (basicAt (st .basic) i .head ∷ blocks .others))
+      some-over = gather-some g (st .overflow) sized (blocks .chain)
 
     pub few : n ≤ g .sib → n ≡ basicAt (st .basic) i .counter
     few h = pick (decLe (basicAt (st .basic) i .counter) (g .sib))
       where
         pick : Dec (basicAt (st .basic) i .counter ≤ g .sib) → n ≡ basicAt (st .basic) i .counter
         pick (yes l) = short-length l
-        pick (no l) = absurd (omega (arith, long-length (omega arith)))
+        pick (no l) = let k : g .sib < basicAt (st .basic) i .counter = omega arith in absurd (omega (arith, entries k, some-over k))
 
-    pub many : g .sib < n → g .sib < basicAt (st .basic) i .counter
-    many h = pick (decLe (basicAt (st .basic) i .counter) (g .sib))
-      where
-        pick : Dec (basicAt (st .basic) i .counter ≤ g .sib) → g .sib < basicAt (st .basic) i .counter
-        pick (yes l) = absurd (omega (arith, short-length l))
-        pick (no l) = omega arith
+    -- more entries than the basic block has slots
+    module _ (hn : g .sib < n) where
+      many : g .sib < basicAt (st .basic) i .counter
+      many = pick (decLe (basicAt (st .basic) i .counter) (g .sib))
+        where
+          pick : Dec (basicAt (st .basic) i .counter ≤ g .sib) → g .sib < basicAt (st .basic) i .counter
+          pick (yes l) = absurd (omega (arith, short-length l))
+          pick (no l) = omega arith
+
+      pub last-reached : (h : ℕ) → h ≡ basicAt (st .basic) i .head → Reaches g (st .overflow) h (n - g .sib - 1)
+      last-reached h eh =
+          rw eh
+          (record {
+            ends = long-ends g st i (R .seen) (R .is) many;
+            within = rw (blocks many .are) (omega (arith, entries many, some-over many));
+          })
+
+      abbrev last : ℕ
+      last = lastOf (basicAt (st .basic) i .head) (blocks many .others)
+
+      spot-is : spotIn g (blocksFrom g (st .overflow) (basicAt (st .basic) i .head)) (n - g .sib - 1)
+          ≡ record { block = last; slot = overflowAt (st .overflow) last .counter }
+      spot-is =
+          let c = blocks many in
+          let e : n - g .sib - 1 ≡ length (gather g (st .overflow) (basicAt (st .basic) i .head ∷ c .others)) - 1 = omega (arith, entries many) in
+          rw (c .are, e) (last-spot g (st .overflow) sized (c .chain))
+
+      -- the last entry stands in the last block, in the slot that the counter there names
+      pub ends-in : (h : ℕ) → h ≡ basicAt (st .basic) i .head → (s : Spot) → s ≡ spotIn g (blocksFrom g (st .overflow) h) (n - g .sib - 1)
+          → EndsIn g st i h (s .block) × (s .slot ≡ overflowAt (st .overflow) (s .block) .counter)
+      unfolding lastFrom
+      ends-in h eh s =
+          rw eh
+          (λ es.
+          rw (es ∙ spot-is) (
+            record {
+              full = long-full g st i (R .seen) (R .is) many;
+              head = refl;
+              last = rw (blocks many .found);
+              low = last-low g (st .overflow) (blocks many .chain);
+            },
+            refl,
+          ))

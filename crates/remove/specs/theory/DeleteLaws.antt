@@ -1,15 +1,14 @@
--- Delete, step by step: following a list to its end and to a place, the slot that moves, and what the definitions come to.
+-- Delete, step by step: following a list to its end, the slot that moves, and what the definitions come to.
 use mathlib.Core.Path.{_≡_, refl, sym, ap, ap₂, subst, _∙_}
 use mathlib.Core.Bool.{true, false}
 use mathlib.Core.List.{List, [], _∷_, _++_, append-nil}
-use mathlib.Core.Option.{Option, none, some}
-use Prim.Native.Nat.{ℕ, zero, suc, _+_, _-_, _^_, _≤_, _<_}
+use Prim.Native.Nat.{ℕ, suc, _+_, _-_, _^_, _≤_, _<_}
 use native.Mathlib.Omega.{arith}
 use native.Mathlib.Decide.{decLe, ℕ-discrete}
 use lib.ListN.{length, getD, set, take, length-append, length-take}
 use lib.Seq.{getD-append-add, getD-take, getD-set-same, getD-set-other, set-out}
 use lib.Dec.{eqb, ltb}
-use borrow.Author.Tests.{eqb-true, eqb-false, ltb-true, ltb-false, lt-ltb, le-ltb}
+use borrow.Author.Tests.{eqb-false, ltb-false, lt-ltb, le-ltb}
 use lib.Pow.{pow-pos}
 use Rattle.bits.specs.Put.{putField}
 use Rattle.bits.specs.theory.Fields.{field-lt}
@@ -21,15 +20,19 @@ use Rattle.table.specs.Arrays.{padded}
 use Rattle.table.specs.State.{Overflow, State, mkBasic, mkOverflow, mkState, basicAt, overflowAt, unpack, headOf, restOf}
 use Rattle.table.specs.Decode.{basicSlots, linkAt, overflowSlots, readOverflow, decode}
 use Rattle.table.specs.Table.{Table}
-use Rattle.table.specs.Follow.{lastOf, prevOf, cons?, follow, gather}
+use Rattle.table.specs.Follow.{lastOf, prevOf, gather}
 use Rattle.table.specs.Take.{damage, done, linkFree}
 use Rattle.table.specs.Delete.{pokeOverflow, poke, shrink}
 use Rattle.table.specs.theory.Changes.{basic-ends, over-low, at-over}
+use Rattle.table.specs.Steps.{Followed}
+use Rattle.table.specs.Spots.{blocksFrom, spotIn, Reaches}
 use Rattle.table.specs.theory.Reads.{link-lt}
+use Rattle.table.specs.theory.Walks.{Chain, ends, more}
+use Rattle.table.specs.theory.Spots.{chained, one-more, last-one, gather-some}
+use Rattle.table.specs.declared.lists.Spot.{Spot}
 use Rattle.stores.specs.Stores.{Poked, basicSlot, overflowSlot, freePut, basicCounterPut, headPut, overflowCounterPut, linkPut, slotPut, renewed}
 use Rattle.stores.specs.theory.StoreLaws.{overflow-slot-ends, overBasic, overOverflow, withFree, basic-twice, overflow-twice, basics, overflows, Stored, stored-then, stored-as, stored-free, stored-basic-counter, stored-head, stored-overflow-counter, stored-link, stored-overflow-slot, stored-renewed, poked-head, stored-poked}
-use Rattle.remove.specs.DeleteSteps.{blocksFrom, endIn, spotIn, Ends, Reaches, clipped, released, shrinkAt, stuckAt, Shrinkable, pokeBasic, pokeSpot, pokeAt, Movable}
-use Rattle.remove.specs.declared.poke.Spot.{Spot}
+use Rattle.remove.specs.DeleteSteps.{endIn, clipped, released, handed, shrinkAt, stuckWith, stuckAt, Shrinkable, pokeBasic, pokeSpot, pokeAt, Movable}
 use Rattle.remove.specs.declared.shrink.End.{End}
 
 -- the last of two rows is the last of the second
@@ -41,57 +44,7 @@ getD-end xs ys h =
 -- ---- the blocks of a list
 
 module _ (g : Layout) (os : List Overflow) where
-  -- blocks b and then cs, each full but the last
-  pub data Chain : ℕ → List ℕ → Type 0 where
-    ends : {b : ℕ} → b < g .nob → overflowAt os b .counter < g .sio → Chain b []
-    more : {b : ℕ} {cs : List ℕ} → b < g .nob → overflowAt os b .counter ≡ g .sio → Chain (overflowAt os b .link) cs
-        → Chain b (overflowAt os b .link ∷ cs)
-
-  -- what following at most n blocks from b on comes to
-  pub data Walk (n b : ℕ) : Option (List ℕ) → Type 0 where
-    lost : Walk n b none
-    ended : {cs : List ℕ} → Chain b cs → length cs < n → Walk n b (some (b ∷ cs))
-
-  walk-on : {n b : ℕ} {o : Option (List ℕ)} → b < g .nob → overflowAt os b .counter ≡ g .sio → Walk n (overflowAt os b .link) o
-      → Walk (suc n) b (cons? b o)
-  walk-on h e lost = lost
-  walk-on h e (ended c l) = ended (more h e c) (omega arith)
-
-  pub walk : (n b : ℕ) → Walk n b (follow g n os b)
-  walk zero b = lost
-  walk (suc n) b =
-      cases (ltb b (g .nob))
-      (λ p. cases (ltb (overflowAt os b .counter) (g .sio))
-      (λ q. rw (p, q) (ended (ends (ltb-true b (g .nob) p) (ltb-true (overflowAt os b .counter) (g .sio) q)) (omega arith)))
-      (λ q. cases (eqb (overflowAt os b .counter) (g .sio))
-      (λ r. rw (p, q, r) (walk-on (ltb-true b (g .nob) p) (eqb-true (overflowAt os b .counter) (g .sio) r) (walk n (overflowAt os b .link))))
-      (λ r. rw (p, q, r) lost)))
-      (λ p. rw p lost)
-
-  -- the blocks of a list that has an end
-  pub record Chained (b : ℕ) : Type 0 where
-    pub others : List ℕ
-    pub chain : Chain b others
-    pub few : length others < g .nob
-    pub are : blocksFrom g os b ≡ b ∷ others
-
-  chained-as : (b : ℕ) (bs : List ℕ) {o : Option (List ℕ)} → Walk (g .nob) b o → follow g (g .nob) os b ≡ o → o ≡ some bs → Chained b
-  unfolding blocksFrom
-  chained-as b bs lost w e = absurd (let z : _≡_ {A = ℕ} 0 1 = cc in omega arith)
-  chained-as b bs (ended {cs} c l) w e = record { others = cs; chain = c; few = l; are = rw w }
-
-  pub chained : (b : ℕ) → Ends g os b → Chained b
-  chained b f = chained-as b (f .blocks) (walk (g .nob) b) refl (f .are)
-
-  pub last-low : {b : ℕ} {cs : List ℕ} → Chain b cs → lastOf b cs < g .nob
-  last-low (ends h l) = h
-  last-low (more h e c) = last-low c
-
-  pub last-few : {b : ℕ} {cs : List ℕ} → Chain b cs → overflowAt os (lastOf b cs) .counter < g .sio
-  last-few (ends h l) = l
-  last-few (more h e c) = last-few c
-
-  pub prev-low : {b : ℕ} {cs : List ℕ} (p : ℕ) → p < g .nob → Chain b cs → prevOf p b cs < g .nob
+  pub prev-low : {b : ℕ} {cs : List ℕ} (p : ℕ) → p < g .nob → Chain g os b cs → prevOf p b cs < g .nob
   prev-low p l (ends h k) = l
   prev-low p l (more {b} h e c) = prev-low b h c
 
@@ -99,20 +52,16 @@ module _ (g : Layout) (os : List Overflow) where
 
   pub record Ending (first b before k : ℕ) : Type 0 where
     pub others : List ℕ
-    pub chain : Chain b others
+    pub chain : Chain g os b others
     pub few : length others + k < g .nob
     pub same : endIn g before (b ∷ others) ≡ endIn g (g .nob) (blocksFrom g os first)
 
-  pub ending-first : (first : ℕ) → Ends g os first → Ending first first (g .nob) 0
+  pub ending-first : (first : ℕ) → Followed g (g .nob) os first → Ending first first (g .nob) 0
   ending-first first f =
-      let c = chained first f in
+      let c = chained g os first f in
       record { others = c .others; chain = c .chain; few = omega (arith, c .few); same = ap (endIn g (g .nob)) (sym (c .are)) }
 
-  pub chain-low : {b : ℕ} {cs : List ℕ} → Chain b cs → b < g .nob
-  chain-low (ends h l) = h
-  chain-low (more h e c) = h
-
-  ending-here-as : {b : ℕ} {cs : List ℕ} (before : ℕ) (r : End) → overflowAt os b .counter < g .sio → Chain b cs → endIn g before (b ∷ cs) ≡ r
+  ending-here-as : {b : ℕ} {cs : List ℕ} (before : ℕ) (r : End) → overflowAt os b .counter < g .sio → Chain g os b cs → endIn g before (b ∷ cs) ≡ r
       → _≡_ {A = End} (record { last = b; before = before }) r
   ending-here-as before r l (ends h m) e = e
   ending-here-as before r l (more h m c) e = absurd (omega arith)
@@ -121,7 +70,7 @@ module _ (g : Layout) (os : List Overflow) where
       → _≡_ {A = End} (record { last = b; before = before }) (endIn g (g .nob) (blocksFrom g os first))
   ending-here first b before k m l = ending-here-as before (endIn g (g .nob) (blocksFrom g os first)) l (m .chain) (m .same)
 
-  ending-on-as : (first b before k : ℕ) {cs : List ℕ} → Chain b cs → length cs + k < g .nob
+  ending-on-as : (first b before k : ℕ) {cs : List ℕ} → Chain g os b cs → length cs + k < g .nob
       → endIn g before (b ∷ cs) ≡ endIn g (g .nob) (blocksFrom g os first) → g .sio ≤ overflowAt os b .counter
       → Ending first (overflowAt os b .link) b (k + 1)
   ending-on-as first b before k (ends h m) f e l = absurd (omega arith)
@@ -130,53 +79,19 @@ module _ (g : Layout) (os : List Overflow) where
   pub ending-on : (first b before k : ℕ) → Ending first b before k → g .sio ≤ overflowAt os b .counter → Ending first (overflowAt os b .link) b (k + 1)
   ending-on first b before k m l = ending-on-as first b before k (m .chain) (m .few) (m .same) l
 
-  -- ---- to a place
-
-  pub record Going (first p b q : ℕ) : Type 0 where
-    pub others : List ℕ
-    pub chain : Chain b others
-    pub within : q < length (gather g os (b ∷ others))
-    pub same : spotIn g (b ∷ others) q ≡ spotIn g (blocksFrom g os first) p
-
-  pub going-first : (first p : ℕ) → Reaches g os first p → Going first p first p
-  going-first first p r =
-      let c = chained first (r .ends) in
-      record {
-        others = c .others;
-        chain = c .chain;
-        within = rw (c .are) at (r .within);
-        same = ap (λ (bs : List ℕ). spotIn g bs p) (sym (c .are));
-      }
-
-  pub going-here : (first p b q : ℕ) → Going first p b q → q < g .sio → _≡_ {A = Spot} (record { block = b; slot = q }) (spotIn g (blocksFrom g os first) p)
-  going-here first p b q m l = rw (lt-ltb q (g .sio) l) at (m .same)
-
   -- a decoded block has sio slots
   module _ (sized : (j : ℕ) → j < g .nob → length (overflowAt os j .slots) ≡ g .sio) where
-    one-block : {b : ℕ} (ys : List ℕ) → b < g .nob → length (take (suc (overflowAt os b .counter)) (overflowAt os b .slots) ++ ys) ≤ g .sio + length ys
-    one-block {b} ys h =
-        omega (
-          arith,
-          sized b h,
-          length-append (take (suc (overflowAt os b .counter)) (overflowAt os b .slots)) ys,
-          length-take (suc (overflowAt os b .counter)) (overflowAt os b .slots),
-        )
-
-    pub last-slot : {b : ℕ} {cs : List ℕ} → Chain b cs
-        → (0 < length (gather g os (b ∷ cs)))
-        × (getD (gather g os (b ∷ cs)) (length (gather g os (b ∷ cs)) - 1) 0 ≡ getD (overflowAt os (lastOf b cs) .slots) (overflowAt os (lastOf b cs) .counter) 0)
+    pub last-slot : {b : ℕ} {cs : List ℕ} → Chain g os b cs
+        → getD (gather g os (b ∷ cs)) (length (gather g os (b ∷ cs)) - 1) 0 ≡ getD (overflowAt os (lastOf b cs) .slots) (overflowAt os (lastOf b cs) .counter) 0
     last-slot (ends {b} h l) =
         let n = overflowAt os b .counter in
         let xs = overflowAt os b .slots in
-        let m : length (take (suc n) xs) ≡ suc n = omega (arith, sized b h, length-take (suc n) xs) in
-        let e : length (take (suc n) xs) - 1 ≡ n = omega arith in
+        let e : length (take (suc n) xs) - 1 ≡ n = omega (arith, sized b h, length-take (suc n) xs) in
         rw (append-nil (take (suc n) xs))
-        (omega arith, ap (λ (k : ℕ). getD (take (suc n) xs) k 0) e ∙ getD-take (suc n) xs n 0 (omega arith))
+        (ap (λ (k : ℕ). getD (take (suc n) xs) k 0) e ∙ getD-take (suc n) xs n 0 (omega arith))
     last-slot (more {b} {cs} h e c) =
-        let q = last-slot c in
-        let ys = gather g os (overflowAt os b .link ∷ cs) in
-        let xs = take (suc (overflowAt os b .counter)) (overflowAt os b .slots) in
-        (omega (arith, length-append xs ys, q .0), getD-end xs ys (q .0) ∙ q .1)
+        getD-end (take (suc (overflowAt os b .counter)) (overflowAt os b .slots)) (gather g os (overflowAt os b .link ∷ cs)) (gather-some g os sized c)
+        ∙ last-slot c
 
     -- what is known of place q of the blocks, and what a slot stored there does
     pub record Spotted (bs : List ℕ) (q : ℕ) : Type 0 where
@@ -201,19 +116,9 @@ module _ (g : Layout) (os : List Overflow) where
           poked = λ x. rw (le-ltb q (g .sio) l) (s .poked x);
         }
 
-    one-more : {b q : ℕ} (ys : List ℕ) → b < g .nob → g .sio ≤ q → q < length (take (suc (overflowAt os b .counter)) (overflowAt os b .slots) ++ ys)
-        → q - g .sio < length ys
-    one-more {b} {q} ys h l m = omega (arith, one-block ys h)
-
-    last-one : (b : ℕ) {q : ℕ} → overflowAt os b .counter < g .sio → q < length (take (suc (overflowAt os b .counter)) (overflowAt os b .slots) ++ []) → q < g .sio
-    last-one b {q} l m =
-        let f = length-take (suc (overflowAt os b .counter)) (overflowAt os b .slots) in
-        let e = length-append (take (suc (overflowAt os b .counter)) (overflowAt os b .slots)) [] in
-        omega arith
-
-    pub spotted : {b : ℕ} {cs : List ℕ} → Chain b cs → (q : ℕ) → q < length (gather g os (b ∷ cs)) → Spotted (b ∷ cs) q
-    spotted (ends {b} h l) q m = spotted-here [] q h (last-one b l m)
-    spotted (more {b} {cs} h e c) q m = pick (decLe (g .sio) q) (λ l. spotted c (q - g .sio) (one-more (gather g os (overflowAt os b .link ∷ cs)) h l m))
+    pub spotted : {b : ℕ} {cs : List ℕ} → Chain g os b cs → (q : ℕ) → q < length (gather g os (b ∷ cs)) → Spotted (b ∷ cs) q
+    spotted (ends {b} h l) q m = spotted-here [] q h (last-one g os sized h m)
+    spotted (more {b} {cs} h e c) q m = pick (decLe (g .sio) q) (λ l. spotted c (q - g .sio) (one-more g os sized (gather g os (overflowAt os b .link ∷ cs)) h l m))
       where
         pick : Dec (g .sio ≤ q) → (g .sio ≤ q → Spotted (overflowAt os b .link ∷ cs) (q - g .sio)) → Spotted (b ∷ overflowAt os b .link ∷ cs) q
         pick (no l) f = spotted-here (overflowAt os b .link ∷ cs) q h (omega arith)
@@ -221,29 +126,15 @@ module _ (g : Layout) (os : List Overflow) where
 
     pub spotted-at : (b q : ℕ) → Reaches g os b q → Spotted (blocksFrom g os b) q
     spotted-at b q r =
-        let c = chained b (r .ends) in
+        let c = chained g os b (r .ends) in
         rw (c .are) (spotted (c .chain) q (rw (c .are) at (r .within)))
-
-    going-on-as : (first p b q : ℕ) {cs : List ℕ} → g .sio ≤ q → Chain b cs → q < length (gather g os (b ∷ cs))
-        → spotIn g (b ∷ cs) q ≡ spotIn g (blocksFrom g os first) p → Going first p (overflowAt os b .link) (q - g .sio)
-    going-on-as first p b q l (ends h k) m e = absurd (let z = last-one b k m in omega arith)
-    going-on-as first p b q l (more {cs} h k c) m e =
-        record {
-          others = cs;
-          chain = c;
-          within = one-more (gather g os (overflowAt os b .link ∷ cs)) h l m;
-          same = rw (le-ltb q (g .sio) l) at e;
-        }
-
-    pub going-on : (first p b q : ℕ) → Going first p b q → g .sio ≤ q → Going first p (overflowAt os b .link) (q - g .sio)
-    going-on first p b q m l = going-on-as first p b q l (m .chain) (m .within) (m .same)
 
 -- ---- the definitions, by the last block and the one before it
 
 module _ (g : Layout) (st : State) (i : ℕ) where
   pub shrink-open : (c : ℕ) (cs : List ℕ) → prevOf c c cs < g .nob → stuckAt g (lastOf c cs) st ≡ false
       → shrink g st i (c ∷ cs) ≡ done (shrinkAt g i (lastOf c cs) (prevOf (g .nob) c cs) st)
-  unfolding shrink shrinkAt stuckAt
+  unfolding shrink handed shrinkAt stuckWith
   shrink-open c [] k =
       cases (ltb 0 (overflowAt (st .overflow) c .counter))
       (λ p. rw p (λ e. refl))
@@ -254,7 +145,7 @@ module _ (g : Layout) (st : State) (i : ℕ) where
       (λ p. rw p (λ e. rw (e, lt-ltb (prevOf c d ds) (g .nob) k)))
 
   pub shrink-shut : (c : ℕ) (cs : List ℕ) → stuckAt g (lastOf c cs) st ≡ true → shrink g st i (c ∷ cs) ≡ damage
-  unfolding shrink stuckAt
+  unfolding shrink stuckWith
   shrink-shut c [] =
       cases (ltb 0 (overflowAt (st .overflow) c .counter))
       (λ p. rw p (λ e. absurd (let z : _≡_ {A = ℕ} 0 1 = cc in omega arith)))
@@ -270,18 +161,24 @@ module _ (g : Layout) (st : State) (i : ℕ) where
     unfolding shrinkAt
     shrink-clipped h = rw (lt-ltb 0 (overflowAt (st .overflow) l .counter) h)
 
-    pub shrink-further : overflowAt (st .overflow) l .counter ≤ 0 → p < g .nob
-        → released g l (overOverflow p (λ q. mkOverflow (g .sio - 1) (overflowAt (st .overflow) l .link) (q .slots)) st) ≡ shrinkAt g i l p st
+    pub shrink-freed : overflowAt (st .overflow) l .counter ≤ 0 → released g l (handed g i l p st) ≡ shrinkAt g i l p st
     unfolding shrinkAt
-    shrink-further h k = rw (le-ltb 0 (overflowAt (st .overflow) l .counter) h, lt-ltb p (g .nob) k)
+    shrink-freed h = rw (le-ltb 0 (overflowAt (st .overflow) l .counter) h)
 
-    pub shrink-only : overflowAt (st .overflow) l .counter ≤ 0 → g .nob ≤ p
-        → released g l (overBasic i (λ b. mkBasic (g .sib) (overflowAt (st .overflow) l .link) (b .rest)) st) ≡ shrinkAt g i l p st
-    unfolding shrinkAt
-    shrink-only h k = rw (le-ltb 0 (overflowAt (st .overflow) l .counter) h, le-ltb p (g .nob) k)
+    pub handed-further : p < g .nob → overOverflow p (λ q. mkOverflow (g .sio - 1) (overflowAt (st .overflow) l .link) (q .slots)) st ≡ handed g i l p st
+    unfolding handed
+    handed-further k = rw (lt-ltb p (g .nob) k)
+
+    pub handed-back : g .nob ≤ p → overBasic i (λ b. mkBasic (g .sib) (overflowAt (st .overflow) l .link) (b .rest)) st ≡ handed g i l p st
+    unfolding handed
+    handed-back k = rw (le-ltb p (g .nob) k)
+
+    pub handed-free : handed g i l p st .free ≡ st .free
+    unfolding handed
+    handed-free = cases (ltb p (g .nob)) (λ q. rw q refl) (λ q. rw q refl)
 
     pub free-low : Shrinkable g st l → overflowAt (st .overflow) l .counter ≤ 0 → st .free ≤ g .nob
-    unfolding stuckAt
+    unfolding stuckWith
     free-low s h = ltb-false (g .nob) (st .free) (rw (le-ltb 0 (overflowAt (st .overflow) l .counter) h) at (s .free))
 
     -- ---- pokeAt
@@ -332,7 +229,7 @@ module _ (g : Layout) (st : State) (i : ℕ) where
       (λ q. rw q (record { free = refl; counters = counter-kept (spotIn g (blocksFrom g (st .overflow) h) (p - g .sib) .block) _ refl }))
 
   pub stuck-kept : (u : State) → Kept u → (l : ℕ) → stuckAt g l u ≡ stuckAt g l st
-  unfolding stuckAt
+  unfolding stuckWith
   stuck-kept u k l = rw (k .free, k .counters l)
 
   pub shrinkable-kept : (u : State) → Kept u → (l : ℕ) → Shrinkable g st l → Shrinkable g u l
@@ -445,18 +342,19 @@ module _ (g : Layout) (t : List ℕ) (T : Table g t) where
       stored-overflow-slot g t T (s .block) hb (s .slot) x hs hx u (eu ∙ ap (λ (n : ℕ). slotPut g t n x) ea)
 
 -- an emptied block: its displaced bits go back, and it is freed
-pub stored-further : {g : Layout} {t a u : List ℕ} (i l p n v : ℕ) → n ≡ g .sio - 1 → v ≡ overflowAt (decode g t .overflow) l .link
-    → overflowAt (decode g t .overflow) l .counter ≤ 0 → p < g .nob
-    → Stored g t a (overOverflow p (λ o. mkOverflow n v (o .slots)) (decode g t)) → Stored g a u (released g l (decode g a))
-    → Stored g t u (shrinkAt g i l p (decode g t))
-stored-further {g} {t} i l p n v en ev h k s r =
-    stored-as (shrinkAt g i l p (decode g t)) (stored-then (released g l) s r)
-    (ap₂ (λ (m w : ℕ). released g l (overOverflow p (λ o. mkOverflow m w (o .slots)) (decode g t))) en ev ∙ shrink-further g (decode g t) i l p h k)
+pub stored-further : {g : Layout} {t a : List ℕ} (i l p n v : ℕ) → n ≡ g .sio - 1 → v ≡ overflowAt (decode g t .overflow) l .link → p < g .nob
+    → Stored g t a (overOverflow p (λ o. mkOverflow n v (o .slots)) (decode g t)) → Stored g t a (handed g i l p (decode g t))
+stored-further {g} {t} i l p n v en ev k s =
+    stored-as (handed g i l p (decode g t)) s
+    (ap₂ (λ (m w : ℕ). overOverflow p (λ o. mkOverflow m w (o .slots)) (decode g t)) en ev ∙ handed-further g (decode g t) i l p k)
 
-pub stored-only : {g : Layout} {t a u : List ℕ} (i l p v : ℕ) → v ≡ overflowAt (decode g t .overflow) l .link
-    → overflowAt (decode g t .overflow) l .counter ≤ 0 → g .nob ≤ p
-    → Stored g t a (overBasic i (λ b. mkBasic (g .sib) v (b .rest)) (decode g t)) → Stored g a u (released g l (decode g a))
-    → Stored g t u (shrinkAt g i l p (decode g t))
-stored-only {g} {t} i l p v ev h k s r =
-    stored-as (shrinkAt g i l p (decode g t)) (stored-then (released g l) s r)
-    (ap (λ (w : ℕ). released g l (overBasic i (λ b. mkBasic (g .sib) w (b .rest)) (decode g t))) ev ∙ shrink-only g (decode g t) i l p h k)
+pub stored-back : {g : Layout} {t a : List ℕ} (i l p v : ℕ) → v ≡ overflowAt (decode g t .overflow) l .link → g .nob ≤ p
+    → Stored g t a (overBasic i (λ b. mkBasic (g .sib) v (b .rest)) (decode g t)) → Stored g t a (handed g i l p (decode g t))
+stored-back {g} {t} i l p v ev k s =
+    stored-as (handed g i l p (decode g t)) s
+    (ap (λ (w : ℕ). overBasic i (λ b. mkBasic (g .sib) w (b .rest)) (decode g t)) ev ∙ handed-back g (decode g t) i l p k)
+
+pub stored-freed : {g : Layout} {t a u : List ℕ} (i l p : ℕ) → overflowAt (decode g t .overflow) l .counter ≤ 0
+    → Stored g t a (handed g i l p (decode g t)) → Stored g a u (released g l (decode g a)) → Stored g t u (shrinkAt g i l p (decode g t))
+stored-freed {g} {t} i l p h s r =
+    stored-as (shrinkAt g i l p (decode g t)) (stored-then (released g l) s r) (shrink-freed g (decode g t) i l p h)

@@ -1,12 +1,11 @@
 -- A removal, and delete: what they come to by the definitions.
 use mathlib.Core.Path.{_≡_, refl, sym, ap, ap₂, subst, _∙_}
 use mathlib.Core.Bool.{Bool, true, false, cond}
-use mathlib.Core.List.{List, [], _∷_, _++_}
+use mathlib.Core.List.{List, [], _∷_}
 use mathlib.Core.Option.{Option, none, some}
 use Prim.Native.Nat.{ℕ, suc, _+_, _-_, _*_, _^_, _≤_, _<_}
 use native.Mathlib.Omega.{arith}
-use native.Mathlib.Decide.{decLe}
-use lib.ListN.{length, getD, set, take, length-append, length-take}
+use lib.ListN.{length, getD, set, take, length-take}
 use lib.Seq.{getD-take, getD-set-same, lt-length-set}
 use lib.Dec.{ltb}
 use lib.Pow.{pow-pos}
@@ -27,25 +26,26 @@ use Rattle.settings.specs.declared.refusal.Refusal.the-variants as refusal
 use Rattle.table.specs.State.{Basic, Overflow, State, mkBasic, basicAt, overflowAt, unpack, headOf, restOf}
 use Rattle.table.specs.Decode.{basicSlots, overflowSlots, readOverflow, decode, written}
 use Rattle.table.specs.Table.{Table}
-use Rattle.table.specs.Follow.{Seen, seen, lastOf, gather, content}
+use Rattle.table.specs.Follow.{Seen, lastOf, gather, content}
 use Rattle.table.specs.Find.{position, isHeld, labelAt, findSeen, findIn}
 use Rattle.table.specs.Take.{damage, done}
 use Rattle.table.specs.Delete.{Deleting, poke, shrink, shrunk, deleteSeen, deleteIn}
 use Rattle.table.specs.Calls.{deleteAnswer, deleteBytes}
-use Rattle.table.specs.Steps.{shown, basicRun, lastIn, lastFrom, Followed, gatherIn, gatherFrom}
+use Rattle.table.specs.Steps.{shown, basicRun}
+use Rattle.table.specs.Spots.{blocksFrom, Reaches}
 use Rattle.table.specs.theory.Arrays.{getD-tab}
 use Rattle.table.specs.theory.Changes.{at-over}
 use Rattle.table.specs.theory.Reads.{unpack-length, slot-in, basic-slots-in}
-use Rattle.table.specs.theory.Walks.{followed, content-short, content-high, content-bad, content-long}
+use Rattle.table.specs.theory.Walks.{last-low, content-short}
+use Rattle.table.specs.theory.Spots.{Chained, chain-low, last-few, gather-some, content-chained, long-full, long-ends, long-blocks, long-length}
 use Rattle.table.specs.theory.Opened.{opened-illegal, opened-short, opened-on, keyed-out, keyed-on}
 use Rattle.table.specs.declared.answers.FindAnswer.the-variants as found
 use Rattle.table.specs.declared.answers.DeleteAnswer.{DeleteAnswer}
 use Rattle.table.specs.declared.answers.DeleteAnswer.the-variants as answer
 use Rattle.stores.specs.Stores.{basicSlot, overflowSlot, basicCounterPut, slotPut}
 use Rattle.stores.specs.theory.StoreLaws.{overBasic, slotIn, basic-twice, basics, Stored, stored-none, stored-then, stored-as, stored-written, stored-basic-counter, stored-basic-slot}
-use Rattle.stores.specs.Blocks.{blocksIn}
-use Rattle.remove.specs.DeleteSteps.{blocksFrom, endIn, Ends, Reaches, shrinkAt, stuckAt, pokeAt, removal, removalOf, Placed, Removed, Deleted, DeleteCall}
-use Rattle.remove.specs.theory.DeleteLaws.{getD-end, Chain, chained, last-low, last-few, chain-low, prev-low, last-slot, shrink-open, shrink-shut, poke-is, poke-keeps, stuck-kept}
+use Rattle.remove.specs.DeleteSteps.{endIn, shrinkAt, stuckAt, pokeAt, removal, removalOf, Placed, Removed, Deleted, DeleteCall}
+use Rattle.remove.specs.theory.DeleteLaws.{getD-end, prev-low, last-slot, shrink-open, shrink-shut, poke-is, poke-keeps, stuck-kept}
 use Rattle.remove.specs.declared.shrink.End.{End}
 
 -- the last slot of overflow block l
@@ -57,9 +57,6 @@ slotsOf none = 0
 slotsOf (some v) = length (v .slots)
 
 module _ (g : Layout) (st : State) (i p : ℕ) (P : Placed g st i p) where
-  not-damaged : {X : Type 0} → content g st i ≡ none → X
-  not-damaged e = let q = sym (P .is) ∙ e in absurd (let z : _≡_ {A = ℕ} 0 1 = cc in omega arith)
-
   -- ---- a list without overflow blocks
   module _ (h : basicAt (st .basic) i .counter ≤ g .sib) where
     abbrev slots : List ℕ
@@ -91,43 +88,11 @@ module _ (g : Layout) (st : State) (i p : ℕ) (P : Placed g st i p) where
     abbrev first : ℕ
     first = basicAt (st .basic) i .head
 
-    full : basicAt (st .basic) i .counter ≡ suc (g .sib)
-    full = pick (decLe (suc (suc (g .sib))) (basicAt (st .basic) i .counter))
-      where
-        pick : Dec (suc (suc (g .sib)) ≤ basicAt (st .basic) i .counter) → basicAt (st .basic) i .counter ≡ suc (g .sib)
-        pick (yes l) = not-damaged (content-high g st i l)
-        pick (no l) = omega arith
-
-    follows : Followed g (g .nob) (st .overflow) first
-    follows = pick (decLe (g .nob) (lastFrom g (g .nob) (st .overflow) first))
-      where
-        pick : Dec (g .nob ≤ lastFrom g (g .nob) (st .overflow) first) → Followed g (g .nob) (st .overflow) first
-        pick (yes l) = not-damaged (content-bad g st i full l)
-        pick (no l) = followed g (st .overflow) (g .nob) first (omega arith)
-
-    pub long-ends : Ends g (st .overflow) first
-    long-ends = record { blocks = follows .blocks; are = follows .are }
+    abbrev blocks : Chained g (st .overflow) first
+    blocks = long-blocks g st i (P .seen) (P .is) h
 
     abbrev others : List ℕ
-    others = chained g (st .overflow) first long-ends .others
-
-    chain : Chain g (st .overflow) first others
-    chain = chained g (st .overflow) first long-ends .chain
-
-    are : blocksFrom g (st .overflow) first ≡ first ∷ others
-    are = chained g (st .overflow) first long-ends .are
-
-    blocks-are : follows .blocks ≡ first ∷ others
-    unfolding blocksFrom
-    blocks-are = sym (ap blocksIn (follows .are)) ∙ are
-
-    last-is : lastFrom g (g .nob) (st .overflow) first ≡ lastOf first others
-    unfolding lastFrom
-    last-is = ap (lastIn g) (follows .are ∙ ap some blocks-are)
-
-    gather-is : gatherFrom g (g .nob) (st .overflow) first ≡ gather g (st .overflow) (first ∷ others)
-    unfolding gatherFrom
-    gather-is = ap (gatherIn g (st .overflow)) (follows .are ∙ ap some blocks-are)
+    others = blocks .others
 
     abbrev last : ℕ
     last = lastOf first others
@@ -138,27 +103,8 @@ module _ (g : Layout) (st : State) (i p : ℕ) (P : Placed g st i p) where
     abbrev tail : List ℕ
     tail = gather g (st .overflow) (first ∷ others)
 
-    content-is : content g st i ≡ some (seen (first ∷ others) (body ++ tail))
-    content-is =
-        content-long g st i full follows
-        ∙ ap
-        (λ (bs : List ℕ). some
-        (seen bs
-        (unpack g (overflowAt (st .overflow) (lastFrom g (g .nob) (st .overflow) first) .link) (basicAt (st .basic) i .rest)
-        ++ gatherFrom g (g .nob) (st .overflow) first)))
-        blocks-are
-        ∙ ap₂ (λ (l : ℕ) (ys : List ℕ). some (seen (first ∷ others) (unpack g (overflowAt (st .overflow) l .link) (basicAt (st .basic) i .rest) ++ ys)))
-        last-is gather-is
-
     inside : g .sib ≤ p → p - g .sib < length tail
-    inside l =
-        omega (
-          arith,
-          P .within,
-          ap slotsOf (sym (P .is) ∙ content-is),
-          length-append body tail,
-          unpack-length g (overflowAt (st .overflow) last .link) (basicAt (st .basic) i .rest),
-        )
+    inside l = omega (arith, P .within, long-length g st i (P .seen) (P .is) h)
 
     abbrev poked : State
     poked = pokeAt g i first last p (lastSlot st last) st
@@ -166,10 +112,10 @@ module _ (g : Layout) (st : State) (i p : ℕ) (P : Placed g st i p) where
     long-is : removal g st i p ≡ shrink g poked i (first ∷ others)
     unfolding removal
     long-is =
-        let s = last-slot g (st .overflow) sz chain in
-        ap (removalOf g st i p) content-is
-        ∙ ap (λ (x : ℕ). shrink g (poke g st i (first ∷ others) p x) i (first ∷ others)) (getD-end body tail (s .0) ∙ s .1)
-        ∙ ap (λ (u : State). shrink g u i (first ∷ others)) (poke-is g st i sz chain are p (lastSlot st last) inside)
+        ap (removalOf g st i p) (content-chained g st i (long-full g st i (P .seen) (P .is) h) blocks)
+        ∙ ap (λ (x : ℕ). shrink g (poke g st i (first ∷ others) p x) i (first ∷ others))
+        (getD-end body tail (gather-some g (st .overflow) sz (blocks .chain)) ∙ last-slot g (st .overflow) sz (blocks .chain))
+        ∙ ap (λ (u : State). shrink g u i (first ∷ others)) (poke-is g st i sz (blocks .chain) (blocks .are) p (lastSlot st last) inside)
 
     pub record Route (b : ℕ) (e : End) : Type 0 where
       pub low : e .last < g .nob
@@ -182,12 +128,12 @@ module _ (g : Layout) (st : State) (i p : ℕ) (P : Placed g st i p) where
     route-is : Route first (endIn g (g .nob) (first ∷ others))
     route-is =
         record {
-          low = last-low g (st .overflow) chain;
-          few = last-few g (st .overflow) chain;
-          reaches = λ l. record { ends = long-ends; within = rw are (inside l) };
+          low = last-low g (st .overflow) (blocks .chain);
+          few = last-few g (st .overflow) (blocks .chain);
+          reaches = λ l. record { ends = long-ends g st i (P .seen) (P .is) h; within = rw (blocks .are) (inside l) };
           shut = λ q. long-is ∙ shrink-shut g poked i first others (stuck-kept g st i poked (poke-keeps g st i first last p (lastSlot st last)) last ∙ q);
           goes = λ q. long-is
-              ∙ shrink-open g poked i first others (prev-low g (st .overflow) first (chain-low g (st .overflow) chain) chain)
+              ∙ shrink-open g poked i first others (prev-low g (st .overflow) first (chain-low g (st .overflow) (blocks .chain)) (blocks .chain))
               (stuck-kept g st i poked (poke-keeps g st i first last p (lastSlot st last)) last ∙ q);
         }
 
@@ -195,7 +141,7 @@ module _ (g : Layout) (st : State) (i p : ℕ) (P : Placed g st i p) where
     pub route : (b : ℕ) (e : End) → b ≡ first → e ≡ endIn g (g .nob) (blocksFrom g (st .overflow) b) → Route b e
     route b e eb ee =
         subst (λ (x : ℕ). Route x e) (sym eb)
-        (subst (λ (x : End). Route first x) (sym (ee ∙ ap (λ (x : ℕ). endIn g (g .nob) (blocksFrom g (st .overflow) x)) eb ∙ ap (endIn g (g .nob)) are)) route-is)
+        (subst (λ (x : End). Route first x) (sym (ee ∙ ap (λ (x : ℕ). endIn g (g .nob) (blocksFrom g (st .overflow) x)) eb ∙ ap (endIn g (g .nob)) (blocks .are))) route-is)
 
 -- ---- the slot that moves
 

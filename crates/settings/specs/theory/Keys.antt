@@ -1,11 +1,11 @@
 -- A key and its place say the same: each is found from the other.
 use mathlib.Core.Path.{_≡_, refl, sym, ap, ap₂, _∙_}
-use Prim.Native.Nat.{ℕ, zero, suc, _+_, _/_, _%_, _^_, _<_}
-use native.Mathlib.Nat.{mod-lt, le-of-eq, lt-of-lt-of-le}
+use Prim.Native.Nat.{ℕ, zero, suc, _+_, _-_, _/_, _%_, _^_, _<_}
+use native.Mathlib.Nat.{mod-lt, mod-eq-of-lt, le-of-eq, lt-of-lt-of-le}
 use native.Mathlib.Omega.{arith}
 use lib.Bits.{bitXor, differ, xor-step, xor-lt}
 use lib.Arith.{digits-lt}
-use lib.Pow.{pow-pos, pow-add, shr-lt, split, high, low}
+use lib.Pow.{pow-pos, pow-mono, pow-add, shr-lt, split, high, low}
 use Rattle.settings.specs.Sizes.{bie}
 use Rattle.settings.specs.Legal.{Legal}
 use Rattle.settings.specs.Key.{keyNumber, keyOf, index, entry, hash, listNumber, rebuilt}
@@ -92,6 +92,12 @@ module _ {s : Settings} (legal : Legal s) where
   pub list-below : {k : ℕ} → k < 2 ^ s .w → listNumber s k < 2 ^ s .bii
   unfolding listNumber
   list-below {k} h = xor-lt (s .bii) (index s k) (hash s (entry s k)) (index-below h) (hash-below s (entry s k))
+
+  -- an entry has no bit above its low 128 - bii
+  pub entry-whole : {e : ℕ} → e < 2 ^ bie s → e % 2 ^ (128 - s .bii) ≡ e
+  entry-whole h =
+      let wide = legal .ranges .w-high in
+      mod-eq-of-lt (lt-of-lt-of-le h (pow-mono (omega arith)))
 
   -- "Given list number and E, the same xor gives I back."
   pub key-rebuilt : {k : ℕ} → k < 2 ^ s .w → rebuilt s (listNumber s k) (entry s k) ≡ k

@@ -93,6 +93,29 @@ copy-asks g t T from to l m =
     let room = T .room in
     (omega (arith, F .slot-is, F .bie-low), omega (arith, F .slot-is, F .bie-high, F .val-high), omega arith, omega arith, omega arith, omega arith)
 
+-- overflow block j, whose first slot begins at bit s: its link and its counter stand before that, and what renew asks and leaves
+module _ (g : Layout) (j s : ℕ) (e : s ≡ overflowSlot g j 0) where
+  pub before-first : s ≡ blockAt (g .overflow) j + (g .overflow .counter + g .link)
+  unfolding overflowSlots overflowSlot
+  before-first = omega (arith, e)
+
+  pub renew-asks : (t : List ℕ) → Table g t → j < g .nob → (l : ℕ) → l < 2 ^ g .link
+      → let at = s - g .link - g .overflow .counter in let n = g .overflow .bits in
+      (at + n ≤ 8 * length t) × (at + n ≤ 2 ^ 27) × (at ≤ s - g .link) × (s - g .link + g .link ≤ at + n) × (g .link ≤ 16) × (l < 2 ^ g .link)
+  renew-asks t T h l hl =
+      let F = T .proper in
+      let b = before-first in
+      let k = over-ends g F j h in
+      (omega (arith, T .room), omega (arith, bits-high g F), omega arith, omega (arith, F .overflow-is), F .link-high, hl)
+
+  pub renew-put : (t u : List ℕ) (l : ℕ) → u ≡ putField (putField t (s - g .link - g .overflow .counter) (g .overflow .bits) 0) (s - g .link) (g .link) l → u ≡ renewed g t j l
+  unfolding renewed linkAt
+  renew-put t u l eu =
+      let b = before-first in
+      let ea : s - g .link - g .overflow .counter ≡ blockAt (g .overflow) j = omega arith in
+      let el : s - g .link ≡ blockAt (g .overflow) j + g .overflow .counter = omega arith in
+      eu ∙ ap₂ (λ (a p : ℕ). putField (putField t a (g .overflow .bits) 0) p (g .link) l) ea el
+
 -- a slot as two words of 64 bits, where the label's bits push out the first bits of the low one
 module _ (val : ℕ) (hv : val ≤ 32) where
   whole-word : 2 ^ (64 - val) * 2 ^ val ≡ 2 ^ 64
@@ -279,11 +302,6 @@ module _ (g : Layout) (t : List ℕ) where
   pub overflows : length (decode g t .overflow) ≡ g .nob
   unfolding decode
   overflows = length-tab (g .nob) (readOverflow g t)
-
-  -- a decoded block has sio slots
-  pub sized : Table g t → (j : ℕ) → j < g .nob → length (overflowAt (decode g t .overflow) j .slots) ≡ g .sio
-  unfolding readOverflow
-  sized T j h = ap (λ (o : Overflow). length (o .slots)) (at-over g (T .proper) t j h) ∙ length-tab (g .sio) _
 
 -- ---- stores
 

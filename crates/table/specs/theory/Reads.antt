@@ -224,6 +224,11 @@ module _ (g : Layout) (t : List ℕ) (T : Table g t) where
   unfolding readOverflow
   link-lt j h = rw (ap (λ (o : Overflow). o .link) (at-over g (T .proper) t j h)) (field-lt t (linkAt g j) (g .link))
 
+  -- a decoded block has sio slots
+  pub sized : (j : ℕ) → j < g .nob → length (overflowAt (decode g t .overflow) j .slots) ≡ g .sio
+  unfolding readOverflow
+  sized j h = ap (λ (o : Overflow). length (o .slots)) (at-over g (T .proper) t j h) ∙ length-tab (g .sio) _
+
   -- the slots of a basic block, whose first L bits count as h
   pub displaced-slots-in : (i h : ℕ) → i < g .lists → h < 2 ^ g .link → slotsIn g t (displacedRun g i h) ≡ unpack g h (basicAt (decode g t .basic) i .rest)
   unfolding slotsIn shown displacedRun unpack readBasic

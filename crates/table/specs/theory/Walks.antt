@@ -5,7 +5,7 @@ use mathlib.Core.List.{List, [], _∷_, _++_, append-nil}
 use mathlib.Core.Option.{Option, none, some}
 use Prim.Native.Nat.{ℕ, zero, suc, _+_, _-_, _≤_, _<_}
 use native.Mathlib.Omega.{arith}
-use lib.ListN.{take}
+use lib.ListN.{length, take}
 use lib.Dec.{eqb, ltb}
 use borrow.Author.Tests.{eq-eqb, ne-eqb, eqb-true, lt-ltb, le-ltb, ltb-true}
 use Rattle.settings.specs.theory.Cases.{cases}
@@ -42,30 +42,42 @@ module _ (g : Layout) (os : List Overflow) where
         eq-eqb (overflowAt os b .counter) (g .sio) e,
       ))
 
-  -- ---- what is found: nothing, or blocks from b on to one below nob
+  -- ---- what is found: nothing, or blocks from b on to the list's end
 
-  data Began (b : ℕ) : Option (List ℕ) → Type 0 where
-    stuck : Began b none
-    began : (cs : List ℕ) → lastOf b cs < g .nob → Began b (some (b ∷ cs))
+  -- blocks b and then cs, each full but the last
+  pub data Chain : ℕ → List ℕ → Type 0 where
+    ends : {b : ℕ} → b < g .nob → overflowAt os b .counter < g .sio → Chain b []
+    more : {b : ℕ} {cs : List ℕ} → b < g .nob → overflowAt os b .counter ≡ g .sio → Chain (overflowAt os b .link) cs
+        → Chain b (overflowAt os b .link ∷ cs)
 
-  on-from : (b c : ℕ) {o : Option (List ℕ)} → Began c o → Began b (cons? b o)
-  on-from b c stuck = stuck
-  on-from b c (began cs l) = began (c ∷ cs) l
+  pub last-low : {b : ℕ} {cs : List ℕ} → Chain b cs → lastOf b cs < g .nob
+  last-low (ends h l) = h
+  last-low (more h e c) = last-low c
 
-  begins : (n b : ℕ) → Began b (follow g n os b)
-  begins zero b = stuck
-  begins (suc n) b =
+  -- what following at most n blocks from b on comes to
+  pub data Walk (n b : ℕ) : Option (List ℕ) → Type 0 where
+    lost : Walk n b none
+    ended : {cs : List ℕ} → Chain b cs → length cs < n → Walk n b (some (b ∷ cs))
+
+  walk-on : {n b : ℕ} {o : Option (List ℕ)} → b < g .nob → overflowAt os b .counter ≡ g .sio → Walk n (overflowAt os b .link) o
+      → Walk (suc n) b (cons? b o)
+  walk-on h e lost = lost
+  walk-on h e (ended c l) = ended (more h e c) (omega arith)
+
+  pub walk : (n b : ℕ) → Walk n b (follow g n os b)
+  walk zero b = lost
+  walk (suc n) b =
       cases (ltb b (g .nob))
       (λ p. cases (ltb (overflowAt os b .counter) (g .sio))
-      (λ q. rw (p, q) (began [] (ltb-true b (g .nob) p)))
+      (λ q. rw (p, q) (ended (ends (ltb-true b (g .nob) p) (ltb-true (overflowAt os b .counter) (g .sio) q)) (omega arith)))
       (λ q. cases (eqb (overflowAt os b .counter) (g .sio))
-      (λ r. rw (p, q, r) (on-from b (overflowAt os b .link) (begins n (overflowAt os b .link))))
-      (λ r. rw (p, q, r) stuck)))
-      (λ p. rw p stuck)
+      (λ r. rw (p, q, r) (walk-on (ltb-true b (g .nob) p) (eqb-true (overflowAt os b .counter) (g .sio) r) (walk n (overflowAt os b .link))))
+      (λ r. rw (p, q, r) lost)))
+      (λ p. rw p lost)
 
-  last-on : (b c : ℕ) {o : Option (List ℕ)} → Began c o → lastIn g (cons? b o) ≡ lastIn g o
-  last-on b c stuck = refl
-  last-on b c (began cs l) = refl
+  last-on : (b : ℕ) {n c : ℕ} {o : Option (List ℕ)} → Walk n c o → lastIn g (cons? b o) ≡ lastIn g o
+  last-on b lost = refl
+  last-on b (ended c l) = refl
 
   -- ---- the last block
 
@@ -90,24 +102,24 @@ module _ (g : Layout) (os : List Overflow) where
   unfolding lastFrom
   last-further n m b h l e =
       rw (follow-on n m b h l e)
-      (last-on b (overflowAt os b .link) (begins m (overflowAt os b .link)))
+      (last-on b (walk m (overflowAt os b .link)))
 
-  followed-as : (n b : ℕ) {o : Option (List ℕ)} → Began b o → follow g n os b ≡ o → lastIn g o < g .nob → Followed g n os b
-  followed-as n b stuck e h = absurd (omega arith)
-  followed-as n b (began cs l) e h = record { blocks = b ∷ cs; are = e }
+  followed-as : (n b : ℕ) {o : Option (List ℕ)} → Walk n b o → follow g n os b ≡ o → lastIn g o < g .nob → Followed g n os b
+  followed-as n b lost e h = absurd (omega arith)
+  followed-as n b (ended {cs} c l) e h = record { blocks = b ∷ cs; are = e }
 
   -- a last block below nob is the end of a list without damage
   pub followed : (n b : ℕ) → lastFrom g n os b < g .nob → Followed g n os b
   unfolding lastFrom
-  followed n b h = followed-as n b (begins n b) refl h
+  followed n b h = followed-as n b (walk n b) refl h
 
-  damaged-as : (b : ℕ) {o : Option (List ℕ)} → Began b o → g .nob ≤ lastIn g o → o ≡ none
-  damaged-as b stuck h = refl
-  damaged-as b (began cs l) h = absurd (omega arith)
+  damaged-as : {n b : ℕ} {o : Option (List ℕ)} → Walk n b o → g .nob ≤ lastIn g o → o ≡ none
+  damaged-as lost h = refl
+  damaged-as (ended c l) h = absurd (omega (arith, last-low c))
 
   pub damaged : (n b : ℕ) → g .nob ≤ lastFrom g n os b → follow g n os b ≡ none
   unfolding lastFrom
-  damaged n b h = damaged-as b (begins n b) h
+  damaged n b h = damaged-as (walk n b) h
 
   -- ---- one block of a list without damage
 
@@ -179,7 +191,7 @@ module _ (g : Layout) (st : State) (i : ℕ) where
         ne-eqb (basicAt (st .basic) i .counter) (suc (g .sib)) (λ q. omega arith),
       )
 
-  content-over : basicAt (st .basic) i .counter ≡ suc (g .sib)
+  pub content-over : basicAt (st .basic) i .counter ≡ suc (g .sib)
       → content g st i ≡ contentOver g (basicAt (st .basic) i) (st .overflow) (follow g (g .nob) (st .overflow) (basicAt (st .basic) i .head))
   unfolding content
   content-over h =
@@ -192,12 +204,12 @@ module _ (g : Layout) (st : State) (i : ℕ) where
       → content g st i ≡ none
   content-bad h l = content-over h ∙ rw (damaged g (st .overflow) (g .nob) (basicAt (st .basic) i .head) l)
 
-  long-as : (b : ℕ) {o : Option (List ℕ)} → Began g (st .overflow) b o → (bs : List ℕ) → follow g (g .nob) (st .overflow) b ≡ o → o ≡ some bs
+  long-as : (b : ℕ) {o : Option (List ℕ)} → Walk g (st .overflow) (g .nob) b o → (bs : List ℕ) → follow g (g .nob) (st .overflow) b ≡ o → o ≡ some bs
       → contentOver g (basicAt (st .basic) i) (st .overflow) o
       ≡ some (seen bs (unpack g (overflowAt (st .overflow) (lastFrom g (g .nob) (st .overflow) b) .link) (basicAt (st .basic) i .rest) ++ gatherFrom g (g .nob) (st .overflow) b))
   unfolding lastFrom gatherFrom
-  long-as b stuck bs e w = no-blocks g (st .overflow) bs w
-  long-as b (began cs l) bs e w = let z : b ∷ cs ≡ bs = cc in rw (e, ← z)
+  long-as b lost bs e w = no-blocks g (st .overflow) bs w
+  long-as b (ended {cs} c l) bs e w = let z : b ∷ cs ≡ bs = cc in rw (e, ← z)
 
   pub content-long : basicAt (st .basic) i .counter ≡ suc (g .sib) → (f : Followed g (g .nob) (st .overflow) (basicAt (st .basic) i .head))
       → content g st i
@@ -208,4 +220,4 @@ module _ (g : Layout) (st : State) (i : ℕ) where
   content-long h f =
       content-over h
       ∙ long-as (basicAt (st .basic) i .head)
-      (begins g (st .overflow) (g .nob) (basicAt (st .basic) i .head)) (f .blocks) refl (f .are)
+      (walk g (st .overflow) (g .nob) (basicAt (st .basic) i .head)) (f .blocks) refl (f .are)

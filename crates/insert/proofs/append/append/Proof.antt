@@ -4,10 +4,12 @@ use Prim.Native.Nat.{_≤_, _<_}
 use native.Mathlib.Omega.{arith}
 use denote.Ref.{now}
 use borrow.Author.Needs.{needs}
-use Rattle.table.specs.State.{basicAt}
+use Rattle.table.specs.State.{basicAt, overflowAt}
 use Rattle.table.specs.Decode.{decode}
-use Rattle.stores.specs.theory.StoreLaws.{sized}
-use Rattle.insert.specs.theory.FreeLaws.{few, many, ends-in}
+use Rattle.table.specs.theory.Reads.{sized}
+use Rattle.insert.specs.Adds.{EndsIn}
+use Rattle.insert.specs.theory.FreeLaws.{few, last-reached, ends-in}
+use Rattle.insert.specs.theory.AppendLaws.{counter-small}
 use Rattle.insert.proofs.append.append.Statement.{statement}
 use Rattle.insert.proofs.append.append.Tie as tie
 
@@ -15,8 +17,11 @@ use Rattle.insert.proofs.append.append.Tie as tie
 counter-is : (s : tie.Start) → let a = s .args in a .v .compared ≤ a .g .sib → a .v .compared ≡ basicAt (decode (a .g) (now (a .t)) .basic) (a .i) .counter
 counter-is s h =
     let a = s .args in
-    let T = s .pre .0 .table in
-    few (a .g) (decode (a .g) (now (a .t))) (a .i) (a .v .compared) (s .pre .1) (sized (a .g) (now (a .t)) T) (T .proper .sio-low) h
+    few (a .g) (decode (a .g) (now (a .t))) (a .i) (a .v .compared) (s .pre .1) (sized (a .g) (now (a .t)) (s .pre .0 .table)) h
+
+-- the list overflows
+many : (c : tie.Else2) → let a = c .before .before .before .before .before .before .args in a .g .sib < a .v .compared
+many c = omega (arith, c .before .before .if1 .left, c .if2 .left)
 
 cast-c : tie.Need-cast-c
 cast-c c = search needs
@@ -46,20 +51,42 @@ returns-2 c = search needs
 basic-head-requires : tie.Need-basic-head-requires
 basic-head-requires c κs = search needs
 
-follow-requires : tie.Need-follow-requires
-follow-requires c κs = search needs
+sub-spot-of : tie.Need-sub-spot-of
+sub-spot-of c = omega (arith, many (c .before .before .before .before))
+
+spot-of-requires : tie.Need-spot-of-requires
+spot-of-requires c κs =
+    let s = c .before .before .before .before .before .before .before .before .before .before in
+    let a = s .args in
+    let T = s .pre .0 .table in (
+      T,
+      last-reached (a .g) (decode (a .g) (now (a .t))) (a .i) (a .v .compared) (s .pre .1) (sized (a .g) (now (a .t)) T)
+          (many (c .before .before .before .before)) (c .before .before .basic-head .result) (c .before .before .basic-head .ensures),
+    )
+
+-- the last entry stands at the list's end
+end-is : (c : tie.After-spot-of)
+    → let a = c .before .before .before .before .before .before .before .before .before .before .before .args in let st = decode (a .g) (now (a .t)) in
+    EndsIn (a .g) st (a .i) (c .before .before .before .basic-head .result) (c .spot-of .result .block)
+    × (c .spot-of .result .slot ≡ overflowAt (st .overflow) (c .spot-of .result .block) .counter)
+end-is c =
+    let s = c .before .before .before .before .before .before .before .before .before .before .before in
+    let a = s .args in
+    ends-in (a .g) (decode (a .g) (now (a .t))) (a .i) (a .v .compared) (s .pre .1) (sized (a .g) (now (a .t)) (s .pre .0 .table))
+    (many (c .before .before .before .before .before)) (c .before .before .before .basic-head .result) (c .before .before .before .basic-head .ensures)
+    (c .spot-of .result) (c .spot-of .ensures)
+
+add-append-overflow : tie.Need-add-append-overflow
+add-append-overflow c =
+    let s = c .before .before .before .before .before .before .before .before .before .before .before .before .before in
+    let e = end-is (c .before .before) in
+    omega (arith, e .1, counter-small (s .args .g) (now (s .args .t)) (s .pre .0 .table) (c .before .before .spot-of .result .block) (e .0 .low))
 
 append-overflow-requires : tie.Need-append-overflow-requires
 append-overflow-requires c κs =
-    let s = c .before .before .before .before .before .before .before .before .before .before .before in
-    let a = s .args in
-    let T = s .pre .0 .table in
-    let st = decode (a .g) (now (a .t)) in
-    let h : a .g .sib < a .v .compared = omega (arith, c .before .before .before .before .before .before .before .if1 .left, c .before .before .before .before .before .if2 .left) in (
-      s .pre .0,
-      ends-in (a .g) st (a .i) (a .v .compared) (s .pre .1) (many (a .g) st (a .i) (a .v .compared) (s .pre .1) (sized (a .g) (now (a .t)) T) (T .proper .sio-low) h)
-          (c .before .before .before .basic-head .result) (c .before .follow .result) (c .before .before .before .basic-head .ensures) (c .before .follow .ensures),
-    )
+    let s = c .before .before .before .before .before .before .before .before .before .before .before .before .before in
+    let e = end-is (c .before .before) in
+    (s .pre .0, e .0, omega (arith, e .1))
 
 same-length-3 : tie.Need-same-length-3
 same-length-3 c = search needs
@@ -79,7 +106,9 @@ append-spec =
     same-length-2
     returns-2
     basic-head-requires
-    follow-requires
+    sub-spot-of
+    spot-of-requires
+    add-append-overflow
     append-overflow-requires
     same-length-3
     returns-3)

@@ -7,11 +7,12 @@ use borrow.Author.Needs.{needs}
 use Rattle.bits.specs.Field.{field}
 use Rattle.bits.specs.theory.Fields.{field-lt}
 use Rattle.table.specs.Decode.{decode}
+use Rattle.table.specs.theory.Reads.{sized}
+use Rattle.table.specs.declared.lists.Spot.{Spot}
 use Rattle.stores.specs.Stores.{slotPut}
-use Rattle.stores.specs.theory.StoreLaws.{copy-asks, overflow-slot-ends, sized, stored-as}
+use Rattle.stores.specs.theory.StoreLaws.{copy-asks, overflow-slot-ends, stored-as}
 use Rattle.remove.specs.DeleteSteps.{pokeSpot, pokeAt}
 use Rattle.remove.specs.theory.DeleteLaws.{poke-low, poke-high, spotted-at, stored-spot}
-use Rattle.remove.specs.declared.poke.Spot.{Spot}
 use Rattle.remove.proofs.poke.poke.Statement.{statement}
 use Rattle.remove.proofs.poke.poke.Tie as tie
 

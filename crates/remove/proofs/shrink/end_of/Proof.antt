@@ -1,10 +1,10 @@
 -- The end from here on, with the block that was passed last, is that of the whole list.
-use mathlib.Core.Path.{_≡_}
-use Prim.Native.Nat.{_+_, _-_, _≤_, _<_}
+use Prim.Native.Nat.{_-_, _<_}
 use native.Mathlib.Omega.{arith}
 use denote.Ref.{now}
 use Rattle.table.specs.Decode.{decode}
-use Rattle.remove.specs.theory.DeleteLaws.{chain-low, Ending, ending-first, ending-here, ending-on}
+use Rattle.table.specs.theory.Spots.{chain-low}
+use Rattle.remove.specs.theory.DeleteLaws.{Ending, ending-first, ending-here, ending-on}
 use Rattle.remove.proofs.shrink.end_of.Statement.{statement}
 use Rattle.remove.proofs.shrink.end_of.Tie as tie
 

@@ -1,7 +1,8 @@
 -- Each arm is the law `folded-same` at its own prime and coefficients, whose remainders are computed.
-use mathlib.Core.Path.{_≡_, refl, sym, ap, _∙_}
-use Prim.Native.Nat.{ℕ, _+_, _*_, _/_, _%_, _^_, _≤_}
-use native.Mathlib.Nat.{le-antisymm}
+use mathlib.Core.Path.{_≡_, refl, sym, ap, ap₂, _∙_}
+use Prim.Native.Nat.{ℕ, _+_, _-_, _*_, _/_, _%_, _^_, _≤_}
+use native.Mathlib.Nat.{le-antisymm, mod-eq-of-lt}
+use native.Mathlib.Omega.{arith}
 use lib.ListN.{getD}
 use borrow.Author.Needs.{needs}
 use Rattle.settings.specs.Prime.{primeAbove}
@@ -22,21 +23,23 @@ module _ (start : tie.Start) (k c₁ c₂ c₃ : ℕ) where
   b = start .args .b
 
   abbrev high : ℕ
-  high = start .args .high
+  high = start .args .high % 2 ^ (64 - k)
 
   abbrev low : ℕ
   low = start .args .low
 
   arm : c₁ % p ≡ 2 ^ 32 % p → c₂ % p ≡ 2 ^ 64 % p → c₃ % p ≡ 2 ^ 96 % p → start .args .bii ≡ k → {r : ℕ}
       → r ≡ a * (low % 2 ^ 32 + low / 2 ^ 32 * c₁ + high % 2 ^ 32 * c₂ + high / 2 ^ 32 * c₃) + b
-      → r % p ≡ (a * (high * 2 ^ 64 + low) + b) % primeAbove (start .args .bii)
+      → r % p ≡ (a * (start .args .high % 2 ^ (64 - start .args .bii) * 2 ^ 64 + low) + b) % primeAbove (start .args .bii)
   arm h₁ h₂ h₃ is-k sum =
       let small : k ≤ 16 = rw is-k at (start .pre .0) in
       ap (λ (x : ℕ). x % p) sum ∙ folded-same p c₁ c₂ c₃ h₁ h₂ h₃ a b high low
-      ∙ ap (λ (x : ℕ). (a * (high * 2 ^ 64 + low) + b) % x) (sym (ap primeAbove is-k ∙ prime-table k small))
+      ∙ ap₂ (λ (x y : ℕ). (a * (start .args .high % 2 ^ (64 - x) * 2 ^ 64 + low) + b) % y) (sym is-k) (sym (ap primeAbove is-k ∙ prime-table k small))
 
 returns : tie.Need-returns
-returns c = arm (c .before .before) 0 0 0 0 refl refl refl (c .before .match .keys1) (c .folded .ensures)
+returns c =
+    let whole : c .before .before .args .high ≡ c .before .before .args .high % 2 ^ 64 = sym (mod-eq-of-lt (omega arith)) in
+    arm (c .before .before) 0 0 0 0 refl refl refl (c .before .match .keys1) (c .folded .ensures ∙ ap (λ (h : ℕ). c .before .before .args .a * (c .before .before .args .low % 2 ^ 32 + c .before .before .args .low / 2 ^ 32 * 0 + h % 2 ^ 32 * 0 + h / 2 ^ 32 * 0) + c .before .before .args .b) whole)
 
 returns-2 : tie.Need-returns-2
 returns-2 c = arm (c .before .before) 1 1 1 1 refl refl refl (c .before .match .keys2) (c .folded2 .ensures)

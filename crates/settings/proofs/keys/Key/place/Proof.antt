@@ -23,18 +23,18 @@ high-bits-requires c κs =
     let wide : s .args .s .w ≤ 16 + (s .args .s .w - s .args .s .bii) = omega arith in
     (omega arith, omega arith, lt-of-lt-of-le (s .pre .1) (pow-mono wide))
 
-hash-of-requires : tie.Need-hash-of-requires
-hash-of-requires c κs = search needs
+hash-requires : tie.Need-hash-requires
+hash-requires c κs = (c .before .before .before .pre .0, ap keyNumber (c .before .low-bits .ensures) ∙ number-key _)
 
 returns : tie.Need-returns
 unfolding keyNumber index entry hash listNumber placeOf
 returns c =
     let s = c .before .before .before .before .args .s in
     let stored = c .before .before .low-bits .ensures in
-    let hashed = c .hash-of .ensures ∙ ap (hash s) (ap keyNumber stored ∙ number-key _) in
+    let hashed = c .hash .ensures ∙ ap (hash s) (ap keyNumber stored ∙ number-key _) in
     let list = ap₂ bitXor (c .before .high-bits .ensures) hashed in
     λ i. record { list = record { 0 = list i }; entry = stored i }
 
 pub place-spec : {M : Type 1} → statement M
 place-spec =
-    tie.close (tie.spec sub-n low-bits-requires high-bits-requires hash-of-requires returns)
+    tie.close (tie.spec sub-n low-bits-requires high-bits-requires hash-requires returns)

@@ -1,11 +1,11 @@
 -- The place from here on, less the slots of the blocks passed, is that of the whole list.
 use native.Mathlib.Omega.{arith}
 use denote.Ref.{now}
 use Rattle.table.specs.Decode.{decode}
-use Rattle.stores.specs.theory.StoreLaws.{sized}
-use Rattle.remove.specs.theory.DeleteLaws.{chain-low, Going, going-first, going-here, going-on}
-use Rattle.remove.proofs.poke.spot_of.Statement.{statement}
-use Rattle.remove.proofs.poke.spot_of.Tie as tie
+use Rattle.table.specs.theory.Reads.{sized}
+use Rattle.table.specs.theory.Spots.{chain-low, Going, going-first, going-here, going-on}
+use Rattle.table.proofs.lists.spot_of.Statement.{statement}
+use Rattle.table.proofs.lists.spot_of.Tie as tie
 
 abbrev Inv-loop : tie.InvT-loop
 Inv-loop t g first p b₀ q₀ b q = Going g (decode g t .overflow) first p b q
