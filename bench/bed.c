@@ -71,43 +71,41 @@ void free_bed(Bed *bed)
     free(bed);
 }
 
-/* The settings for the next call. What was stored just before is not yet in the cache when the whole struct is copied:
- * the copy waits, and so does what the call computes from it. */
-static inline Settings settings_of(Bed *bed)
+/* These are inline so that callgrind counts them as the operation's own. */
+static inline Settings settings_of(Bed *bed, int late)
 {
-    if (bed->late) *(volatile uint32_t *)&bed->settings.w = bed->settings.w;
+    if (late) *(volatile uint32_t *)&bed->settings.w = bed->settings.w;
     return bed->settings;
 }
 
-/* inline, so that callgrind counts it as the operation's own */
-static inline void find_all(Bed *bed, int k, const Key *keys)
+static inline void find_all(Bed *bed, int k, const Key *keys, int late)
 {
     for (unsigned i = 0; i < CHUNK; i++)
-        bed->got[k][i] = libraries[k].find(settings_of(bed), bed->table[k], bed->size, keys[i]);
+        bed->got[k][i] = libraries[k].find(settings_of(bed, late), bed->table[k], bed->size, keys[i]);
 }
 
-void op_find_hit(Bed *bed, int k, unsigned at)
-{
-    find_all(bed, k, bed->in + at);
-}
-
-void op_find_miss(Bed *bed, int k, unsigned at)
-{
-    find_all(bed, k, bed->out + at);
-}
-
-void op_add(Bed *bed, int k, unsigned at)
+static inline void add_all(Bed *bed, int k, unsigned at, int late)
 {
     for (unsigned i = 0; i < CHUNK; i++)
-        bed->got[k][i] = libraries[k].add(settings_of(bed), bed->table[k], bed->size, bed->in[at + i],
+        bed->got[k][i] = libraries[k].add(settings_of(bed, late), bed->table[k], bed->size, bed->in[at + i],
                                           label_of(bed, at + i));
 }
 
-void op_delete(Bed *bed, int k, unsigned at)
+static inline void delete_all(Bed *bed, int k, unsigned at, int late)
 {
     for (unsigned i = 0; i < CHUNK; i++)
-        bed->got[k][i] = libraries[k].remove(settings_of(bed), bed->table[k], bed->size, bed->in[at + i]);
+        bed->got[k][i] = libraries[k].remove(settings_of(bed, late), bed->table[k], bed->size, bed->in[at + i]);
 }
+
+void op_find_hit(Bed *bed, int k, unsigned at) { find_all(bed, k, bed->in + at, 0); }
+void op_find_miss(Bed *bed, int k, unsigned at) { find_all(bed, k, bed->out + at, 0); }
+void op_add(Bed *bed, int k, unsigned at) { add_all(bed, k, at, 0); }
+void op_delete(Bed *bed, int k, unsigned at) { delete_all(bed, k, at, 0); }
+
+void late_find_hit(Bed *bed, int k, unsigned at) { find_all(bed, k, bed->in + at, 1); }
+void late_find_miss(Bed *bed, int k, unsigned at) { find_all(bed, k, bed->out + at, 1); }
+void late_add(Bed *bed, int k, unsigned at) { add_all(bed, k, at, 1); }
+void late_delete(Bed *bed, int k, unsigned at) { delete_all(bed, k, at, 1); }
 
 void op_check(Bed *bed, int k, unsigned at)
 {

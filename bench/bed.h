@@ -10,7 +10,6 @@ enum { CHUNK = 64 };
 
 typedef struct {
     Settings settings;
-    int late; /* whether one of the settings is stored right before each call */
     size_t size;
     uint8_t *table[LIBRARIES];
     unsigned n;     /* entries */
@@ -28,6 +27,10 @@ void free_bed(Bed *bed);
  * callgrind's counts can be picked out. */
 typedef void Operation(Bed *bed, int library, unsigned at);
 Operation op_find_hit, op_find_miss, op_add, op_delete, op_check;
+
+/* The same with one of the settings stored right before each call: the copy of the whole struct waits until that store is
+ * in the cache, and so does what the call computes from it. */
+Operation late_find_hit, late_find_miss, late_add, late_delete;
 
 /* Runs `timed` for both libraries in turn, `rounds` times, and gives each library's median ns. `before` prepares the
  * table and `after` puts it back, untimed; either may be NULL. Ends the program if the answers or the tables differ. */

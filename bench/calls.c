@@ -26,13 +26,13 @@ enum { TABLES = sizeof tables / sizeof tables[0] };
 /* An add needs its keys out of the table first, and a delete puts them back. */
 static const struct {
     const char *name;
-    Operation *before, *timed, *after;
+    Operation *before, *timed, *late, *after;
 } operations[] = {
-    { "find, hit", NULL, op_find_hit, NULL },
-    { "find, miss", NULL, op_find_miss, NULL },
-    { "add", op_delete, op_add, NULL },
-    { "delete", NULL, op_delete, op_add },
-    { "check, an entry", NULL, op_check, NULL },
+    { "find, hit", NULL, op_find_hit, late_find_hit, NULL },
+    { "find, miss", NULL, op_find_miss, late_find_miss, NULL },
+    { "add", op_delete, op_add, late_add, NULL },
+    { "delete", NULL, op_delete, late_delete, op_add },
+    { "check, an entry", NULL, op_check, NULL, NULL },
 };
 enum { OPERATIONS = sizeof operations / sizeof operations[0] };
 
@@ -42,13 +42,13 @@ enum { CHECKS = 25 };
 static void time_table(unsigned t, unsigned rounds, int late)
 {
     Bed *bed = new_bed(tables[t].settings, tables[t].n);
-    bed->late = late;
     for (unsigned i = 0; i < OPERATIONS; i++) {
-        int whole = operations[i].timed == op_check;
-        if (whole && late) continue;
+        Operation *timed = late ? operations[i].late : operations[i].timed;
+        if (!timed) continue;
+        int whole = timed == op_check;
         unsigned entries = whole ? bed->n : CHUNK;
         double ns[LIBRARIES];
-        race(bed, operations[i].before, operations[i].timed, operations[i].after, whole ? CHECKS : rounds,
+        race(bed, operations[i].before, timed, operations[i].after, whole ? CHECKS : rounds,
              whole ? processor_clock : wall_clock, ns);
         printf("| %s | %s | %.1f | %.1f | %.2f |\n", tables[t].name, operations[i].name,
                ns[PRODUCT] / entries, ns[BASELINE] / entries, ns[PRODUCT] / ns[BASELINE]);

@@ -7,6 +7,7 @@ ghost use mathlib.Core.Bool.{true, false};
 ghost use Prim.Native.Nat.{ℕ, _+_, _≤_, _<_};
 ghost use lib.ListN.{length};
 ghost use Rattle.reader.specs.ReaderSteps.{Classes};
+ghost use Rattle.stream.specs.Output.{newTable};
 ghost use Rattle.filter.specs.declared.More.the-variants as more;
 
 // Writes all of buf. A write that takes a part of it, or that a signal interrupts, is gone on with; one that takes nothing
@@ -180,10 +181,10 @@ fn one_read(classes: &[u8; 256], buf: &mut [u8], t: &mut [u8], out: &mut [u8], s
     }
 }
 
-// Reads and answers until the input ends, or until an error. Nothing is promised of what a read gives, so here too
-// a counter shows that the loop ends.
+// Reads and answers until the input ends, or until an error, from a new table on. Nothing is promised of what a read
+// gives, so here too a counter shows that the loop ends.
 fn run(classes: &[u8; 256], buf: &mut [u8], t: &mut [u8], out: &mut [u8])
-    requires { ⌜ Classes (now classes) × (64 < length (now buf)) × (19617 ≤ length (now t)) × (80 ≤ length (now out)) ⌝ }
+    requires { ⌜ Classes (now classes) × (64 < length (now buf)) × (19617 ≤ length (now t)) × (80 ≤ length (now out)) × (now t ≡ newTable) ⌝ }
 {
     let mut s = Next {
         have: 0,

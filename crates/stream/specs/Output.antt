@@ -3,8 +3,11 @@ use Prim.Native.Nat.{ℕ}
 use mathlib.Core.Bool.{cond}
 use mathlib.Core.List.{List, [], _∷_, _++_}
 use lib.Dec.{eqb}
+use lib.ListN.{replicate}
 use Rattle.reader.specs.Reading.{onFirst}
 use Rattle.lines.specs.Ends.{lineFeed}
+use Rattle.table.specs.Calls.{makeBytes}
+use Rattle.answers.specs.Program.{program}
 use Rattle.answers.specs.Answer.{lineText, lineTable}
 
 -- "Lines of standard input, [..] before the line feed (the last may lack it)": nothing follows a final line feed
@@ -20,3 +23,11 @@ answersTo t (l ∷ ls) = lineText t l ++ answersTo (lineTable t l) ls
 -- all that is written for all that is read, on the table t
 unfoldable pub outputOf : List ℕ → List ℕ → List ℕ
 outputOf t input = answersTo t (linesOf input)
+
+-- the table that the program starts with: a new one
+unfoldable pub newTable : List ℕ
+newTable = makeBytes program (replicate 19617 0)
+
+-- all that the program writes for all that it reads
+unfoldable pub programOutput : List ℕ → List ℕ
+programOutput = outputOf newTable

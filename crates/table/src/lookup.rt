@@ -7,7 +7,9 @@ use crate::blocks::overflow_link;
 use crate::lists::displaced_run;
 use crate::lists::follow;
 use crate::lists::overflow_run;
+use crate::slots::confirm;
 use crate::slots::label_at;
+use crate::slots::looked_at;
 use crate::slots::scan;
 use crate::slots::scan_displaced;
 use settings::Key;
@@ -15,6 +17,7 @@ use settings::Laid;
 use settings::Layout;
 use settings::Refusal;
 use settings::Settings;
+use windows::candidate;
 ghost use mathlib.Core.Path.{_≡_};
 ghost use Prim.Native.Nat.{_+_, _*_, _^_, _≤_, _<_};
 ghost use lib.ListN.{length};
@@ -73,17 +76,25 @@ fn find_blocks(t: &[u8], g: Layout, first: usize, entry: Key, k: usize) -> FindA
     FindAnswer::None { compared: n as u32 }
 }
 
-// The entry in the first slots of a basic block, which are all of the list.
+// The entry in the first slots of a basic block, which are all of the list. Its steps are those of `scan`, taken apart:
+// a miss ends before anything is kept that only a hit needs.
 fn find_short(t: &[u8], g: Layout, i: usize, count: usize, entry: Key) -> FindAnswer
     requires { ⌜ Table g (now t) × (i < g .lists) × (count ≤ g .sib) × (keyNumber entry < 2 ^ g .bie) ⌝ }
     ensures { λ r. ⌜ r ≡ findFrom g (keyNumber entry) (slotsIn g (now (t .entry)) (basicRun g i count)) 0 ⌝ }
 {
     let start = basic_slots(g, i);
-    let j = scan(
+    let n = looked_at(count, g.sib);
+    let from = candidate(&t[..], start, n, g.slot, g.bie, entry.high, entry.low);
+    if from >= count {
+        return FindAnswer::None {
+            compared: count as u32,
+        };
+    }
+    let j = confirm(
         &t[..],
         start,
+        from,
         count,
-        g.sib,
         g.slot,
         g.bie,
         entry.high,

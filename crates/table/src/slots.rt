@@ -112,7 +112,7 @@ fn scan_from(
 }
 
 // How many slots are looked at for the first `count`: of a small block all, since a fixed number of turns can be foreseen.
-fn looked_at(count: usize, room: usize) -> usize
+pub(crate) fn looked_at(count: usize, room: usize) -> usize
     requires { ⌜ count ≤ room ⌝ }
     ensures { λ r. ⌜ (count ≤ r) × (r ≤ room) ⌝ }
 {
@@ -120,6 +120,27 @@ fn looked_at(count: usize, room: usize) -> usize
         return room;
     }
     count
+}
+
+// The first slot that holds the number, where none before slot `from` does, and that slot most likely; count if none does.
+pub(crate) fn confirm(
+    t: &[u8],
+    start: usize,
+    from: usize,
+    count: usize,
+    slot: usize,
+    bie: usize,
+    high: u64,
+    low: u64,
+) -> usize
+    requires { ⌜ Row (now t) start slot bie count × (high * 2 ^ 64 + low < 2 ^ bie) × (from < count) ⌝ }
+    requires { ⌜ ((k : ℕ) → k < from → field (now t) (start + k * slot) bie ≡ high * 2 ^ 64 + low → ⊥) ⌝ }
+    ensures { λ r. ⌜ First (now (t .entry)) start slot bie (high * 2 ^ 64 + low) count r ⌝ }
+{
+    if holds(&t[..], start + from * slot, bie, high, low) {
+        return from;
+    }
+    scan_from(&t[..], start, from + 1, count, slot, bie, high, low)
 }
 
 // The first of `count` slots that holds the number, from 0; count if none does. A window of each slot is looked at first.
@@ -139,6 +160,9 @@ pub fn scan(
 {
     let n = looked_at(count, room);
     let from = candidate(t, start, n, slot, bie, high, low);
+    if from >= count {
+        return count;
+    }
     scan_from(t, start, from, count, slot, bie, high, low)
 }
 

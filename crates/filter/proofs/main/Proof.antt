@@ -1,9 +1,10 @@
--- The arrays have the lengths that `run` asks.
+-- The arrays have the lengths that `run` asks, and the table is new.
 use Prim.Native.Nat.{ℕ, _<_}
 use native.Mathlib.Omega.{arith}
 use lib.ListN.{length, replicate, length-replicate}
 use lib.Dec.{lit<}
 use borrow.Author.Needs.{needs}
+use Rattle.stream.specs.Output.{newTable}
 use Rattle.filter.proofs.main.Statement.{statement}
 use Rattle.filter.proofs.main.Tie as tie
 
@@ -29,8 +30,9 @@ slice-aggregate-run-3 : tie.Need-slice-aggregate-run-3
 slice-aggregate-run-3 c = search needs
 
 run-requires : tie.Need-run-requires
+unfolding newTable
 run-requires c κs =
-    (c .before .before .before .before .before .before .before .classes .ensures, longer 65536 64 (lit< tt), omega (arith, c .before .before .before .before .before .make .kept .1 .0, length-replicate {A = ℕ} 19617 0), longer 65536 79 (lit< tt))
+    (c .before .before .before .before .before .before .before .classes .ensures, longer 65536 64 (lit< tt), omega (arith, c .before .before .before .before .before .make .kept .1 .0, length-replicate {A = ℕ} 19617 0), longer 65536 79 (lit< tt), c .before .before .before .before .before .make .ensures .1)
 
 returns : tie.Need-returns
 returns c = search needs

@@ -4,7 +4,7 @@ use mathlib.Core.List.{List, [], _++_, append-assoc, append-nil}
 use mathlib.Core.Bool.{Bool, false}
 use Prim.Native.Nat.{ℕ}
 use lib.ListN.{take}
-use Rattle.stream.specs.Output.{outputOf}
+use Rattle.stream.specs.Output.{outputOf, newTable, programOutput}
 use Rattle.stream.specs.Steps.{due}
 use Rattle.stream.specs.Run.{joined, Run, ended, read, answered}
 
@@ -16,3 +16,8 @@ whole (answered {cs = cs} {r = r} {out′ = out′} k run) = ap (λ (x : List �
 
 pub whole-output : {t : List ℕ} {cs : List (List ℕ)} {out : List ℕ} → Run t false [] cs out → out ≡ outputOf t (joined cs)
 whole-output run = whole run
+
+-- "The program": from a new table on
+pub whole-program : {cs : List (List ℕ)} {out : List ℕ} → Run newTable false [] cs out → out ≡ programOutput (joined cs)
+unfolding programOutput
+whole-program run = whole-output run

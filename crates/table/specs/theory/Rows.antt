@@ -1,7 +1,8 @@
 -- Blocks of slots: parts of them, and what their being within the bytes says of a slot.
 use mathlib.Core.Path.{_≡_, sym, ap, _∙_}
-use Prim.Native.Nat.{ℕ, zero, suc, _+_, _-_, _*_, _≤_, _<_}
+use Prim.Native.Nat.{ℕ, zero, suc, _+_, _-_, _*_, _^_, _≤_, _<_}
 use mathlib.Core.List.{List}
+use lib.ListN.{length}
 use native.Mathlib.Omega.{arith}
 use native.Mathlib.Nat.{mul-le-mul-right}
 use Rattle.bits.specs.Field.{field}
@@ -22,6 +23,16 @@ module _ (t : List ℕ) (start slot bie room : ℕ) (r : Row t start slot bie ro
         fits = r .fits;
         slim = r .slim;
       }
+
+  -- the entry of one of them is within the bytes
+  pub entry-inside : (j : ℕ) → j < room → (start + j * slot + bie ≤ 8 * length t) × (start + j * slot + bie ≤ 2 ^ 27)
+  entry-inside j h =
+      let m = mul-le-mul-right slot h in
+      (omega (arith, r .ends, r .fits), omega (arith, r .near, r .fits))
+
+-- where no slot has the bits, the first that has them is none
+pub none-first : (t : List ℕ) (at step n q count r : ℕ) → ((k : ℕ) → k < r → field t (at + k * step) n ≡ q → ⊥) → count ≤ r → First t at step n q count count
+none-first t at step n q count r before h = record { high = omega arith; before = λ k l. before k (omega arith); found = λ l. absurd (omega arith) }
 
 -- the slots behind slot 0
 behind-at : (start slot n : ℕ) → 0 < n → start + slot + (n - 1) * slot ≡ start + n * slot

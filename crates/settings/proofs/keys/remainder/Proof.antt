@@ -38,8 +38,11 @@ module _ (start : tie.Start) (k c₁ c₂ c₃ : ℕ) where
 
 returns : tie.Need-returns
 returns c =
-    let whole : c .before .before .args .high ≡ c .before .before .args .high % 2 ^ 64 = sym (mod-eq-of-lt (omega arith)) in
-    arm (c .before .before) 0 0 0 0 refl refl refl (c .before .match .keys1) (c .folded .ensures ∙ ap (λ (h : ℕ). c .before .before .args .a * (c .before .before .args .low % 2 ^ 32 + c .before .before .args .low / 2 ^ 32 * 0 + h % 2 ^ 32 * 0 + h / 2 ^ 32 * 0) + c .before .before .args .b) whole)
+    let s = c .before .before in
+    let a = s .args in
+    let whole : a .high ≡ a .high % 2 ^ 64 = sym (mod-eq-of-lt (omega arith)) in
+    let sum : ℕ → ℕ = λ h. a .a * (a .low % 2 ^ 32 + a .low / 2 ^ 32 * 0 + h % 2 ^ 32 * 0 + h / 2 ^ 32 * 0) + a .b in
+    arm s 0 0 0 0 refl refl refl (c .before .match .keys1) (c .folded .ensures ∙ ap sum whole)
 
 returns-2 : tie.Need-returns-2
 returns-2 c = arm (c .before .before) 1 1 1 1 refl refl refl (c .before .match .keys2) (c .folded2 .ensures)

@@ -1,7 +1,7 @@
 -- The slots before the candidate do not hold the number; the others are compared one by one.
 use native.Mathlib.Omega.{arith}
 use denote.Ref.{now}
-use Rattle.table.specs.theory.Rows.{fewer}
+use Rattle.table.specs.theory.Rows.{fewer, none-first}
 use borrow.Author.Needs.{needs}
 use Rattle.table.proofs.slots.scan.Statement.{statement}
 use Rattle.table.proofs.slots.scan.Tie as tie
@@ -14,20 +14,27 @@ candidate-requires c κs =
     let s = c .before .before in
     (fewer (now (s .args .t)) (s .args .start) (s .args .slot) (s .args .bie) (s .args .room) (s .pre .0) (c .looked-at .result) (c .looked-at .ensures .1), s .pre .2)
 
+returns : tie.Need-returns
+returns c =
+    let k = c .before in
+    let a = k .before .before .before .args in
+    none-first (now (a .t)) (a .start) (a .slot) (a .bie) _ (a .count) (k .candidate .result) (k .candidate .ensures .before) (omega (arith, c .if1 .taken))
+
 scan-from-requires : tie.Need-scan-from-requires
 scan-from-requires c κs =
-    let l = c .before in
+    let k = c .before in
+    let l = k .before in
     let s = l .before .before in (
       (
         fewer (now (s .args .t)) (s .args .start) (s .args .slot) (s .args .bie) (s .args .room) (s .pre .0) (s .args .count) (s .pre .1),
         s .pre .2,
-        omega (arith, c .candidate .ensures .high, l .looked-at .ensures, s .pre .0 .few),
+        omega (arith, k .candidate .ensures .high, l .looked-at .ensures, s .pre .0 .few),
       ),
-      λ k h i. c .candidate .ensures .before k h,
+      λ j h i. k .candidate .ensures .before j h,
     )
 
-returns : tie.Need-returns
-returns c = search needs
+returns-2 : tie.Need-returns-2
+returns-2 c = search needs
 
 pub scan-spec : {M : Type 1} → statement M
-scan-spec = tie.close (tie.spec looked-at-requires candidate-requires scan-from-requires returns)
+scan-spec = tie.close (tie.spec looked-at-requires candidate-requires returns scan-from-requires returns-2)

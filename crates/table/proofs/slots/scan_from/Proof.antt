@@ -2,10 +2,12 @@
 use mathlib.Core.Path.{_≡_, sym, _∙_}
 use Prim.Native.Nat.{ℕ, _+_, _-_, _*_, _^_, _≤_, _<_}
 use native.Mathlib.Omega.{arith}
-use native.Mathlib.Nat.{mul-le-mul-right}
 use borrow.Author.Count.{below-more}
 use borrow.Author.Tests.{eqb-true, eqb-false}
+use lib.ListN.{length}
+use denote.Ref.{now}
 use Rattle.bits.specs.Field.{field}
+use Rattle.table.specs.theory.Rows.{entry-inside}
 use Rattle.table.proofs.slots.scan_from.Statement.{statement}
 use Rattle.table.proofs.slots.scan_from.Tie as tie
 
@@ -16,10 +18,10 @@ Inv-loop t start from count slot bie high low j₀ j =
 abbrev μ-loop : tie.MeasureT-loop
 μ-loop t start from count slot bie high low j₀ j = count - j
 
--- a slot is within the block
+-- the entry of a slot is within the bytes
 inside : (s : tie.Start Inv-loop μ-loop) (j : ℕ) → j < s .args .count
-    → s .args .start + j * s .args .slot + s .args .slot ≤ s .args .start + s .args .count * s .args .slot
-inside s j h = omega (arith, mul-le-mul-right (s .args .slot) h)
+    → let a = s .args in (a .start + j * a .slot + a .bie ≤ 8 * length (now (a .t))) × (a .start + j * a .slot + a .bie ≤ 2 ^ 27)
+inside s = let a = s .args in entry-inside (now (a .t)) (a .start) (a .slot) (a .bie) (a .count) (s .pre .0 .0)
 
 loop-holds : tie.Need-loop-holds Inv-loop μ-loop
 loop-holds c = let s = c .before in (omega arith, s .pre .1)
@@ -28,22 +30,20 @@ mul-holds : tie.Need-mul-holds Inv-loop μ-loop
 mul-holds c =
     let m = c .before in
     let s = m .before .before in
-    omega (arith, inside s (m .loop .j) (omega arith), s .pre .0 .0 .near)
+    omega (arith, inside s (m .loop .j) (omega arith) .1)
 
 add-holds : tie.Need-add-holds Inv-loop μ-loop
 add-holds c =
     let m = c .before in
     let s = m .before .before in
-    omega (arith, inside s (m .loop .j) (omega arith), s .pre .0 .0 .near)
+    omega (arith, inside s (m .loop .j) (omega arith) .1)
 
 holds-requires : tie.Need-holds-requires Inv-loop μ-loop
 holds-requires c κs =
     let m = c .before in
     let s = m .before .before in
-    let r = s .pre .0 .0 in
     let h = inside s (m .loop .j) (omega arith) in
-    let f = r .fits in
-    (omega (arith, r .ends), omega (arith, r .near), r .wide, s .pre .0 .1)
+    (h .0, h .1, s .pre .0 .0 .wide, s .pre .0 .1)
 
 returns : tie.Need-returns Inv-loop μ-loop
 returns c =
