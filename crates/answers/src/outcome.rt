@@ -123,15 +123,15 @@ pub fn apply(op: Op, label: u32, t: &mut [u8], key: Key) -> Outcome
     let place = key.place(SETTINGS);
     let list = place.list;
     let entry = place.entry;
-    let answer = table::find_in(t, g, list.0, entry);
+    let answer = table::find_in(t, g, list, entry);
     match op {
         Op::Add => {
             if label > 255 {
                 return Outcome::Refused(Refusal::Label);
             }
-            added(insert::add_found(t, g, list.0, answer, entry, label))
+            added(insert::add_found(t, g, list, answer, entry, label))
         }
-        Op::Delete => deleted(remove::delete_found(t, g, list.0, answer, entry)),
+        Op::Delete => deleted(remove::delete_found(t, g, list, answer, entry)),
         Op::Find => found(answer),
     }
 }

@@ -17,10 +17,14 @@ abbrev pub found : Bool → List ℕ → Option (List ℕ)
 found true m = some m
 found false m = none
 
+-- block c comes next
+abbrev pub further : ℕ → Step
+further c = Further (record { 0 = c })
+
 -- after a block whose step is s: the marks are m, or what `on` says of the next block
 abbrev pub goOn : Step → List ℕ → (ℕ → Option (List ℕ)) → Option (List ℕ)
 goOn Last m on = some m
-goOn (Further c) m on = on c
+goOn (Further c) m on = on (c .0)
 goOn Broken m on = none
 
 module _ (g : Layout) where
@@ -28,11 +32,11 @@ module _ (g : Layout) where
   unfoldable pub listStep : List Overflow → ℕ → Step
   listStep os b =
       cond (ltb (overflowAt os b .counter) (g .sio)) (cond (overflowUnused g os b) Last Broken)
-      (cond (eqb (overflowAt os b .counter) (g .sio)) (Further (overflowAt os b .link)) Broken)
+      (cond (eqb (overflowAt os b .counter) (g .sio)) (further (overflowAt os b .link)) Broken)
 
   -- a block of the free chain: "counters and slots of free blocks, are zero", "The last free block links to itself"
   unfoldable pub chainStep : List Overflow → ℕ → Step
-  chainStep os b = cond (freeZero g os b) (cond (eqb (overflowAt os b .link) b) Last (Further (overflowAt os b .link))) Broken
+  chainStep os b = cond (freeZero g os b) (cond (eqb (overflowAt os b .link) b) Last (further (overflowAt os b .link))) Broken
 
   unfoldable pub stepOf : List Overflow → Bool → ℕ → Step
   stepOf os chain b = cond chain (chainStep os b) (listStep os b)

@@ -1,7 +1,9 @@
 // "no entry twice in a list": each entry is looked for among those before it in its block, and in the
 // blocks that follow.
+use settings::BlockNumber;
 use settings::Key;
 use settings::Layout;
+use settings::SlotNumber;
 use table::blocks::overflow_counter;
 use table::blocks::overflow_front;
 use table::blocks::overflow_link;
@@ -82,10 +84,10 @@ fn scan_run(
     slot: usize,
     bie: usize,
     entry: Key,
-) -> usize
+) -> SlotNumber
     requires { ⌜ Row (now t) start slot bie count × (keyNumber entry < 2 ^ bie) ⌝ }
     requires { ⌜ (start + link ≤ 8 * length (now t)) × (link ≤ 16) × (head < 2 ^ link) ⌝ }
-    ensures { λ r. ⌜ First (putField (now (t .entry)) start link head) start slot bie (keyNumber entry) count r ⌝ }
+    ensures { λ r. ⌜ First (putField (now (t .entry)) start link head) start slot bie (keyNumber entry) count (r .0) ⌝ }
 {
     if link == 0 {
         return scan(
@@ -114,33 +116,33 @@ fn scan_run(
 }
 
 // The block after block b in its list; nob, which is no block, if b is the last.
-fn next_block(t: &[u8], g: Layout, b: usize) -> usize
-    requires { ⌜ Table g (now t) × (b < g .nob) ⌝ }
-    ensures { λ r. ⌜ r ≡ nextOf g (decode g (now (t .entry)) .overflow) b ⌝ }
+fn next_block(t: &[u8], g: Layout, b: BlockNumber) -> BlockNumber
+    requires { ⌜ Table g (now t) × (b .0 < g .nob) ⌝ }
+    ensures { λ r. ⌜ r .0 ≡ nextOf g (decode g (now (t .entry)) .overflow) (b .0) ⌝ }
 {
     if overflow_counter(t, g, b) == g.sio {
-        return overflow_link(t, g, b);
+        return BlockNumber(overflow_link(t, g, b));
     }
-    g.nob
+    BlockNumber(g.nob)
 }
 
 // The slots in use in block b.
-fn run_of(t: &[u8], g: Layout, b: usize) -> Slots
-    requires { ⌜ Table g (now t) × (b < g .nob) ⌝ }
-    ensures { λ r. ⌜ r ≡ runOf g (decode g (now (t .entry)) .overflow) b ⌝ }
+fn run_of(t: &[u8], g: Layout, b: BlockNumber) -> Slots
+    requires { ⌜ Table g (now t) × (b .0 < g .nob) ⌝ }
+    ensures { λ r. ⌜ r ≡ runOf g (decode g (now (t .entry)) .overflow) (b .0) ⌝ }
 {
     overflow_run(g, b, least(overflow_counter(t, g, b), g.sio))
 }
 
 // Whether the entry stands in the blocks from first on, of which at most `most` are followed.
-fn held_from(t: &[u8], g: Layout, first: usize, most: usize, entry: Key) -> bool
+fn held_from(t: &[u8], g: Layout, first: BlockNumber, most: usize, entry: Key) -> bool
     requires { ⌜ Table g (now t) × (keyNumber entry < 2 ^ g .bie) ⌝ }
-    ensures { λ r. ⌜ r ≡ hasEntry g (keyNumber entry) (slotsFrom g most (decode g (now (t .entry)) .overflow) first) ⌝ }
+    ensures { λ r. ⌜ r ≡ hasEntry g (keyNumber entry) (slotsFrom g most (decode g (now (t .entry)) .overflow) (first .0)) ⌝ }
 {
     let mut b = first;
     let mut left = most;
     while left > 0 {
-        if b >= g.nob {
+        if b.0 >= g.nob {
             return false;
         }
         let front = overflow_front(t, g, b);
@@ -155,13 +157,13 @@ fn held_from(t: &[u8], g: Layout, first: usize, most: usize, entry: Key) -> bool
             entry.high,
             entry.low,
         );
-        if j < run.count {
+        if j.0 < run.count {
             return true;
         }
         b = if front.counter == g.sio {
-            front.link
+            BlockNumber(front.link)
         } else {
-            g.nob
+            BlockNumber(g.nob)
         };
         left -= 1;
     }
@@ -170,15 +172,15 @@ fn held_from(t: &[u8], g: Layout, first: usize, most: usize, entry: Key) -> bool
 
 // Whether each of the slots has an entry that stands neither in the slots before it nor in the blocks
 // from `next` on.
-pub fn slots_apart(t: &[u8], g: Layout, b: Slots, next: usize, most: usize) -> bool
+pub fn slots_apart(t: &[u8], g: Layout, b: Slots, next: BlockNumber, most: usize) -> bool
     requires { ⌜ Table g (now t) × Run g (now t) b ⌝ }
-    ensures { λ r. ⌜ r ≡ everyBelow (b .count) (alone g (slotsIn g (now (t .entry)) b) (slotsFrom g most (decode g (now (t .entry)) .overflow) next)) ⌝ }
+    ensures { λ r. ⌜ r ≡ everyBelow (b .count) (alone g (slotsIn g (now (t .entry)) b) (slotsFrom g most (decode g (now (t .entry)) .overflow) (next .0))) ⌝ }
 {
     let mut at = b.start;
     let mut j: usize = 0;
     while j < b.count {
         let entry = entry_at(t, b, at, g.bie);
-        if scan_run(&t[..], b.start, j, b.link, b.head, g.slot, g.bie, entry) < j {
+        if scan_run(&t[..], b.start, j, b.link, b.head, g.slot, g.bie, entry).0 < j {
             return false;
         }
         if held_from(&t[..], g, next, most, entry) {
@@ -191,14 +193,14 @@ pub fn slots_apart(t: &[u8], g: Layout, b: Slots, next: usize, most: usize) -> b
 }
 
 // Whether no entry stands twice in the blocks from first on.
-pub fn blocks_apart(t: &[u8], g: Layout, first: usize) -> bool
+pub fn blocks_apart(t: &[u8], g: Layout, first: BlockNumber) -> bool
     requires { ⌜ Table g (now t) ⌝ }
-    ensures { λ r. ⌜ r ≡ noEntryTwice g (slotsFrom g (g .nob) (decode g (now (t .entry)) .overflow) first) ⌝ }
+    ensures { λ r. ⌜ r ≡ noEntryTwice g (slotsFrom g (g .nob) (decode g (now (t .entry)) .overflow) (first .0)) ⌝ }
 {
     let mut b = first;
     let mut left = g.nob;
     while left > 0 {
-        if b >= g.nob {
+        if b.0 >= g.nob {
             return true;
         }
         left -= 1;

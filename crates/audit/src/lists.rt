@@ -3,12 +3,15 @@ use crate::bytes::zeros_after;
 use crate::entries::blocks_apart;
 use crate::entries::slots_apart;
 use crate::walk::mark_from;
+use settings::BlockNumber;
 use settings::Layout;
+use settings::ListNumber;
 use table::blocks::basic_counter;
 use table::blocks::basic_head;
 use table::blocks::basic_slots;
 use table::blocks::free_start;
 use table::blocks::overflow_link;
+use table::lists::Last;
 use table::lists::basic_run;
 use table::lists::displaced_run;
 use table::lists::follow;
@@ -22,26 +25,25 @@ ghost use Rattle.audit.specs.Walk.{found};
 ghost use Rattle.audit.specs.Lists.{shortSound, longApart, listWalk, listsWalk, chainWalk};
 
 // List i, whose n entries are all in its basic block: the other slots are zero, no entry stands twice.
-fn short_sound(t: &[u8], g: Layout, i: usize, n: usize) -> bool
-    requires { ⌜ Table g (now t) × (i < g .lists) × (n ≡ basicAt (decode g (now t) .basic) i .counter) × (n ≤ g .sib) ⌝ }
-    ensures { λ r. ⌜ r ≡ shortSound g (basicAt (decode g (now (t .entry)) .basic) i) ⌝ }
+fn short_sound(t: &[u8], g: Layout, i: ListNumber, n: usize) -> bool
+    requires { ⌜ Table g (now t) × (i .0 < g .lists) × (n ≡ basicAt (decode g (now t) .basic) (i .0) .counter) × (n ≤ g .sib) ⌝ }
+    ensures { λ r. ⌜ r ≡ shortSound g (basicAt (decode g (now (t .entry)) .basic) (i .0)) ⌝ }
 {
     if !zeros_after(t, basic_slots(g, i), g.slot, n, g.sib) {
         return false;
     }
-    slots_apart(t, g, basic_run(g, i, n), g.nob, 0)
+    slots_apart(t, g, basic_run(g, i, n), BlockNumber(g.nob), 0)
 }
 
 // The entries of list i, which overflows.
-fn long_apart(t: &[u8], g: Layout, i: usize) -> bool
-    requires { ⌜ Table g (now t) × (i < g .lists) ⌝ }
-    ensures { λ r. ⌜ r ≡ longApart g (decode g (now (t .entry)) .overflow) (basicAt (decode g (now (t .entry)) .basic) i) ⌝ }
+fn long_apart(t: &[u8], g: Layout, i: ListNumber) -> bool
+    requires { ⌜ Table g (now t) × (i .0 < g .lists) ⌝ }
+    ensures { λ r. ⌜ r ≡ longApart g (decode g (now (t .entry)) .overflow) (basicAt (decode g (now (t .entry)) .basic) (i .0)) ⌝ }
 {
-    let first = basic_head(t, g, i);
-    let last = follow(t, g, first);
-    if last >= g.nob {
+    let first = BlockNumber(basic_head(t, g, i));
+    let Last::Block(last) = follow(t, g, first) else {
         return false;
-    }
+    };
     let run = displaced_run(g, i, overflow_link(t, g, last));
     if !slots_apart(t, g, run, first, g.nob) {
         return false;
@@ -50,9 +52,9 @@ fn long_apart(t: &[u8], g: Layout, i: usize) -> bool
 }
 
 // List i, whose blocks are marked.
-fn list_sound(t: &[u8], g: Layout, i: usize, marks: &mut [u8]) -> bool
-    requires { ⌜ Table g (now t) × (i < g .lists) × (g .nob ≤ 8 * length (now marks)) ⌝ }
-    ensures { λ r. ⌜ listWalk g (decode g (now (t .entry)) .overflow) (basicAt (decode g (now (t .entry)) .basic) i) (now (marks .entry)) ≡ found r (now (marks .exit)) ⌝ }
+fn list_sound(t: &[u8], g: Layout, i: ListNumber, marks: &mut [u8]) -> bool
+    requires { ⌜ Table g (now t) × (i .0 < g .lists) × (g .nob ≤ 8 * length (now marks)) ⌝ }
+    ensures { λ r. ⌜ listWalk g (decode g (now (t .entry)) .overflow) (basicAt (decode g (now (t .entry)) .basic) (i .0)) (now (marks .entry)) ≡ found r (now (marks .exit)) ⌝ }
 {
     let n = basic_counter(t, g, i);
     if n <= g.sib {
@@ -61,7 +63,7 @@ fn list_sound(t: &[u8], g: Layout, i: usize, marks: &mut [u8]) -> bool
     if n != g.sib + 1 {
         return false;
     }
-    let first = basic_head(t, g, i);
+    let first = BlockNumber(basic_head(t, g, i));
     if !mark_from(t, g, false, first, marks) {
         return false;
     }
@@ -74,7 +76,7 @@ pub fn lists_sound(t: &[u8], g: Layout, marks: &mut [u8]) -> bool
 {
     let mut i: usize = 0;
     while i < g.lists {
-        if !list_sound(t, g, i, marks) {
+        if !list_sound(t, g, ListNumber(i), marks) {
             return false;
         }
         i += 1;
@@ -89,7 +91,7 @@ pub fn chain_sound(t: &[u8], g: Layout, marks: &mut [u8]) -> bool
 {
     let first = free_start(t, g);
     let none = g.nob;
-    if first == none {
+    if first.0 == none {
         return true;
     }
     mark_from(t, g, true, first, marks)

@@ -1,5 +1,6 @@
 // What a block of a list, or of the free chain, says of the way on.
 use crate::bytes::zeros_after;
+use settings::BlockNumber;
 use settings::Layout;
 use table::blocks::overflow_counter;
 use table::blocks::overflow_link;
@@ -13,18 +14,18 @@ ghost use Rattle.audit.specs.Walk.{listStep, chainStep, stepOf};
 // The end, the block that comes next, or something that a sound table has not.
 pub enum Step {
     Last,
-    Further(usize),
+    Further(BlockNumber),
     Broken,
 }
 
 // Block b in a list.
-fn list_step(t: &[u8], g: Layout, b: usize) -> Step
-    requires { ⌜ Table g (now t) × (b < g .nob) ⌝ }
-    ensures { λ r. ⌜ r ≡ listStep g (decode g (now (t .entry)) .overflow) b ⌝ }
+fn list_step(t: &[u8], g: Layout, b: BlockNumber) -> Step
+    requires { ⌜ Table g (now t) × (b .0 < g .nob) ⌝ }
+    ensures { λ r. ⌜ r ≡ listStep g (decode g (now (t .entry)) .overflow) (b .0) ⌝ }
 {
     let c = overflow_counter(t, g, b);
     if c == g.sio {
-        return Step::Further(overflow_link(t, g, b));
+        return Step::Further(BlockNumber(overflow_link(t, g, b)));
     }
     if c > g.sio {
         return Step::Broken;
@@ -36,9 +37,9 @@ fn list_step(t: &[u8], g: Layout, b: usize) -> Step
 }
 
 // Block b in the free chain.
-fn chain_step(t: &[u8], g: Layout, b: usize) -> Step
-    requires { ⌜ Table g (now t) × (b < g .nob) ⌝ }
-    ensures { λ r. ⌜ r ≡ chainStep g (decode g (now (t .entry)) .overflow) b ⌝ }
+fn chain_step(t: &[u8], g: Layout, b: BlockNumber) -> Step
+    requires { ⌜ Table g (now t) × (b .0 < g .nob) ⌝ }
+    ensures { λ r. ⌜ r ≡ chainStep g (decode g (now (t .entry)) .overflow) (b .0) ⌝ }
 {
     if overflow_counter(t, g, b) != 0 {
         return Step::Broken;
@@ -47,15 +48,15 @@ fn chain_step(t: &[u8], g: Layout, b: usize) -> Step
         return Step::Broken;
     }
     let next = overflow_link(t, g, b);
-    if next == b {
+    if next == b.0 {
         return Step::Last;
     }
-    Step::Further(next)
+    Step::Further(BlockNumber(next))
 }
 
-pub fn way_on(t: &[u8], g: Layout, chain: bool, b: usize) -> Step
-    requires { ⌜ Table g (now t) × (b < g .nob) ⌝ }
-    ensures { λ r. ⌜ r ≡ stepOf g (decode g (now (t .entry)) .overflow) chain b ⌝ }
+pub fn way_on(t: &[u8], g: Layout, chain: bool, b: BlockNumber) -> Step
+    requires { ⌜ Table g (now t) × (b .0 < g .nob) ⌝ }
+    ensures { λ r. ⌜ r ≡ stepOf g (decode g (now (t .entry)) .overflow) chain (b .0) ⌝ }
 {
     if chain {
         return chain_step(t, g, b);

@@ -1,6 +1,7 @@
 // Blocks followed one by one, each with its mark: "every overflow block exactly once".
 use crate::steps::Step;
 use crate::steps::way_on;
+use settings::BlockNumber;
 use settings::Layout;
 ghost use mathlib.Core.Path.{_≡_};
 ghost use Prim.Native.Nat.{_*_, _≤_};
@@ -11,20 +12,20 @@ ghost use Rattle.audit.specs.Walk.{stepOf, walk, found};
 
 // Marks the blocks from first to the end of the list, or of the free chain; false if there is a block
 // that is marked already, or something that a sound table has not.
-pub fn mark_from(t: &[u8], g: Layout, chain: bool, first: usize, marks: &mut [u8]) -> bool
+pub fn mark_from(t: &[u8], g: Layout, chain: bool, first: BlockNumber, marks: &mut [u8]) -> bool
     requires { ⌜ Table g (now t) × (g .nob ≤ 8 * length (now marks)) ⌝ }
-    ensures { λ r. ⌜ walk g (stepOf g (decode g (now (t .entry)) .overflow) chain) (g .nob) first (now (marks .entry)) ≡ found r (now (marks .exit)) ⌝ }
+    ensures { λ r. ⌜ walk g (stepOf g (decode g (now (t .entry)) .overflow) chain) (g .nob) (first .0) (now (marks .entry)) ≡ found r (now (marks .exit)) ⌝ }
 {
     let mut b = first;
     let mut left = g.nob;
     while left > 0 {
-        if b >= g.nob {
+        if b.0 >= g.nob {
             return false;
         }
-        if bits::get(marks, b, 1) == 1 {
+        if bits::get(marks, b.0, 1) == 1 {
             return false;
         }
-        bits::put(marks, b, 1, 1);
+        bits::put(marks, b.0, 1, 1);
         match way_on(t, g, chain, b) {
             Step::Last => return true,
             Step::Further(next) => b = next,

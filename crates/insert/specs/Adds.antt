@@ -9,6 +9,7 @@ use lib.Dec.{eqb, ltb}
 use Rattle.settings.specs.Key.{keyNumber}
 use Rattle.settings.specs.declared.settings.Settings.{Settings}
 use Rattle.settings.specs.declared.keys.Key.{Key}
+use Rattle.settings.specs.declared.keys.BlockNumber.{BlockNumber}
 use Rattle.settings.specs.declared.layout.Layout.{Layout}
 use Rattle.settings.specs.declared.refusal.Refusal.the-variants as refusal
 use Rattle.table.specs.Arrays.{padded}
@@ -31,6 +32,10 @@ use Rattle.insert.specs.declared.append.Free.the-variants as free
 abbrev pub slotFor : Layout → Item → ℕ
 slotFor g v = slotOf g (keyNumber (v .entry)) (v .label)
 
+-- block n as a block's number
+abbrev pub numbered : ℕ → BlockNumber
+numbered n = record { 0 = n }
+
 module _ (g : Layout) where
   -- the first free block and the free start once it is taken, or why there is none
   unfoldable pub freeOf : State → Free
@@ -38,7 +43,7 @@ module _ (g : Layout) where
       cond (ltb (g .nob) (st .free)) (free.Refused refusal.Damage)
       (cond (eqb (st .free) (g .nob)) (free.Refused refusal.NoBlock)
       (cond (ltb (overflowAt (st .overflow) (st .free) .link) (g .nob))
-      (free.Block (st .free) (nextFree g (st .overflow) (st .free)))
+      (free.Block (numbered (st .free)) (numbered (nextFree g (st .overflow) (st .free))))
       (free.Refused refusal.Damage)))
 
   -- whether f is one of the blocks from b on

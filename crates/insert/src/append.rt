@@ -1,7 +1,10 @@
 // A slot at the end of a list: into a block that has room, or into a block from the free chain.
+use settings::BlockNumber;
 use settings::Key;
 use settings::Layout;
+use settings::ListNumber;
 use settings::Refusal;
+use settings::SlotNumber;
 use stores::basic_slot;
 use stores::overflow_slot;
 use stores::put_basic_counter;
@@ -49,7 +52,10 @@ impl Item {
 
 // The first free block, and the free start once it is taken.
 pub enum Free {
-    Block { number: usize, next: usize },
+    Block {
+        number: BlockNumber,
+        next: BlockNumber,
+    },
     Refused(Refusal),
 }
 
@@ -59,56 +65,56 @@ fn free_block(t: &[u8], g: Layout) -> Free
     ensures { λ r. ⌜ r ≡ freeOf g (decode g (now (t .entry))) ⌝ }
 {
     let f = free_start(t, g);
-    if f > g.nob {
+    if f.0 > g.nob {
         return Free::Refused(Refusal::Damage);
     }
-    if f == g.nob {
+    if f.0 == g.nob {
         return Free::Refused(Refusal::NoBlock);
     }
     let link = overflow_link(t, g, f);
     if link >= g.nob {
         return Free::Refused(Refusal::Damage);
     }
-    if link == f {
+    if link == f.0 {
         return Free::Block {
             number: f,
-            next: g.nob,
+            next: BlockNumber(g.nob),
         };
     }
     Free::Block {
         number: f,
-        next: link,
+        next: BlockNumber(link),
     }
 }
 
 // Whether block f is one of the list's, from block `first` on.
-fn meets(t: &[u8], g: Layout, first: usize, f: usize) -> bool
-    requires { ⌜ Table g (now t) × Followed g (g .nob) (decode g (now t) .overflow) first ⌝ }
-    ensures { λ r. ⌜ r ≡ meetsFrom g (g .nob) (decode g (now (t .entry)) .overflow) first f ⌝ }
+fn meets(t: &[u8], g: Layout, first: BlockNumber, f: BlockNumber) -> bool
+    requires { ⌜ Table g (now t) × Followed g (g .nob) (decode g (now t) .overflow) (first .0) ⌝ }
+    ensures { λ r. ⌜ r ≡ meetsFrom g (g .nob) (decode g (now (t .entry)) .overflow) (first .0) (f .0) ⌝ }
 {
     let mut b = first;
     let mut q: usize = 0;
     while q < g.nob {
-        if b == f {
+        if b.0 == f.0 {
             return true;
         }
         let c = overflow_counter(t, g, b);
         if c < g.sio {
             return false;
         }
-        b = overflow_link(t, g, b);
+        b = BlockNumber(overflow_link(t, g, b));
         q += 1;
     }
     false
 }
 
 // Block f becomes a last block with one slot. The displaced bits are its link.
-fn take(t: &mut [u8], g: Layout, f: usize, displaced: usize, next: usize, v: Item)
-    requires { ⌜ Table g (now t) × (f < g .nob) × (displaced < 2 ^ g .link) × (next ≤ g .nob) × Slotted g (keyNumber (v .entry)) (v .label) ⌝ }
-    ensures { λ _. ⌜ Stored g (now (t .entry)) (now (t .exit)) (taken g (decode g (now (t .entry))) f displaced next (slotFor g v)) ⌝ }
+fn take(t: &mut [u8], g: Layout, f: BlockNumber, displaced: usize, next: BlockNumber, v: Item)
+    requires { ⌜ Table g (now t) × (f .0 < g .nob) × (displaced < 2 ^ g .link) × (next .0 ≤ g .nob) × Slotted g (keyNumber (v .entry)) (v .label) ⌝ }
+    ensures { λ _. ⌜ Stored g (now (t .entry)) (now (t .exit)) (taken g (decode g (now (t .entry))) (f .0) displaced (next .0) (slotFor g v)) ⌝ }
 {
     let entry = v.entry;
-    let slot = overflow_slot(g, f, 0);
+    let slot = overflow_slot(g, f, SlotNumber(0));
     let link_at = slot - g.link;
     renew(
         t,
@@ -123,32 +129,32 @@ fn take(t: &mut [u8], g: Layout, f: usize, displaced: usize, next: usize, v: Ite
 }
 
 // Basic block i overflows into block f.
-fn link_basic(t: &mut [u8], g: Layout, i: usize, f: usize)
-    requires { ⌜ Table g (now t) × (i < g .lists) × (f < g .nob) ⌝ }
-    ensures { λ _. ⌜ Stored g (now (t .entry)) (now (t .exit)) (overBasic i (λ b. mkBasic (suc (g .sib)) f (b .rest)) (decode g (now (t .entry)))) ⌝ }
+fn link_basic(t: &mut [u8], g: Layout, i: ListNumber, f: BlockNumber)
+    requires { ⌜ Table g (now t) × (i .0 < g .lists) × (f .0 < g .nob) ⌝ }
+    ensures { λ _. ⌜ Stored g (now (t .entry)) (now (t .exit)) (overBasic (i .0) (λ b. mkBasic (suc (g .sib)) (f .0) (b .rest)) (decode g (now (t .entry)))) ⌝ }
 {
     put_basic_counter(t, g, i, g.sib + 1);
-    put_basic_head(t, g, i, f);
+    put_basic_head(t, g, i, f.0);
 }
 
 // Overflow block j goes on in block f.
-fn link_overflow(t: &mut [u8], g: Layout, j: usize, f: usize)
-    requires { ⌜ Table g (now t) × (j < g .nob) × (f < g .nob) ⌝ }
-    ensures { λ _. ⌜ Stored g (now (t .entry)) (now (t .exit)) (overOverflow j (λ o. mkOverflow (g .sio) f (o .slots)) (decode g (now (t .entry)))) ⌝ }
+fn link_overflow(t: &mut [u8], g: Layout, j: BlockNumber, f: BlockNumber)
+    requires { ⌜ Table g (now t) × (j .0 < g .nob) × (f .0 < g .nob) ⌝ }
+    ensures { λ _. ⌜ Stored g (now (t .entry)) (now (t .exit)) (overOverflow (j .0) (λ o. mkOverflow (g .sio) (f .0) (o .slots)) (decode g (now (t .entry)))) ⌝ }
 {
     put_overflow_counter(t, g, j, g.sio);
-    put_overflow_link(t, g, j, f);
+    put_overflow_link(t, g, j, f.0);
 }
 
 // The basic block has room.
-fn append_room(t: &mut [u8], g: Layout, i: usize, c: usize, v: Item) -> AddAnswer
-    requires { ⌜ Appendable g (now t) i v × (c < g .sib) × (c ≡ basicAt (decode g (now t) .basic) i .counter) ⌝ }
-    ensures { λ r. ⌜ Appended g (now (t .entry)) (now (t .exit)) i v r ⌝ }
+fn append_room(t: &mut [u8], g: Layout, i: ListNumber, c: usize, v: Item) -> AddAnswer
+    requires { ⌜ Appendable g (now t) (i .0) v × (c < g .sib) × (c ≡ basicAt (decode g (now t) .basic) (i .0) .counter) ⌝ }
+    ensures { λ r. ⌜ Appended g (now (t .entry)) (now (t .exit)) (i .0) v r ⌝ }
 {
     let entry = v.entry;
     put_slot(
         t,
-        basic_slot(g, i, c),
+        basic_slot(g, i, SlotNumber(c)),
         g.bie,
         g.val,
         entry.high,
@@ -160,9 +166,9 @@ fn append_room(t: &mut [u8], g: Layout, i: usize, c: usize, v: Item) -> AddAnswe
 }
 
 // The basic block is full, and gets its first overflow block.
-fn append_first(t: &mut [u8], g: Layout, i: usize, v: Item) -> AddAnswer
-    requires { ⌜ Appendable g (now t) i v × (basicAt (decode g (now t) .basic) i .counter ≡ g .sib) ⌝ }
-    ensures { λ r. ⌜ Appended g (now (t .entry)) (now (t .exit)) i v r ⌝ }
+fn append_first(t: &mut [u8], g: Layout, i: ListNumber, v: Item) -> AddAnswer
+    requires { ⌜ Appendable g (now t) (i .0) v × (basicAt (decode g (now t) .basic) (i .0) .counter ≡ g .sib) ⌝ }
+    ensures { λ r. ⌜ Appended g (now (t .entry)) (now (t .exit)) (i .0) v r ⌝ }
 {
     match free_block(t, g) {
         Free::Block { number, next } => {
@@ -176,9 +182,16 @@ fn append_first(t: &mut [u8], g: Layout, i: usize, v: Item) -> AddAnswer
 }
 
 // The last block, j, is full, and a further one follows it.
-fn append_more(t: &mut [u8], g: Layout, i: usize, h: usize, j: usize, v: Item) -> AddAnswer
-    requires { ⌜ Appendable g (now t) i v × EndsIn g (decode g (now t)) i h j × (g .sio ≤ suc (overflowAt (decode g (now t) .overflow) j .counter)) ⌝ }
-    ensures { λ r. ⌜ Appended g (now (t .entry)) (now (t .exit)) i v r ⌝ }
+fn append_more(
+    t: &mut [u8],
+    g: Layout,
+    i: ListNumber,
+    h: BlockNumber,
+    j: BlockNumber,
+    v: Item,
+) -> AddAnswer
+    requires { ⌜ Appendable g (now t) (i .0) v × EndsIn g (decode g (now t)) (i .0) (h .0) (j .0) × (g .sio ≤ suc (overflowAt (decode g (now t) .overflow) (j .0) .counter)) ⌝ }
+    ensures { λ r. ⌜ Appended g (now (t .entry)) (now (t .exit)) (i .0) v r ⌝ }
 {
     match free_block(t, g) {
         Free::Block { number, next } => {
@@ -198,20 +211,20 @@ fn append_more(t: &mut [u8], g: Layout, i: usize, h: usize, j: usize, v: Item) -
 fn append_overflow(
     t: &mut [u8],
     g: Layout,
-    i: usize,
-    h: usize,
-    j: usize,
+    i: ListNumber,
+    h: BlockNumber,
+    j: BlockNumber,
     n: usize,
     v: Item,
 ) -> AddAnswer
-    requires { ⌜ Appendable g (now t) i v × EndsIn g (decode g (now t)) i h j × (n ≡ suc (overflowAt (decode g (now t) .overflow) j .counter)) ⌝ }
-    ensures { λ r. ⌜ Appended g (now (t .entry)) (now (t .exit)) i v r ⌝ }
+    requires { ⌜ Appendable g (now t) (i .0) v × EndsIn g (decode g (now t)) (i .0) (h .0) (j .0) × (n ≡ suc (overflowAt (decode g (now t) .overflow) (j .0) .counter)) ⌝ }
+    ensures { λ r. ⌜ Appended g (now (t .entry)) (now (t .exit)) (i .0) v r ⌝ }
 {
     if n < g.sio {
         let entry = v.entry;
         put_slot(
             t,
-            overflow_slot(g, j, n),
+            overflow_slot(g, j, SlotNumber(n)),
             g.bie,
             g.val,
             entry.high,
@@ -226,9 +239,9 @@ fn append_overflow(
 
 // At the end of list i, which can be followed there. All its entries were compared, so that their number says
 // whether it overflows, and where its last entry stands.
-pub fn append(t: &mut [u8], g: Layout, i: usize, v: Item) -> AddAnswer
-    requires { ⌜ Appendable g (now t) i v × Readable g (decode g (now t)) i (v .compared) ⌝ }
-    ensures { λ r. ⌜ Appended g (now (t .entry)) (now (t .exit)) i v r ⌝ }
+pub fn append(t: &mut [u8], g: Layout, i: ListNumber, v: Item) -> AddAnswer
+    requires { ⌜ Appendable g (now t) (i .0) v × Readable g (decode g (now t)) (i .0) (v .compared) ⌝ }
+    ensures { λ r. ⌜ Appended g (now (t .entry)) (now (t .exit)) (i .0) v r ⌝ }
 {
     let c = v.compared as usize;
     if c < g.sib {
@@ -237,7 +250,7 @@ pub fn append(t: &mut [u8], g: Layout, i: usize, v: Item) -> AddAnswer
     if c == g.sib {
         return append_first(t, g, i, v);
     }
-    let h = basic_head(t, g, i);
+    let h = BlockNumber(basic_head(t, g, i));
     let last = spot_of(t, g, h, c - g.sib - 1);
-    append_overflow(t, g, i, h, last.block, last.slot + 1, v)
+    append_overflow(t, g, i, h, last.block, last.slot.0 + 1, v)
 }

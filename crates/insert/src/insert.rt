@@ -4,6 +4,7 @@ use crate::append::append;
 use settings::Key;
 use settings::Laid;
 use settings::Layout;
+use settings::ListNumber;
 use settings::Refusal;
 use settings::Settings;
 use table::AddAnswer;
@@ -34,13 +35,13 @@ fn held(label: u32, compared: u32) -> AddAnswer
 pub fn add_found(
     t: &mut [u8],
     g: Layout,
-    i: usize,
+    i: ListNumber,
     found: FindAnswer,
     entry: Key,
     label: u32,
 ) -> AddAnswer
-    requires { ⌜ Table g (now t) × (i < g .lists) × Slotted g (keyNumber entry) label × (found ≡ findIn g (decode g (now t)) i (keyNumber entry)) ⌝ }
-    ensures { λ r. ⌜ Added g (now (t .entry)) (now (t .exit)) i (keyNumber entry) label r ⌝ }
+    requires { ⌜ Table g (now t) × (i .0 < g .lists) × Slotted g (keyNumber entry) label × (found ≡ findIn g (decode g (now t)) (i .0) (keyNumber entry)) ⌝ }
+    ensures { λ r. ⌜ Added g (now (t .entry)) (now (t .exit)) (i .0) (keyNumber entry) label r ⌝ }
 {
     match found {
         FindAnswer::Held {
@@ -103,8 +104,8 @@ pub fn add(s: Settings, t: &mut [u8], key: Key, label: u64) -> AddAnswer
             let place = key.place(s);
             let list = place.list;
             let entry = place.entry;
-            let found = find_in(t, g, list.0, entry);
-            let said = add_found(t, g, list.0, found, entry, label as u32);
+            let found = find_in(t, g, list, entry);
+            let said = add_found(t, g, list, found, entry, label as u32);
             with_label(said, label as u32)
         }
         Laid::Refused(why) => AddAnswer::Refused(why),

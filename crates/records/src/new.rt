@@ -1,10 +1,11 @@
 // A new table in lent bytes: zeros, and the free blocks in one chain.
+use settings::BlockNumber;
 use settings::Laid;
 use settings::Layout;
 use settings::Refusal;
 use settings::Settings;
 use table::MakeAnswer;
-use table::blocks::block_at;
+use table::blocks::link_at;
 ghost use mathlib.Core.Path.{_≡_};
 ghost use mathlib.Core.List.{_++_};
 ghost use Prim.Native.Nat.{_^_, _≤_, _<_};
@@ -52,32 +53,27 @@ fn link_free(t: &mut [u8], g: Layout)
 {
     let mut j: usize = 0;
     while j < g.nob {
-        put_link(t, g, j, free_link(g, j));
+        put_link(t, g, BlockNumber(j), free_link(g, BlockNumber(j)));
         j += 1;
     }
 }
 
 // The link of block j in the chain: "The last free block links to itself."
-fn free_link(g: Layout, j: usize) -> usize
-    requires { ⌜ j < g .nob ⌝ }
-    ensures { λ r. ⌜ r ≡ newOverflow g j .link ⌝ }
+fn free_link(g: Layout, j: BlockNumber) -> BlockNumber
+    requires { ⌜ j .0 < g .nob ⌝ }
+    ensures { λ r. ⌜ r .0 ≡ newOverflow g (j .0) .link ⌝ }
 {
-    let next = j + 1;
+    let next = j.0 + 1;
     if next == g.nob {
         return j;
     }
-    next
+    BlockNumber(next)
 }
 
 // The link of overflow block j becomes v.
-pub fn put_link(t: &mut [u8], g: Layout, j: usize, v: usize)
-    requires { ⌜ Table g (now t) × (j < g .nob) × (v < 2 ^ g .link) ⌝ }
-    ensures { λ _. ⌜ now (t .exit) ≡ putField (now (t .entry)) (linkAt g j) (g .link) v ⌝ }
+pub fn put_link(t: &mut [u8], g: Layout, j: BlockNumber, v: BlockNumber)
+    requires { ⌜ Table g (now t) × (j .0 < g .nob) × (v .0 < 2 ^ g .link) ⌝ }
+    ensures { λ _. ⌜ now (t .exit) ≡ putField (now (t .entry)) (linkAt g (j .0)) (g .link) (v .0) ⌝ }
 {
-    bits::put(
-        t,
-        block_at(g.overflow, j) + g.overflow.counter,
-        g.link,
-        v as u64,
-    );
+    bits::put(t, link_at(g, j), g.link, v.0 as u64);
 }

@@ -1,4 +1,5 @@
 // Record: the nth record of the table.
+use settings::BlockNumber;
 use settings::Key;
 use settings::Laid;
 use settings::Layout;
@@ -6,11 +7,13 @@ use settings::ListNumber;
 use settings::Place;
 use settings::Refusal;
 use settings::Settings;
+use settings::SlotNumber;
 use table::RecordAnswer;
 use table::blocks::basic_counter;
 use table::blocks::basic_head;
 use table::blocks::overflow_counter;
 use table::blocks::overflow_link;
+use table::lists::Last;
 use table::lists::basic_run;
 use table::lists::displaced_run;
 use table::lists::follow;
@@ -67,8 +70,8 @@ pub fn record_in(s: Settings, t: &[u8], g: Layout, n: u64) -> RecordAnswer
     let mut i: usize = 0;
     let mut m = n;
     while i < g.lists {
-        match nth_in(t, g, i, m) {
-            Nth::Slot { entry, label } => return found(s, i, entry, label),
+        match nth_in(t, g, ListNumber(i), m) {
+            Nth::Slot { entry, label } => return found(s, ListNumber(i), entry, label),
             Nth::Past(left) => m = left,
             Nth::Damage => return RecordAnswer::Refused(Refusal::Damage),
         }
@@ -78,12 +81,12 @@ pub fn record_in(s: Settings, t: &[u8], g: Layout, n: u64) -> RecordAnswer
 }
 
 // The record of an entry in list i.
-fn found(s: Settings, i: usize, entry: Key, label: u32) -> RecordAnswer
-    requires { ⌜ Legal s × (i < 2 ^ s .bii) × (keyNumber entry < 2 ^ bie s) ⌝ }
-    ensures { λ r. ⌜ r ≡ answer.Record (keyOf (rebuilt s i (keyNumber entry))) label ⌝ }
+fn found(s: Settings, i: ListNumber, entry: Key, label: u32) -> RecordAnswer
+    requires { ⌜ Legal s × (i .0 < 2 ^ s .bii) × (keyNumber entry < 2 ^ bie s) ⌝ }
+    ensures { λ r. ⌜ r ≡ answer.Record (keyOf (rebuilt s (i .0) (keyNumber entry))) label ⌝ }
 {
     let place = Place {
-        list: ListNumber(i),
+        list: i,
         entry: entry,
     };
     RecordAnswer::Record {
@@ -93,9 +96,9 @@ fn found(s: Settings, i: usize, entry: Key, label: u32) -> RecordAnswer
 }
 
 // Entry n of list i, which is followed to its end before anything is read.
-fn nth_in(t: &[u8], g: Layout, i: usize, n: u64) -> Nth
-    requires { ⌜ Table g (now t) × (i < g .lists) ⌝ }
-    ensures { λ r. ⌜ (r ≡ nthIn g (content g (decode g (now (t .entry))) i) n) × Bounded g r ⌝ }
+fn nth_in(t: &[u8], g: Layout, i: ListNumber, n: u64) -> Nth
+    requires { ⌜ Table g (now t) × (i .0 < g .lists) ⌝ }
+    ensures { λ r. ⌜ (r ≡ nthIn g (content g (decode g (now (t .entry))) (i .0)) n) × Bounded g r ⌝ }
 {
     let c = basic_counter(t, g, i);
     if c <= g.sib {
@@ -104,18 +107,17 @@ fn nth_in(t: &[u8], g: Layout, i: usize, n: u64) -> Nth
     if c > g.sib + 1 {
         return Nth::Damage;
     }
-    nth_long(t, g, i, basic_head(t, g, i), n)
+    nth_long(t, g, i, BlockNumber(basic_head(t, g, i)), n)
 }
 
 // Entry n of list i, whose overflow blocks start at `first`.
-fn nth_long(t: &[u8], g: Layout, i: usize, first: usize, n: u64) -> Nth
-    requires { ⌜ Table g (now t) × (i < g .lists) × Overflows g (decode g (now t)) i first ⌝ }
-    ensures { λ r. ⌜ (r ≡ nthIn g (content g (decode g (now (t .entry))) i) n) × Bounded g r ⌝ }
+fn nth_long(t: &[u8], g: Layout, i: ListNumber, first: BlockNumber, n: u64) -> Nth
+    requires { ⌜ Table g (now t) × (i .0 < g .lists) × Overflows g (decode g (now t)) (i .0) (first .0) ⌝ }
+    ensures { λ r. ⌜ (r ≡ nthIn g (content g (decode g (now (t .entry))) (i .0)) n) × Bounded g r ⌝ }
 {
-    let last = follow(t, g, first);
-    if last >= g.nob {
+    let Last::Block(last) = follow(t, g, first) else {
         return Nth::Damage;
-    }
+    };
     let sib = g.sib as u64;
     if n < sib {
         return nth_of(t, g, displaced_run(g, i, overflow_link(t, g, last)), n);
@@ -124,9 +126,9 @@ fn nth_long(t: &[u8], g: Layout, i: usize, first: usize, n: u64) -> Nth
 }
 
 // Entry n of the overflow blocks from `first` on, where following them met no damage.
-fn nth_blocks(t: &[u8], g: Layout, first: usize, n: u64) -> Nth
-    requires { ⌜ Table g (now t) × Followed g (g .nob) (decode g (now t) .overflow) first ⌝ }
-    ensures { λ r. ⌜ (r ≡ nthOf g (gatherFrom g (g .nob) (decode g (now (t .entry)) .overflow) first) n) × Bounded g r ⌝ }
+fn nth_blocks(t: &[u8], g: Layout, first: BlockNumber, n: u64) -> Nth
+    requires { ⌜ Table g (now t) × Followed g (g .nob) (decode g (now t) .overflow) (first .0) ⌝ }
+    ensures { λ r. ⌜ (r ≡ nthOf g (gatherFrom g (g .nob) (decode g (now (t .entry)) .overflow) (first .0)) n) × Bounded g r ⌝ }
 {
     let mut b = first;
     let mut m = n;
@@ -142,7 +144,7 @@ fn nth_blocks(t: &[u8], g: Layout, first: usize, n: u64) -> Nth
         if c < g.sio {
             return Nth::Past(m);
         }
-        b = overflow_link(t, g, b);
+        b = BlockNumber(overflow_link(t, g, b));
         q += 1;
     }
     Nth::Past(m)
@@ -157,7 +159,7 @@ fn nth_of(t: &[u8], g: Layout, b: Slots, n: u64) -> Nth
     if n >= count {
         return Nth::Past(n - count);
     }
-    let j = n as usize;
+    let j = SlotNumber(n as usize);
     Nth::Slot {
         entry: entry_in(t, g, b, j),
         label: label_in(t, g, b, j),
@@ -165,11 +167,11 @@ fn nth_of(t: &[u8], g: Layout, b: Slots, n: u64) -> Nth
 }
 
 // The entry in slot j.
-fn entry_in(t: &[u8], g: Layout, b: Slots, j: usize) -> Key
-    requires { ⌜ Proper g × Run g (now t) b × (j < b .count) ⌝ }
-    ensures { λ r. ⌜ r ≡ keyOf (entryOf g (getD (slotsIn g (now (t .entry)) b) j 0)) ⌝ }
+fn entry_in(t: &[u8], g: Layout, b: Slots, j: SlotNumber) -> Key
+    requires { ⌜ Proper g × Run g (now t) b × (j .0 < b .count) ⌝ }
+    ensures { λ r. ⌜ r ≡ keyOf (entryOf g (getD (slotsIn g (now (t .entry)) b) (j .0) 0)) ⌝ }
 {
-    seen_key(t, b, b.start + j * g.slot, g.bie)
+    seen_key(t, b, b.start + j.0 * g.slot, g.bie)
 }
 
 // The field of n bits from bit `at` on, where the first bits of the slots are what they count as.

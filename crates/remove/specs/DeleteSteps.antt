@@ -27,11 +27,15 @@ pub record Movable (g : Layout) (from : ℕ) : Type 0 where
   pub behind : g .overflow .start ≤ from
   pub ends : from + g .slot ≤ g .bits
 
+-- block l and the block p before it
+abbrev pub end : ℕ → ℕ → End
+end l p = record { last = record { 0 = l }; before = record { 0 = p } }
+
 module _ (g : Layout) where
   -- the last of the blocks, and the one before it; p if there is no other
   abbrev pub endIn : ℕ → List ℕ → End
-  endIn p [] = record { last = g .nob; before = p }
-  endIn p (c ∷ cs) = record { last = lastOf c cs; before = prevOf p c cs }
+  endIn p [] = end (g .nob) p
+  endIn p (c ∷ cs) = end (lastOf c cs) (prevOf p c cs)
 
   -- ---- the last slot off
 
@@ -77,7 +81,7 @@ module _ (g : Layout) where
       (set (st .overflow) l (mkOverflow (o .counter) (headOf g body) (o .slots)))
 
   abbrev pub pokeSpot : Spot → ℕ → State → State
-  pokeSpot s x = overOverflow (s .block) (λ o. mkOverflow (o .counter) (o .link) (set (o .slots) (s .slot) x))
+  pokeSpot s x = overOverflow (s .block .0) (λ o. mkOverflow (o .counter) (o .link) (set (o .slots) (s .slot .0) x))
 
   -- the slot x into place p of list i, whose overflow blocks go from h to l
   unfoldable pub pokeAt : ℕ → ℕ → ℕ → ℕ → ℕ → State → State

@@ -1,5 +1,8 @@
 // A slot moved into another place of its list.
+use settings::BlockNumber;
 use settings::Layout;
+use settings::ListNumber;
+use settings::SlotNumber;
 use stores::basic_slot;
 use stores::copy;
 use stores::overflow_slot;
@@ -17,9 +20,9 @@ ghost use Rattle.remove.specs.DeleteSteps.{Movable, pokeBasic, pokeAt, P
 
 // The slot at bit `from` into slot p of basic block i, which overflows to block l: what the displaced bits are now
 // goes to the link of block l.
-fn poke_basic(t: &mut [u8], g: Layout, i: usize, l: usize, p: usize, from: usize)
-    requires { ⌜ Table g (now t) × (i < g .lists) × (l < g .nob) × (p < g .sib) × Movable g from ⌝ }
-    ensures { λ _. ⌜ Stored g (now (t .entry)) (now (t .exit)) (pokeBasic g i l p (field (now (t .entry)) from (g .slot)) (decode g (now (t .entry)))) ⌝ }
+fn poke_basic(t: &mut [u8], g: Layout, i: ListNumber, l: BlockNumber, p: SlotNumber, from: usize)
+    requires { ⌜ Table g (now t) × (i .0 < g .lists) × (l .0 < g .nob) × (p .0 < g .sib) × Movable g from ⌝ }
+    ensures { λ _. ⌜ Stored g (now (t .entry)) (now (t .exit)) (pokeBasic g (i .0) (l .0) (p .0) (field (now (t .entry)) from (g .slot)) (decode g (now (t .entry)))) ⌝ }
 {
     let old = overflow_link(t, g, l);
     let base = basic_slots(g, i);
@@ -31,12 +34,20 @@ fn poke_basic(t: &mut [u8], g: Layout, i: usize, l: usize, p: usize, from: usize
 }
 
 // The slot at bit `from` into place p of list i, whose overflow blocks go from h to l.
-pub fn poke(t: &mut [u8], g: Layout, i: usize, h: usize, l: usize, p: usize, from: usize)
-    requires { ⌜ Table g (now t) × Pokable g (decode g (now t)) i h l p × Movable g from ⌝ }
-    ensures { λ _. ⌜ Stored g (now (t .entry)) (now (t .exit)) (pokeAt g i h l p (field (now (t .entry)) from (g .slot)) (decode g (now (t .entry)))) ⌝ }
+pub fn poke(
+    t: &mut [u8],
+    g: Layout,
+    i: ListNumber,
+    h: BlockNumber,
+    l: BlockNumber,
+    p: usize,
+    from: usize,
+)
+    requires { ⌜ Table g (now t) × Pokable g (decode g (now t)) (i .0) (h .0) (l .0) p × Movable g from ⌝ }
+    ensures { λ _. ⌜ Stored g (now (t .entry)) (now (t .exit)) (pokeAt g (i .0) (h .0) (l .0) p (field (now (t .entry)) from (g .slot)) (decode g (now (t .entry)))) ⌝ }
 {
     if p < g.sib {
-        poke_basic(t, g, i, l, p, from);
+        poke_basic(t, g, i, l, SlotNumber(p), from);
         return;
     }
     let s = spot_of(t, g, h, p - g.sib);

@@ -4,11 +4,14 @@ use crate::poke::poke;
 use crate::shrink::end_of;
 use crate::shrink::shrink;
 use crate::shrink::stuck;
+use settings::BlockNumber;
 use settings::Key;
 use settings::Laid;
 use settings::Layout;
+use settings::ListNumber;
 use settings::Refusal;
 use settings::Settings;
+use settings::SlotNumber;
 use stores::basic_slot;
 use stores::clear;
 use stores::copy;
@@ -30,12 +33,12 @@ ghost use Rattle.table.specs.Table.{Table};
 ghost use Rattle.remove.specs.DeleteSteps.{Placed, Removed, Deleted, DeleteCall};
 
 // Place p of list i, which has c slots in use and no overflow blocks.
-fn remove_short(t: &mut [u8], g: Layout, i: usize, c: usize, p: usize) -> bool
-    requires { ⌜ Table g (now t) × (i < g .lists) × Placed g (decode g (now t)) i p × (c ≡ basicAt (decode g (now t) .basic) i .counter) × (c ≤ g .sib) × (p < c) ⌝ }
-    ensures { λ r. ⌜ Removed g (now (t .entry)) (now (t .exit)) i p r ⌝ }
+fn remove_short(t: &mut [u8], g: Layout, i: ListNumber, c: usize, p: usize) -> bool
+    requires { ⌜ Table g (now t) × (i .0 < g .lists) × Placed g (decode g (now t)) (i .0) p × (c ≡ basicAt (decode g (now t) .basic) (i .0) .counter) × (c ≤ g .sib) × (p < c) ⌝ }
+    ensures { λ r. ⌜ Removed g (now (t .entry)) (now (t .exit)) (i .0) p r ⌝ }
 {
-    let last = basic_slot(g, i, c - 1);
-    let hole = basic_slot(g, i, p);
+    let last = basic_slot(g, i, SlotNumber(c - 1));
+    let hole = basic_slot(g, i, SlotNumber(p));
     if hole != last {
         copy(t, last, hole, g.slot);
     }
@@ -46,26 +49,34 @@ fn remove_short(t: &mut [u8], g: Layout, i: usize, c: usize, p: usize) -> bool
 
 // Place p of list i, which overflows. Whether the last block can be freed is known before the first
 // store: a refusal changes nothing.
-fn remove_long(t: &mut [u8], g: Layout, i: usize, p: usize) -> bool
-    requires { ⌜ Table g (now t) × (i < g .lists) × Placed g (decode g (now t)) i p × (g .sib < basicAt (decode g (now t) .basic) i .counter) ⌝ }
-    ensures { λ r. ⌜ Removed g (now (t .entry)) (now (t .exit)) i p r ⌝ }
+fn remove_long(t: &mut [u8], g: Layout, i: ListNumber, p: usize) -> bool
+    requires { ⌜ Table g (now t) × (i .0 < g .lists) × Placed g (decode g (now t)) (i .0) p × (g .sib < basicAt (decode g (now t) .basic) (i .0) .counter) ⌝ }
+    ensures { λ r. ⌜ Removed g (now (t .entry)) (now (t .exit)) (i .0) p r ⌝ }
 {
-    let first = basic_head(t, g, i);
+    let first = BlockNumber(basic_head(t, g, i));
     let end = end_of(t, g, first);
     let last = end.last;
     let n = overflow_counter(t, g, last);
     if stuck(t, g, n) {
         return false;
     }
-    poke(t, g, i, first, last, p, overflow_slot(g, last, n));
+    poke(
+        t,
+        g,
+        i,
+        first,
+        last,
+        p,
+        overflow_slot(g, last, SlotNumber(n)),
+    );
     shrink(t, g, i, last, end.before, n);
     true
 }
 
 // Place p of list i: whether nothing prevents it.
-fn remove(t: &mut [u8], g: Layout, i: usize, p: usize) -> bool
-    requires { ⌜ Table g (now t) × (i < g .lists) × Placed g (decode g (now t)) i p ⌝ }
-    ensures { λ r. ⌜ Removed g (now (t .entry)) (now (t .exit)) i p r ⌝ }
+fn remove(t: &mut [u8], g: Layout, i: ListNumber, p: usize) -> bool
+    requires { ⌜ Table g (now t) × (i .0 < g .lists) × Placed g (decode g (now t)) (i .0) p ⌝ }
+    ensures { λ r. ⌜ Removed g (now (t .entry)) (now (t .exit)) (i .0) p r ⌝ }
 {
     let c = basic_counter(t, g, i);
     if c <= g.sib {
@@ -79,12 +90,12 @@ fn remove(t: &mut [u8], g: Layout, i: usize, p: usize) -> bool
 pub fn delete_found(
     t: &mut [u8],
     g: Layout,
-    i: usize,
+    i: ListNumber,
     found: FindAnswer,
     entry: Key,
 ) -> DeleteAnswer
-    requires { ⌜ Table g (now t) × (i < g .lists) × (keyNumber entry < 2 ^ g .bie) × (found ≡ findIn g (decode g (now t)) i (keyNumber entry)) ⌝ }
-    ensures { λ r. ⌜ Deleted g (now (t .entry)) (now (t .exit)) i (keyNumber entry) r ⌝ }
+    requires { ⌜ Table g (now t) × (i .0 < g .lists) × (keyNumber entry < 2 ^ g .bie) × (found ≡ findIn g (decode g (now t)) (i .0) (keyNumber entry)) ⌝ }
+    ensures { λ r. ⌜ Deleted g (now (t .entry)) (now (t .exit)) (i .0) (keyNumber entry) r ⌝ }
 {
     match found {
         FindAnswer::Held { label, compared } => {
@@ -116,8 +127,8 @@ pub fn delete(s: Settings, t: &mut [u8], key: Key) -> DeleteAnswer
             let place = key.place(s);
             let list = place.list;
             let entry = place.entry;
-            let found = find_in(t, g, list.0, entry);
-            delete_found(t, g, list.0, found, entry)
+            let found = find_in(t, g, list, entry);
+            delete_found(t, g, list, found, entry)
         }
         Laid::Refused(why) => DeleteAnswer::Refused(why),
     }

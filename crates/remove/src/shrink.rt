@@ -1,5 +1,8 @@
 // The last slot of an overflowing list off, and its block freed if that was its only one.
+use settings::BlockNumber;
 use settings::Layout;
+use settings::ListNumber;
+use settings::SlotNumber;
 use stores::clear;
 use stores::overflow_slot;
 use stores::put_basic_counter;
@@ -24,17 +27,17 @@ ghost use Rattle.remove.specs.DeleteSteps.{endIn, clipped, released, shr
 
 // The last block of a list, and the one before it; nob, which is no block, if there is none.
 pub struct End {
-    pub last: usize,
-    pub before: usize,
+    pub last: BlockNumber,
+    pub before: BlockNumber,
 }
 
 // The end of the list whose overflow blocks start at `first`.
-pub fn end_of(t: &[u8], g: Layout, first: usize) -> End
-    requires { ⌜ Table g (now t) × Followed g (g .nob) (decode g (now t) .overflow) first ⌝ }
-    ensures { λ r. ⌜ r ≡ endIn g (g .nob) (blocksFrom g (decode g (now (t .entry)) .overflow) first) ⌝ }
+pub fn end_of(t: &[u8], g: Layout, first: BlockNumber) -> End
+    requires { ⌜ Table g (now t) × Followed g (g .nob) (decode g (now t) .overflow) (first .0) ⌝ }
+    ensures { λ r. ⌜ r ≡ endIn g (g .nob) (blocksFrom g (decode g (now (t .entry)) .overflow) (first .0)) ⌝ }
 {
     let mut b = first;
-    let mut before = g.nob;
+    let mut before = BlockNumber(g.nob);
     let mut k: usize = 0;
     while k < g.nob {
         let c = overflow_counter(t, g, b);
@@ -42,7 +45,7 @@ pub fn end_of(t: &[u8], g: Layout, first: usize) -> End
             return End { last: b, before };
         }
         before = b;
-        b = overflow_link(t, g, b);
+        b = BlockNumber(overflow_link(t, g, b));
         k += 1;
     }
     End { last: b, before }
@@ -56,76 +59,83 @@ pub fn stuck(t: &[u8], g: Layout, n: usize) -> bool
     if n > 0 {
         return false;
     }
-    free_start(t, g) > g.nob
+    free_start(t, g).0 > g.nob
 }
 
 // The last slot of block j off, whose counter is n.
-fn clip(t: &mut [u8], g: Layout, j: usize, n: usize)
-    requires { ⌜ Table g (now t) × (j < g .nob) × (0 < n) × (n < g .sio) × (n ≡ overflowAt (decode g (now t) .overflow) j .counter) ⌝ }
-    ensures { λ _. ⌜ Stored g (now (t .entry)) (now (t .exit)) (clipped g j (decode g (now (t .entry)))) ⌝ }
+fn clip(t: &mut [u8], g: Layout, j: BlockNumber, n: usize)
+    requires { ⌜ Table g (now t) × (j .0 < g .nob) × (0 < n) × (n < g .sio) × (n ≡ overflowAt (decode g (now t) .overflow) (j .0) .counter) ⌝ }
+    ensures { λ _. ⌜ Stored g (now (t .entry)) (now (t .exit)) (clipped g (j .0) (decode g (now (t .entry)))) ⌝ }
 {
     put_overflow_counter(t, g, j, n - 1);
-    clear(t, overflow_slot(g, j, n), g.slot);
+    clear(t, overflow_slot(g, j, SlotNumber(n)), g.slot);
 }
 
 // The counter of basic block i and the first L bits of its slots become n and h.
-pub fn set_basic(t: &mut [u8], g: Layout, i: usize, n: usize, h: usize)
-    requires { ⌜ Table g (now t) × (i < g .lists) × (n ≤ suc (g .sib)) × (h < 2 ^ g .link) ⌝ }
-    ensures { λ _. ⌜ Stored g (now (t .entry)) (now (t .exit)) (overBasic i (λ b. mkBasic n h (b .rest)) (decode g (now (t .entry)))) ⌝ }
+pub fn set_basic(t: &mut [u8], g: Layout, i: ListNumber, n: usize, h: usize)
+    requires { ⌜ Table g (now t) × (i .0 < g .lists) × (n ≤ suc (g .sib)) × (h < 2 ^ g .link) ⌝ }
+    ensures { λ _. ⌜ Stored g (now (t .entry)) (now (t .exit)) (overBasic (i .0) (λ b. mkBasic n h (b .rest)) (decode g (now (t .entry)))) ⌝ }
 {
     put_basic_counter(t, g, i, n);
     put_basic_head(t, g, i, h);
 }
 
 // The counter and the link of overflow block j become n and l.
-pub fn set_overflow(t: &mut [u8], g: Layout, j: usize, n: usize, l: usize)
-    requires { ⌜ Table g (now t) × (j < g .nob) × (n ≤ g .sio) × (l < 2 ^ g .link) ⌝ }
-    ensures { λ _. ⌜ Stored g (now (t .entry)) (now (t .exit)) (overOverflow j (λ o. mkOverflow n l (o .slots)) (decode g (now (t .entry)))) ⌝ }
+pub fn set_overflow(t: &mut [u8], g: Layout, j: BlockNumber, n: usize, l: usize)
+    requires { ⌜ Table g (now t) × (j .0 < g .nob) × (n ≤ g .sio) × (l < 2 ^ g .link) ⌝ }
+    ensures { λ _. ⌜ Stored g (now (t .entry)) (now (t .exit)) (overOverflow (j .0) (λ o. mkOverflow n l (o .slots)) (decode g (now (t .entry)))) ⌝ }
 {
     put_overflow_counter(t, g, j, n);
     put_overflow_link(t, g, j, l);
 }
 
 // The link of block j at the front of a free chain that starts at f. "The last free block links to itself".
-fn link_free(g: Layout, f: usize, j: usize) -> usize
-    ensures { λ r. ⌜ r ≡ linkFree g f j ⌝ }
+fn link_free(g: Layout, f: BlockNumber, j: BlockNumber) -> BlockNumber
+    ensures { λ r. ⌜ r .0 ≡ linkFree g (f .0) (j .0) ⌝ }
 {
-    if f == g.nob {
+    if f.0 == g.nob {
         return j;
     }
     f
 }
 
 // "An emptied overflow block goes to the front of the free chain."
-fn release(t: &mut [u8], g: Layout, j: usize)
-    requires { ⌜ Table g (now t) × (j < g .nob) × (decode g (now t) .free ≤ g .nob) ⌝ }
-    ensures { λ _. ⌜ Stored g (now (t .entry)) (now (t .exit)) (released g j (decode g (now (t .entry)))) ⌝ }
+fn release(t: &mut [u8], g: Layout, j: BlockNumber)
+    requires { ⌜ Table g (now t) × (j .0 < g .nob) × (decode g (now t) .free ≤ g .nob) ⌝ }
+    ensures { λ _. ⌜ Stored g (now (t .entry)) (now (t .exit)) (released g (j .0) (decode g (now (t .entry)))) ⌝ }
 {
     let f = free_start(t, g);
-    let link_at = overflow_slot(g, j, 0) - g.link;
+    let link_at = overflow_slot(g, j, SlotNumber(0)) - g.link;
     renew(
         t,
         link_at - g.overflow.counter,
         g.overflow.bits,
         link_at,
         g.link,
-        link_free(g, f, j),
+        link_free(g, f, j).0,
     );
     put_free_start(t, g, j);
 }
 
 // The last slot off, where the last block's counter is n. An emptied block hands the displaced bits, its link, to the
 // block before it, or back to the basic block.
-pub fn shrink(t: &mut [u8], g: Layout, i: usize, last: usize, before: usize, n: usize)
-    requires { ⌜ Table g (now t) × (i < g .lists) × Shrinkable g (decode g (now t)) last × (n ≡ overflowAt (decode g (now t) .overflow) last .counter) ⌝ }
-    ensures { λ _. ⌜ Stored g (now (t .entry)) (now (t .exit)) (shrinkAt g i last before (decode g (now (t .entry)))) ⌝ }
+pub fn shrink(
+    t: &mut [u8],
+    g: Layout,
+    i: ListNumber,
+    last: BlockNumber,
+    before: BlockNumber,
+    n: usize,
+)
+    requires { ⌜ Table g (now t) × (i .0 < g .lists) × Shrinkable g (decode g (now t)) (last .0) × (n ≡ overflowAt (decode g (now t) .overflow) (last .0) .counter) ⌝ }
+    ensures { λ _. ⌜ Stored g (now (t .entry)) (now (t .exit)) (shrinkAt g (i .0) (last .0) (before .0) (decode g (now (t .entry)))) ⌝ }
 {
     if n > 0 {
         clip(t, g, last, n);
         return;
     }
     let link = overflow_link(t, g, last);
-    if before < g.nob {
+    if before.0 < g.nob {
         set_overflow(t, g, before, g.sio - 1, link);
     } else {
         set_basic(t, g, i, g.sib, link);

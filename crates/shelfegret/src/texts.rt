@@ -34,10 +34,10 @@ pub extern "C" fn shelfegret_add_text(s: Settings, t: &mut [u8], text: &[u8], la
                 let place = key.place(s);
                 let list = place.list;
                 let entry = place.entry;
-                let answer = table::find_in(t, g, list.0, entry);
+                let answer = table::find_in(t, g, list, entry);
                 added(
                     key,
-                    insert::add_found(t, g, list.0, answer, entry, label as u32),
+                    insert::add_found(t, g, list, answer, entry, label as u32),
                 )
             }
             Parsed::Refused(why) => refused(why),
@@ -56,7 +56,7 @@ pub extern "C" fn shelfegret_find_text(s: Settings, t: &[u8], text: &[u8]) -> An
             Parsed::Key(key) => {
                 let place = key.place(s);
                 let list = place.list;
-                found(key, table::find_in(t, g, list.0, place.entry))
+                found(key, table::find_in(t, g, list, place.entry))
             }
             Parsed::Refused(why) => refused(why),
         },
@@ -75,8 +75,8 @@ pub extern "C" fn shelfegret_delete_text(s: Settings, t: &mut [u8], text: &[u8])
                 let place = key.place(s);
                 let list = place.list;
                 let entry = place.entry;
-                let answer = table::find_in(t, g, list.0, entry);
-                deleted(key, remove::delete_found(t, g, list.0, answer, entry))
+                let answer = table::find_in(t, g, list, entry);
+                deleted(key, remove::delete_found(t, g, list, answer, entry))
             }
             Parsed::Refused(why) => refused(why),
         },

@@ -1,6 +1,9 @@
 // Stores into a table: a counter, a link, the free start, a slot, zeros.
 use bits::pow;
+use settings::BlockNumber;
 use settings::Layout;
+use settings::ListNumber;
+use settings::SlotNumber;
 use table::blocks::basic_slots;
 use table::blocks::overflow_slots;
 ghost use mathlib.Core.Path.{_≡_};
@@ -13,60 +16,61 @@ ghost use Rattle.settings.specs.Proper.{Proper};
 ghost use Rattle.table.specs.Table.{Table};
 ghost use Rattle.stores.specs.Stores.{Poked, basicSlot, overflowSlot, freePut, basicCounterPut, headPut, overflowCounterPut, linkPut};
 
-pub fn put_free_start(t: &mut [u8], g: Layout, f: usize)
-    requires { ⌜ Table g (now t) × (f < 2 ^ g .basic .start) ⌝ }
-    ensures { λ _. ⌜ now (t .exit) ≡ freePut g (now (t .entry)) f ⌝ }
+pub fn put_free_start(t: &mut [u8], g: Layout, f: BlockNumber)
+    requires { ⌜ Table g (now t) × (f .0 < 2 ^ g .basic .start) ⌝ }
+    ensures { λ _. ⌜ now (t .exit) ≡ freePut g (now (t .entry)) (f .0) ⌝ }
 {
-    bits::put(t, 0, g.basic.start, f as u64);
+    bits::put(t, 0, g.basic.start, f.0 as u64);
 }
 
-pub fn put_basic_counter(t: &mut [u8], g: Layout, i: usize, n: usize)
-    requires { ⌜ Table g (now t) × (i < g .lists) × (n < 2 ^ g .basic .counter) ⌝ }
-    ensures { λ _. ⌜ now (t .exit) ≡ basicCounterPut g (now (t .entry)) i n ⌝ }
+pub fn put_basic_counter(t: &mut [u8], g: Layout, i: ListNumber, n: usize)
+    requires { ⌜ Table g (now t) × (i .0 < g .lists) × (n < 2 ^ g .basic .counter) ⌝ }
+    ensures { λ _. ⌜ now (t .exit) ≡ basicCounterPut g (now (t .entry)) (i .0) n ⌝ }
 {
     let at = basic_slots(g, i) - g.basic.counter;
     bits::put_short(t, at, g.basic.counter, n as u64);
 }
 
-// The first L bits of the slots of basic block i become h.
-pub fn put_basic_head(t: &mut [u8], g: Layout, i: usize, h: usize)
-    requires { ⌜ Table g (now t) × (i < g .lists) × (h < 2 ^ g .link) ⌝ }
-    ensures { λ _. ⌜ now (t .exit) ≡ headPut g (now (t .entry)) i h ⌝ }
+// The first L bits of the slots of basic block i become h, a block's number or the bits that it displaced.
+pub fn put_basic_head(t: &mut [u8], g: Layout, i: ListNumber, h: usize)
+    requires { ⌜ Table g (now t) × (i .0 < g .lists) × (h < 2 ^ g .link) ⌝ }
+    ensures { λ _. ⌜ now (t .exit) ≡ headPut g (now (t .entry)) (i .0) h ⌝ }
 {
     let at = basic_slots(g, i);
     bits::put(t, at, g.link, h as u64);
 }
 
-pub fn put_overflow_counter(t: &mut [u8], g: Layout, j: usize, n: usize)
-    requires { ⌜ Table g (now t) × (j < g .nob) × (n < 2 ^ g .overflow .counter) ⌝ }
-    ensures { λ _. ⌜ now (t .exit) ≡ overflowCounterPut g (now (t .entry)) j n ⌝ }
+pub fn put_overflow_counter(t: &mut [u8], g: Layout, j: BlockNumber, n: usize)
+    requires { ⌜ Table g (now t) × (j .0 < g .nob) × (n < 2 ^ g .overflow .counter) ⌝ }
+    ensures { λ _. ⌜ now (t .exit) ≡ overflowCounterPut g (now (t .entry)) (j .0) n ⌝ }
 {
     let at = overflow_slots(g, j) - (g.overflow.counter + g.link);
     bits::put_short(t, at, g.overflow.counter, n as u64);
 }
 
-pub fn put_overflow_link(t: &mut [u8], g: Layout, j: usize, l: usize)
-    requires { ⌜ Table g (now t) × (j < g .nob) × (l < 2 ^ g .link) ⌝ }
-    ensures { λ _. ⌜ now (t .exit) ≡ linkPut g (now (t .entry)) j l ⌝ }
+// The link of overflow block j becomes l, a block's number or displaced bits.
+pub fn put_overflow_link(t: &mut [u8], g: Layout, j: BlockNumber, l: usize)
+    requires { ⌜ Table g (now t) × (j .0 < g .nob) × (l < 2 ^ g .link) ⌝ }
+    ensures { λ _. ⌜ now (t .exit) ≡ linkPut g (now (t .entry)) (j .0) l ⌝ }
 {
     let at = overflow_slots(g, j) - g.link;
     bits::put(t, at, g.link, l as u64);
 }
 
 // Where slot p of basic block i begins.
-pub fn basic_slot(g: Layout, i: usize, p: usize) -> usize
-    requires { ⌜ Proper g × (i < g .lists) × (p < g .sib) ⌝ }
-    ensures { λ r. ⌜ r ≡ basicSlot g i p ⌝ }
+pub fn basic_slot(g: Layout, i: ListNumber, p: SlotNumber) -> usize
+    requires { ⌜ Proper g × (i .0 < g .lists) × (p .0 < g .sib) ⌝ }
+    ensures { λ r. ⌜ r ≡ basicSlot g (i .0) (p .0) ⌝ }
 {
-    basic_slots(g, i) + p * g.slot
+    basic_slots(g, i) + p.0 * g.slot
 }
 
 // Where slot p of overflow block j begins.
-pub fn overflow_slot(g: Layout, j: usize, p: usize) -> usize
-    requires { ⌜ Proper g × (j < g .nob) × (p < g .sio) ⌝ }
-    ensures { λ r. ⌜ r ≡ overflowSlot g j p ⌝ }
+pub fn overflow_slot(g: Layout, j: BlockNumber, p: SlotNumber) -> usize
+    requires { ⌜ Proper g × (j .0 < g .nob) × (p .0 < g .sio) ⌝ }
+    ensures { λ r. ⌜ r ≡ overflowSlot g (j .0) (p .0) ⌝ }
 {
-    overflow_slots(g, j) + p * g.slot
+    overflow_slots(g, j) + p.0 * g.slot
 }
 
 // A slot's bits above its low 64: high, and the bits of low that val label bits push out.

@@ -16,6 +16,10 @@ abbrev pub blocksIn : Option (List ℕ) → List ℕ
 blocksIn none = []
 blocksIn (some bs) = bs
 
+-- slot q of block b
+abbrev pub spot : ℕ → ℕ → Spot
+spot b q = record { block = record { 0 = b }; slot = record { 0 = q } }
+
 module _ (g : Layout) where
   -- the list's overflow blocks from block b on
   unfoldable pub blocksFrom : List Overflow → ℕ → List ℕ
@@ -23,8 +27,8 @@ module _ (g : Layout) where
 
   -- place q of the blocks, counted through them
   abbrev pub spotIn : List ℕ → ℕ → Spot
-  spotIn [] q = record { block = g .nob; slot = q }
-  spotIn (b ∷ bs) q = cond (ltb q (g .sio)) (record { block = b; slot = q }) (spotIn bs (q - g .sio))
+  spotIn [] q = spot (g .nob) q
+  spotIn (b ∷ bs) q = cond (ltb q (g .sio)) (spot b q) (spotIn bs (q - g .sio))
 
   -- the list that goes on at block b has an end, and place q is in it
   pub record Reaches (os : List Overflow) (b q : ℕ) : Type 0 where

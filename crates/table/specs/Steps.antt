@@ -4,6 +4,7 @@ use Prim.Native.Nat.{ℕ, suc, _+_, _*_, _^_, _≤_, _<_, min}
 use mathlib.Core.Bool.{cond}
 use mathlib.Core.List.{List, [], _∷_}
 use mathlib.Core.Option.{Option, none, some}
+use lib.Dec.{ltb}
 use lib.ListN.{length}
 use Rattle.bits.specs.Field.{field}
 use Rattle.bits.specs.Put.{putField}
@@ -14,6 +15,8 @@ use Rattle.table.specs.Decode.{basicSlots, overflowSlots}
 use Rattle.table.specs.Follow.{lastOf, follow, gather}
 use Rattle.table.specs.Find.{position, isHeld, labelAt}
 use Rattle.table.specs.declared.slots.Slots.{Slots}
+use Rattle.table.specs.declared.lists.Last.{Last}
+use Rattle.table.specs.declared.lists.Last.the-variants as last
 use Rattle.table.specs.declared.answers.FindAnswer.{FindAnswer}
 use Rattle.table.specs.declared.answers.FindAnswer.the-variants as found
 
@@ -72,6 +75,10 @@ module _ (g : Layout) where
   -- the last block of the list that goes on at block b, where at most n blocks are followed
   unfoldable pub lastFrom : ℕ → List Overflow → ℕ → ℕ
   lastFrom n os b = lastIn (follow g n os b)
+
+  -- block b as a list's last; nob and above is no block
+  unfoldable pub lastAs : ℕ → Last
+  lastAs b = cond (ltb b (g .nob)) (last.Block (record { 0 = b })) last.Damage
 
   -- the list that goes on at block b has an end
   pub record Followed (n : ℕ) (os : List Overflow) (b : ℕ) : Type 0 where

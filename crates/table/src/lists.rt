@@ -5,44 +5,53 @@ use crate::blocks::overflow_link;
 use crate::blocks::overflow_slots;
 use crate::slots::Slots;
 use crate::slots::least;
+use settings::BlockNumber;
 use settings::Layout;
+use settings::ListNumber;
+use settings::SlotNumber;
 ghost use mathlib.Core.Path.{_≡_};
 ghost use Prim.Native.Nat.{_<_, _≤_};
 ghost use Rattle.settings.specs.Proper.{Proper};
 ghost use Rattle.table.specs.Decode.{decode};
 ghost use Rattle.table.specs.Table.{Table};
 ghost use Rattle.table.specs.Spots.{blocksFrom, spotIn, Reaches};
-ghost use Rattle.table.specs.Steps.{lastFrom, basicRun, displacedRun, overflowRun};
+ghost use Rattle.table.specs.Steps.{lastFrom, lastAs, basicRun, displacedRun, overflowRun};
 
-// The last block of the list whose overflow blocks start at `first`; nob, which is no block, if there
-// is damage. At most nob blocks are followed, so that it ends on any bytes.
-pub fn follow(t: &[u8], g: Layout, first: usize) -> usize
+// Where a list ends: in its last overflow block, or nowhere, if there is damage.
+pub enum Last {
+    Block(BlockNumber),
+    Damage,
+}
+
+// The last block of the list whose overflow blocks start at `first`. At most nob blocks are followed, so
+// that it ends on any bytes.
+pub fn follow(t: &[u8], g: Layout, first: BlockNumber) -> Last
     requires { ⌜ Table g (now t) ⌝ }
-    ensures { λ r. ⌜ r ≡ lastFrom g (g .nob) (decode g (now (t .entry)) .overflow) first ⌝ }
+    ensures { λ r. ⌜ r ≡ lastAs g (lastFrom g (g .nob) (decode g (now (t .entry)) .overflow) (first .0)) ⌝ }
 {
     let mut b = first;
     let mut k: usize = 0;
     while k < g.nob {
-        if b >= g.nob {
-            return g.nob;
+        if b.0 >= g.nob {
+            return Last::Damage;
         }
         let front = overflow_front(t, g, b);
         if front.counter < g.sio {
-            return b;
+            return Last::Block(b);
         }
         if front.counter > g.sio {
-            return g.nob;
+            return Last::Damage;
         }
-        b = front.link;
+        b = BlockNumber(front.link);
         k += 1;
     }
-    g.nob
+    Last::Damage
 }
 
 // The first n slots of basic block i, as they stand: those of a list that has no overflow blocks.
-pub fn basic_run(g: Layout, i: usize, n: usize) -> Slots
-    requires { ⌜ Proper g × (i < g .lists) ⌝ }
-    ensures { λ r. ⌜ r ≡ basicRun g i n ⌝ }
+pub fn basic_run(g: Layout, i: ListNumber, n: usize) -> Slots
+    requires { ⌜ Proper g × (i .0 < g .lists) ⌝ }
+    ensures { λ r. ⌜ r ≡ basicRun g (i .0) n ⌝ }
 {
     Slots {
         start: basic_slots(g, i),
@@ -53,9 +62,9 @@ pub fn basic_run(g: Layout, i: usize, n: usize) -> Slots
 }
 
 // The slots of basic block i, whose first L bits count as h: those of a list that has overflow blocks.
-pub fn displaced_run(g: Layout, i: usize, h: usize) -> Slots
-    requires { ⌜ Proper g × (i < g .lists) ⌝ }
-    ensures { λ r. ⌜ r ≡ displacedRun g i h ⌝ }
+pub fn displaced_run(g: Layout, i: ListNumber, h: usize) -> Slots
+    requires { ⌜ Proper g × (i .0 < g .lists) ⌝ }
+    ensures { λ r. ⌜ r ≡ displacedRun g (i .0) h ⌝ }
 {
     Slots {
         start: basic_slots(g, i),
@@ -66,9 +75,9 @@ pub fn displaced_run(g: Layout, i: usize, h: usize) -> Slots
 }
 
 // The slots in use of overflow block j, whose counter is c. "Counter c below sio means c + 1 entries".
-pub fn overflow_run(g: Layout, j: usize, c: usize) -> Slots
-    requires { ⌜ Proper g × (j < g .nob) × (c ≤ g .sio) ⌝ }
-    ensures { λ r. ⌜ r ≡ overflowRun g j c ⌝ }
+pub fn overflow_run(g: Layout, j: BlockNumber, c: usize) -> Slots
+    requires { ⌜ Proper g × (j .0 < g .nob) × (c ≤ g .sio) ⌝ }
+    ensures { λ r. ⌜ r ≡ overflowRun g (j .0) c ⌝ }
 {
     Slots {
         start: overflow_slots(g, j),
@@ -80,20 +89,23 @@ pub fn overflow_run(g: Layout, j: usize, c: usize) -> Slots
 
 // A place in an overflow block.
 pub struct Spot {
-    pub block: usize,
-    pub slot: usize,
+    pub block: BlockNumber,
+    pub slot: SlotNumber,
 }
 
 // Place p of the overflow blocks from `first` on.
-pub fn spot_of(t: &[u8], g: Layout, first: usize, p: usize) -> Spot
-    requires { ⌜ Table g (now t) × Reaches g (decode g (now t) .overflow) first p ⌝ }
-    ensures { λ r. ⌜ r ≡ spotIn g (blocksFrom g (decode g (now (t .entry)) .overflow) first) p ⌝ }
+pub fn spot_of(t: &[u8], g: Layout, first: BlockNumber, p: usize) -> Spot
+    requires { ⌜ Table g (now t) × Reaches g (decode g (now t) .overflow) (first .0) p ⌝ }
+    ensures { λ r. ⌜ r ≡ spotIn g (blocksFrom g (decode g (now (t .entry)) .overflow) (first .0)) p ⌝ }
 {
     let mut b = first;
     let mut q = p;
     while q >= g.sio {
-        b = overflow_link(t, g, b);
+        b = BlockNumber(overflow_link(t, g, b));
         q -= g.sio;
     }
-    Spot { block: b, slot: q }
+    Spot {
+        block: b,
+        slot: SlotNumber(q),
+    }
 }

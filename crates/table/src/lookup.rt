@@ -4,6 +4,7 @@ use crate::blocks::basic_front;
 use crate::blocks::basic_slots;
 use crate::blocks::overflow_front;
 use crate::blocks::overflow_link;
+use crate::lists::Last;
 use crate::lists::displaced_run;
 use crate::lists::follow;
 use crate::lists::overflow_run;
@@ -12,11 +13,14 @@ use crate::slots::label_at;
 use crate::slots::looked_at;
 use crate::slots::scan;
 use crate::slots::scan_displaced;
+use settings::BlockNumber;
 use settings::Key;
 use settings::Laid;
 use settings::Layout;
+use settings::ListNumber;
 use settings::Refusal;
 use settings::Settings;
+use settings::SlotNumber;
 use windows::candidate;
 ghost use mathlib.Core.Path.{_≡_};
 ghost use Prim.Native.Nat.{_+_, _*_, _^_, _≤_, _<_};
@@ -43,9 +47,9 @@ fn held(t: &[u8], at: usize, val: usize, n: usize) -> FindAnswer
 
 // The entry in the overflow blocks from `first` on, where following them met no damage and k slots
 // stand before them.
-fn find_blocks(t: &[u8], g: Layout, first: usize, entry: Key, k: usize) -> FindAnswer
-    requires { ⌜ Table g (now t) × Followed g (g .nob) (decode g (now t) .overflow) first × (keyNumber entry < 2 ^ g .bie) × (k ≤ 255) ⌝ }
-    ensures { λ r. ⌜ r ≡ findFrom g (keyNumber entry) (gatherFrom g (g .nob) (decode g (now (t .entry)) .overflow) first) k ⌝ }
+fn find_blocks(t: &[u8], g: Layout, first: BlockNumber, entry: Key, k: usize) -> FindAnswer
+    requires { ⌜ Table g (now t) × Followed g (g .nob) (decode g (now t) .overflow) (first .0) × (keyNumber entry < 2 ^ g .bie) × (k ≤ 255) ⌝ }
+    ensures { λ r. ⌜ r ≡ findFrom g (keyNumber entry) (gatherFrom g (g .nob) (decode g (now (t .entry)) .overflow) (first .0)) k ⌝ }
 {
     let mut b = first;
     let mut n = k;
@@ -63,14 +67,14 @@ fn find_blocks(t: &[u8], g: Layout, first: usize, entry: Key, k: usize) -> FindA
             entry.high,
             entry.low,
         );
-        if j < run.count {
-            return held(t, run.start + j * g.slot + g.bie, g.val, n + (j + 1));
+        if j.0 < run.count {
+            return held(t, run.start + j.0 * g.slot + g.bie, g.val, n + (j.0 + 1));
         }
         n += run.count;
         if front.counter < g.sio {
             return FindAnswer::None { compared: n as u32 };
         }
-        b = front.link;
+        b = BlockNumber(front.link);
         q += 1;
     }
     FindAnswer::None { compared: n as u32 }
@@ -78,14 +82,14 @@ fn find_blocks(t: &[u8], g: Layout, first: usize, entry: Key, k: usize) -> FindA
 
 // The entry in the first slots of a basic block, which are all of the list. Its steps are those of `scan`, taken apart:
 // a miss ends before anything is kept that only a hit needs.
-fn find_short(t: &[u8], g: Layout, i: usize, count: usize, entry: Key) -> FindAnswer
-    requires { ⌜ Table g (now t) × (i < g .lists) × (count ≤ g .sib) × (keyNumber entry < 2 ^ g .bie) ⌝ }
-    ensures { λ r. ⌜ r ≡ findFrom g (keyNumber entry) (slotsIn g (now (t .entry)) (basicRun g i count)) 0 ⌝ }
+fn find_short(t: &[u8], g: Layout, i: ListNumber, count: usize, entry: Key) -> FindAnswer
+    requires { ⌜ Table g (now t) × (i .0 < g .lists) × (count ≤ g .sib) × (keyNumber entry < 2 ^ g .bie) ⌝ }
+    ensures { λ r. ⌜ r ≡ findFrom g (keyNumber entry) (slotsIn g (now (t .entry)) (basicRun g (i .0) count)) 0 ⌝ }
 {
     let start = basic_slots(g, i);
     let n = looked_at(count, g.sib);
-    let from = candidate(&t[..], start, n, g.slot, g.bie, entry.high, entry.low);
-    if from >= count {
+    let from = SlotNumber(candidate(&t[..], start, n, g.slot, g.bie, entry.high, entry.low));
+    if from.0 >= count {
         return FindAnswer::None {
             compared: count as u32,
         };
@@ -100,22 +104,23 @@ fn find_short(t: &[u8], g: Layout, i: usize, count: usize, entry: Key) -> FindAn
         entry.high,
         entry.low,
     );
-    if j < count {
-        return held(t, start + j * g.slot + g.bie, g.val, j + 1);
+    if j.0 < count {
+        return held(t, start + j.0 * g.slot + g.bie, g.val, j.0 + 1);
     }
-    FindAnswer::None { compared: j as u32 }
+    FindAnswer::None {
+        compared: j.0 as u32,
+    }
 }
 
 // The entry in list i, whose overflow blocks start at `first`. They are followed to the last before
 // anything is compared: its link has the first bits of the basic block's slots.
-fn find_long(t: &[u8], g: Layout, i: usize, first: usize, entry: Key) -> FindAnswer
-    requires { ⌜ Table g (now t) × (i < g .lists) × Overflows g (decode g (now t)) i first × (keyNumber entry < 2 ^ g .bie) ⌝ }
-    ensures { λ r. ⌜ r ≡ findIn g (decode g (now (t .entry))) i (keyNumber entry) ⌝ }
+fn find_long(t: &[u8], g: Layout, i: ListNumber, first: BlockNumber, entry: Key) -> FindAnswer
+    requires { ⌜ Table g (now t) × (i .0 < g .lists) × Overflows g (decode g (now t)) (i .0) (first .0) × (keyNumber entry < 2 ^ g .bie) ⌝ }
+    ensures { λ r. ⌜ r ≡ findIn g (decode g (now (t .entry))) (i .0) (keyNumber entry) ⌝ }
 {
-    let last = follow(t, g, first);
-    if last >= g.nob {
+    let Last::Block(last) = follow(t, g, first) else {
         return FindAnswer::Refused(Refusal::Damage);
-    }
+    };
     let displaced = overflow_link(t, g, last);
     let run = displaced_run(g, i, displaced);
     let j = scan_displaced(
@@ -130,19 +135,19 @@ fn find_long(t: &[u8], g: Layout, i: usize, first: usize, entry: Key) -> FindAns
         entry.high,
         entry.low,
     );
-    if j < g.sib {
+    if j.0 < g.sib {
         return FindAnswer::Held {
-            label: label_at(t, run, run.start + j * g.slot + g.bie, g.val),
-            compared: (j + 1) as u32,
+            label: label_at(t, run, run.start + j.0 * g.slot + g.bie, g.val),
+            compared: (j.0 + 1) as u32,
         };
     }
     find_blocks(t, g, first, entry, g.sib)
 }
 
 // The entry in list i. "Counter 0 to sib counts entries; sib + 1 means overflow."
-pub fn find_in(t: &[u8], g: Layout, i: usize, entry: Key) -> FindAnswer
-    requires { ⌜ Table g (now t) × (i < g .lists) × (keyNumber entry < 2 ^ g .bie) ⌝ }
-    ensures { λ r. ⌜ r ≡ findIn g (decode g (now (t .entry))) i (keyNumber entry) ⌝ }
+pub fn find_in(t: &[u8], g: Layout, i: ListNumber, entry: Key) -> FindAnswer
+    requires { ⌜ Table g (now t) × (i .0 < g .lists) × (keyNumber entry < 2 ^ g .bie) ⌝ }
+    ensures { λ r. ⌜ r ≡ findIn g (decode g (now (t .entry))) (i .0) (keyNumber entry) ⌝ }
 {
     let front = basic_front(t, g, i);
     if front.counter <= g.sib {
@@ -151,7 +156,7 @@ pub fn find_in(t: &[u8], g: Layout, i: usize, entry: Key) -> FindAnswer
     if front.counter > g.sib + 1 {
         return FindAnswer::Refused(Refusal::Damage);
     }
-    find_long(t, g, i, front.link, entry)
+    find_long(t, g, i, BlockNumber(front.link), entry)
 }
 
 // "Find: "held" with label, or "none"".
@@ -168,7 +173,7 @@ pub fn find(s: Settings, t: &[u8], key: Key) -> FindAnswer
             }
             let place = key.place(s);
             let list = place.list;
-            find_in(t, g, list.0, place.entry)
+            find_in(t, g, list, place.entry)
         }
         Laid::Refused(why) => FindAnswer::Refused(why),
     }

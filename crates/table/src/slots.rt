@@ -3,6 +3,7 @@ use bits::join;
 use bits::pow;
 use settings::Key;
 use settings::Layout;
+use settings::SlotNumber;
 use windows::FEW;
 use windows::candidate;
 ghost use mathlib.Core.Path.{_≡_};
@@ -90,25 +91,25 @@ fn holds(t: &[u8], at: usize, n: usize, high: u64, low: u64) -> bool
 fn scan_from(
     t: &[u8],
     start: usize,
-    from: usize,
+    from: SlotNumber,
     count: usize,
     slot: usize,
     bie: usize,
     high: u64,
     low: u64,
-) -> usize
-    requires { ⌜ Row (now t) start slot bie count × (high * 2 ^ 64 + low < 2 ^ bie) × (from < 2 ^ 16) ⌝ }
-    requires { ⌜ ((k : ℕ) → k < from → k < count → field (now t) (start + k * slot) bie ≡ high * 2 ^ 64 + low → ⊥) ⌝ }
-    ensures { λ r. ⌜ First (now (t .entry)) start slot bie (high * 2 ^ 64 + low) count r ⌝ }
+) -> SlotNumber
+    requires { ⌜ Row (now t) start slot bie count × (high * 2 ^ 64 + low < 2 ^ bie) × (from .0 < 2 ^ 16) ⌝ }
+    requires { ⌜ ((k : ℕ) → k < from .0 → k < count → field (now t) (start + k * slot) bie ≡ high * 2 ^ 64 + low → ⊥) ⌝ }
+    ensures { λ r. ⌜ First (now (t .entry)) start slot bie (high * 2 ^ 64 + low) count (r .0) ⌝ }
 {
-    let mut j = from;
+    let mut j = from.0;
     while j < count {
         if holds(t, start + j * slot, bie, high, low) {
-            return j;
+            return SlotNumber(j);
         }
         j += 1;
     }
-    count
+    SlotNumber(count)
 }
 
 // How many slots are looked at for the first `count`: of a small block all, since a fixed number of turns can be foreseen.
@@ -126,21 +127,30 @@ pub(crate) fn looked_at(count: usize, room: usize) -> usize
 pub(crate) fn confirm(
     t: &[u8],
     start: usize,
-    from: usize,
+    from: SlotNumber,
     count: usize,
     slot: usize,
     bie: usize,
     high: u64,
     low: u64,
-) -> usize
-    requires { ⌜ Row (now t) start slot bie count × (high * 2 ^ 64 + low < 2 ^ bie) × (from < count) ⌝ }
-    requires { ⌜ ((k : ℕ) → k < from → field (now t) (start + k * slot) bie ≡ high * 2 ^ 64 + low → ⊥) ⌝ }
-    ensures { λ r. ⌜ First (now (t .entry)) start slot bie (high * 2 ^ 64 + low) count r ⌝ }
+) -> SlotNumber
+    requires { ⌜ Row (now t) start slot bie count × (high * 2 ^ 64 + low < 2 ^ bie) × (from .0 < count) ⌝ }
+    requires { ⌜ ((k : ℕ) → k < from .0 → field (now t) (start + k * slot) bie ≡ high * 2 ^ 64 + low → ⊥) ⌝ }
+    ensures { λ r. ⌜ First (now (t .entry)) start slot bie (high * 2 ^ 64 + low) count (r .0) ⌝ }
 {
-    if holds(&t[..], start + from * slot, bie, high, low) {
+    if holds(&t[..], start + from.0 * slot, bie, high, low) {
         return from;
     }
-    scan_from(&t[..], start, from + 1, count, slot, bie, high, low)
+    scan_from(
+        &t[..],
+        start,
+        SlotNumber(from.0 + 1),
+        count,
+        slot,
+        bie,
+        high,
+        low,
+    )
 }
 
 // The first of `count` slots that holds the number, from 0; count if none does. A window of each slot is looked at first.
@@ -154,33 +164,33 @@ pub fn scan(
     bie: usize,
     high: u64,
     low: u64,
-) -> usize
+) -> SlotNumber
     requires { ⌜ Row (now t) start slot bie room × (count ≤ room) × (high * 2 ^ 64 + low < 2 ^ bie) ⌝ }
-    ensures { λ r. ⌜ First (now (t .entry)) start slot bie (high * 2 ^ 64 + low) count r ⌝ }
+    ensures { λ r. ⌜ First (now (t .entry)) start slot bie (high * 2 ^ 64 + low) count (r .0) ⌝ }
 {
     let n = looked_at(count, room);
-    let from = candidate(t, start, n, slot, bie, high, low);
-    if from >= count {
-        return count;
+    let from = SlotNumber(candidate(t, start, n, slot, bie, high, low));
+    if from.0 >= count {
+        return SlotNumber(count);
     }
     scan_from(t, start, from, count, slot, bie, high, low)
 }
 
 // The first of the slots that holds the entry, where their first bits are what they count as.
-fn scan_seen(t: &[u8], b: Slots, slot: usize, bie: usize, entry: Key) -> usize
+fn scan_seen(t: &[u8], b: Slots, slot: usize, bie: usize, entry: Key) -> SlotNumber
     requires { ⌜ Row (now t) (b .start) slot bie (b .count) × (b .start + b .link ≤ 8 * length (now t)) × (b .link ≤ 16) × (b .head < 2 ^ b .link) × (keyNumber entry < 2 ^ bie) ⌝ }
-    ensures { λ r. ⌜ First (shown (now (t .entry)) b) (b .start) slot bie (keyNumber entry) (b .count) r ⌝ }
+    ensures { λ r. ⌜ First (shown (now (t .entry)) b) (b .start) slot bie (keyNumber entry) (b .count) (r .0) ⌝ }
 {
     let mut at = b.start;
     let mut j: usize = 0;
     while j < b.count {
         if same_entry(t, b, at, bie, entry) {
-            return j;
+            return SlotNumber(j);
         }
         at += slot;
         j += 1;
     }
-    j
+    SlotNumber(j)
 }
 
 // Whether slot 0, whose first `link` bits count as `head`, holds the number. Its last bits, which are not displaced, are
@@ -228,13 +238,13 @@ pub fn scan_displaced(
     bie: usize,
     high: u64,
     low: u64,
-) -> usize
+) -> SlotNumber
     requires { ⌜ Row (now t) start slot bie room × (count ≤ room) × (high * 2 ^ 64 + low < 2 ^ bie) ⌝ }
     requires { ⌜ (start + link ≤ 8 * length (now t)) × (link ≤ 16) × (head < 2 ^ link) ⌝ }
-    ensures { λ r. ⌜ First (putField (now (t .entry)) start link head) start slot bie (high * 2 ^ 64 + low) count r ⌝ }
+    ensures { λ r. ⌜ First (putField (now (t .entry)) start link head) start slot bie (high * 2 ^ 64 + low) count (r .0) ⌝ }
 {
     if count == 0 {
-        return 0;
+        return SlotNumber(0);
     }
     if link >= bie {
         let b = Slots {
@@ -250,19 +260,19 @@ pub fn scan_displaced(
         return scan_seen(&t[..], b, slot, bie, number);
     }
     if first_holds(t, start, link, head, bie, high, low) {
-        return 0;
+        return SlotNumber(0);
     }
-    1
-        + scan(
-            &t[..],
-            start + slot,
-            count - 1,
-            room - 1,
-            slot,
-            bie,
-            high,
-            low,
-        )
+    let j = scan(
+        &t[..],
+        start + slot,
+        count - 1,
+        room - 1,
+        slot,
+        bie,
+        high,
+        low,
+    );
+    SlotNumber(1 + j.0)
 }
 
 // The label of val bits from bit `at` on, among the slots.
@@ -277,9 +287,9 @@ pub fn label_at(t: &[u8], b: Slots, at: usize, val: usize) -> u32
 }
 
 // The label in slot j.
-pub fn label_in(t: &[u8], g: Layout, b: Slots, j: usize) -> u32
-    requires { ⌜ Proper g × Run g (now t) b × (j < b .count) ⌝ }
-    ensures { λ r. ⌜ r ≡ labelOf g (getD (slotsIn g (now (t .entry)) b) j 0) ⌝ }
+pub fn label_in(t: &[u8], g: Layout, b: Slots, j: SlotNumber) -> u32
+    requires { ⌜ Proper g × Run g (now t) b × (j .0 < b .count) ⌝ }
+    ensures { λ r. ⌜ r ≡ labelOf g (getD (slotsIn g (now (t .entry)) b) (j .0) 0) ⌝ }
 {
-    seen(t, b, b.start + j * g.slot + g.bie, g.val) as u32
+    seen(t, b, b.start + j.0 * g.slot + g.bie, g.val) as u32
 }

@@ -50,7 +50,7 @@ module _ (g : Layout) (step : ℕ → Step) where
 -- the blocks from b on, at most n of them
 abbrev pub blocksOn : ℕ → Step → (ℕ → Option (List ℕ)) → Option (List ℕ)
 blocksOn b Last on = some (b ∷ [])
-blocksOn b (Further c) on = cons? b (on c)
+blocksOn b (Further c) on = cons? b (on (c .0))
 blocksOn b Broken on = none
 
 module _ (g : Layout) (step : ℕ → Step) where
@@ -106,7 +106,7 @@ module _ (nob : ℕ) (c : ℕ → ℕ) (b : ℕ) (u after : List ℕ) where
       let q : u ≡ after = cc in
       record { blocks = b ∷ []; are = refl; marks = rw q at k }
   passed-on (Further x) on trace k ih e =
-      let p = ih x e in
+      let p = ih (x .0) e in
       record {
         blocks = b ∷ p .blocks;
         are = ap (cons? b) (p .are);
@@ -144,7 +144,7 @@ begins-cons b (some cs) bs e = record { rest = cs; is = cc }
 
 begins-on : (b : ℕ) (s : Step) (trace : ℕ → Option (List ℕ)) (bs : List ℕ) → blocksOn b s trace ≡ some bs → Begins b bs
 begins-on b Last trace bs e = record { rest = []; is = cc }
-begins-on b (Further x) trace bs e = begins-cons b (trace x) bs e
+begins-on b (Further x) trace bs e = begins-cons b (trace (x .0)) bs e
 begins-on b Broken trace bs e = no-some e
 
 module _ (g : Layout) (step : ℕ → Step) where
@@ -174,8 +174,8 @@ complete-on : (nob : ℕ) (c : ℕ → ℕ) (b : ℕ) (u : List ℕ) (s : Step) 
     → blocksOn b s trace ≡ some bs → Some (goOn s u on)
 complete-on nob c b u Last on trace bs few ih e = record { value = u; is = refl }
 complete-on nob c b u (Further x) on trace bs few ih e =
-    let f = cons-some b (trace x) bs e in
-    ih x (f .value) (f .is) (λ j l. omega (arith, few j l, rest-counts b (trace x) bs e (f .value) (f .is) j))
+    let f = cons-some b (trace (x .0)) bs e in
+    ih (x .0) (f .value) (f .is) (λ j l. omega (arith, few j l, rest-counts b (trace (x .0)) bs e (f .value) (f .is) j))
 complete-on nob c b u Broken on trace bs few ih e = no-some e
 
 module _ (g : Layout) (step : ℕ → Step) where

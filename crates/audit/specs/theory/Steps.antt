@@ -9,11 +9,11 @@ use borrow.Author.Tests.{eq-eqb, ne-eqb, lt-ltb, le-ltb}
 use Rattle.settings.specs.declared.layout.Layout.{Layout}
 use Rattle.table.specs.State.{Overflow, overflowAt}
 use Rattle.table.specs.Check.{allZero, overflowUnused}
-use Rattle.audit.specs.declared.steps.Step.the-variants.{Last, Further, Broken}
-use Rattle.audit.specs.Walk.{listStep, chainStep}
+use Rattle.audit.specs.declared.steps.Step.the-variants.{Last, Broken}
+use Rattle.audit.specs.Walk.{further, listStep, chainStep}
 
 module _ (g : Layout) (os : List Overflow) (b : ℕ) where
-  pub list-further : overflowAt os b .counter ≡ g .sio → listStep g os b ≡ Further (overflowAt os b .link)
+  pub list-further : overflowAt os b .counter ≡ g .sio → listStep g os b ≡ further (overflowAt os b .link)
   unfolding listStep
   list-further e =
       rw (le-ltb (overflowAt os b .counter) (g .sio) (omega arith), eq-eqb (overflowAt os b .counter) (g .sio) e)
@@ -36,6 +36,6 @@ module _ (g : Layout) (os : List Overflow) (b : ℕ) where
   chain-full e z = rw (eq-eqb (overflowAt os b .counter) 0 e, z)
 
   pub chain-free : overflowAt os b .counter ≡ 0 → allZero (overflowAt os b .slots) ≡ true
-      → chainStep g os b ≡ cond (eqb (overflowAt os b .link) b) Last (Further (overflowAt os b .link))
+      → chainStep g os b ≡ cond (eqb (overflowAt os b .link) b) Last (further (overflowAt os b .link))
   unfolding chainStep
   chain-free e z = rw (eq-eqb (overflowAt os b .counter) 0 e, z)

@@ -19,13 +19,14 @@ use Rattle.table.specs.Follow.{Seen, seen, lastOf, cons?, follow, gather}
 use Rattle.table.specs.Take.{Done, damage, occurs, nextFree, taking}
 use Rattle.table.specs.Add.{Adding, appended}
 use Rattle.table.specs.Steps.{lastFrom}
-use Rattle.table.specs.Spots.{blocksFrom, spotIn, Reaches}
+use Rattle.table.specs.Spots.{blocksFrom, spot, spotIn, Reaches}
 use Rattle.table.specs.theory.Walks.{follow-here, follow-on, last-low, Turn, content-short}
 use Rattle.table.specs.theory.Spots.{Chained, gather-some, last-spot, long-full, long-ends, long-blocks, long-length}
 use Rattle.table.specs.theory.Reads.{unpack-length}
 use Rattle.table.specs.declared.lists.Spot.{Spot}
 use Rattle.table.specs.declared.answers.AddAnswer.the-variants as answer
-use Rattle.insert.specs.Adds.{freeOf, meetsFrom, EndsIn, Readable}
+use Rattle.settings.specs.declared.keys.BlockNumber.{BlockNumber}
+use Rattle.insert.specs.Adds.{numbered, freeOf, meetsFrom, EndsIn, Readable}
 use Rattle.insert.specs.declared.append.Free.the-variants as free
 
 -- ---- the first free block
@@ -60,19 +61,19 @@ module _ (g : Layout) (st : State) where
     free-bad h =
         rw (le-ltb (g .nob) (st .free) (omega arith), ne-eqb (st .free) (g .nob) (λ q. omega arith), le-ltb link (g .nob) (omega (arith, link-is)))
 
-    pub free-end : l < g .nob → l ≡ f → free.Block f (g .nob) ≡ freeOf g st
+    pub free-end : l < g .nob → l ≡ f → free.Block (numbered f) (numbered (g .nob)) ≡ freeOf g st
     unfolding freeOf
     free-end h e =
         rw (le-ltb (g .nob) (st .free) (omega arith), ne-eqb (st .free) (g .nob) (λ q. omega arith), lt-ltb link (g .nob) (omega (arith, link-is)), eq-eqb link (st .free) (omega (arith, link-is)))
-        (ap (λ (n : ℕ). free.Block n (g .nob)) ef)
+        (ap (λ (n : ℕ). free.Block (numbered n) (numbered (g .nob))) ef)
 
-    pub free-on : l < g .nob → (l ≡ f → ⊥) → free.Block f l ≡ freeOf g st
+    pub free-on : l < g .nob → (l ≡ f → ⊥) → free.Block (numbered f) (numbered l) ≡ freeOf g st
     unfolding freeOf
     free-on h e =
         rw (le-ltb (g .nob) (st .free) (omega arith), ne-eqb (st .free) (g .nob) (λ q. omega arith), lt-ltb link (g .nob) (omega (arith, link-is)), ne-eqb link (st .free) (λ q. e (omega (arith, link-is))))
-        (ap₂ free.Block ef link-is)
+        (ap₂ (λ (x y : ℕ). free.Block (numbered x) (numbered y)) ef link-is)
 
-  not-block : {X : Type 0} (why : Refusal) (f n : ℕ) → free.Refused why ≡ free.Block f n → X
+  not-block : {X : Type 0} (why : Refusal) (f n : BlockNumber) → free.Refused why ≡ free.Block f n → X
   not-block why f n e = absurd (let z : _≡_ {A = ℕ} 0 1 = cc in omega arith)
 
   next-le : ltb link (g .nob) ≡ true → nextFree g (st .overflow) (st .free) ≤ g .nob
@@ -81,11 +82,11 @@ module _ (g : Layout) (st : State) where
       (λ z. rw z (omega arith))
       (λ z. rw z (omega (arith, ltb-true link (g .nob) r)))
 
-  takes-when : (f n : ℕ) → ltb (g .nob) (st .free) ≡ false → eqb (st .free) (g .nob) ≡ false → ltb link (g .nob) ≡ true
-      → free.Block (st .free) (nextFree g (st .overflow) (st .free)) ≡ free.Block f n → Takes g st f n
+  takes-when : (f n : BlockNumber) → ltb (g .nob) (st .free) ≡ false → eqb (st .free) (g .nob) ≡ false → ltb link (g .nob) ≡ true
+      → free.Block (numbered (st .free)) (numbered (nextFree g (st .overflow) (st .free))) ≡ free.Block f n → Takes g st (f .0) (n .0)
   takes-when f n p q r e =
-      let a : f ≡ st .free = cc in
-      let b : n ≡ nextFree g (st .overflow) (st .free) = cc in
+      let a : f .0 ≡ st .free = ap (λ (x : BlockNumber). x .0) (let z : f ≡ numbered (st .free) = cc in z) in
+      let b : n .0 ≡ nextFree g (st .overflow) (st .free) = ap (λ (x : BlockNumber). x .0) (let z : n ≡ numbered (nextFree g (st .overflow) (st .free)) = cc in z) in
       let d : st .free ≡ g .nob → ⊥ = eqb-false (st .free) (g .nob) q in
       record {
         first = a;
@@ -96,7 +97,7 @@ module _ (g : Layout) (st : State) where
         met = λ bs y z. rw (p, q, ap (λ (x : ℕ). ltb 0 (occurs x bs)) (sym a) ∙ z);
       }
 
-  pub takes : (f n : ℕ) → freeOf g st ≡ free.Block f n → Takes g st f n
+  pub takes : (f n : BlockNumber) → freeOf g st ≡ free.Block f n → Takes g st (f .0) (n .0)
   unfolding freeOf
   takes f n =
       cases (ltb (g .nob) (st .free))
@@ -121,7 +122,7 @@ module _ (g : Layout) (st : State) where
       (λ p. cases (eqb (st .free) (g .nob))
       (λ q. rw (p, q) (λ e. ap say (same-why why refusal.NoBlock e)))
       (λ q. cases (ltb link (g .nob))
-      (λ r. rw (p, q, r) (λ e. not-block why (st .free) (nextFree g (st .overflow) (st .free)) (sym e)))
+      (λ r. rw (p, q, r) (λ e. not-block why (numbered (st .free)) (numbered (nextFree g (st .overflow) (st .free))) (sym e)))
       (λ r. rw (p, q, r) (λ e. cases (ltb 0 (occurs (st .free) bs)) (λ z. rw z (ap say (same-why why refusal.Damage e))) (λ z. rw z (ap say (same-why why refusal.Damage e)))))))
 
 -- ---- the blocks of a list
@@ -213,7 +214,7 @@ module _ (g : Layout) (st : State) (i n : ℕ) (R : Readable g st i n) where
       last = lastOf (basicAt (st .basic) i .head) (blocks many .others)
 
       spot-is : spotIn g (blocksFrom g (st .overflow) (basicAt (st .basic) i .head)) (n - g .sib - 1)
-          ≡ record { block = last; slot = overflowAt (st .overflow) last .counter }
+          ≡ spot last (overflowAt (st .overflow) last .counter)
       spot-is =
           let c = blocks many in
           let e : n - g .sib - 1 ≡ length (gather g (st .overflow) (basicAt (st .basic) i .head ∷ c .others)) - 1 = omega (arith, entries many) in
@@ -221,7 +222,7 @@ module _ (g : Layout) (st : State) (i n : ℕ) (R : Readable g st i n) where
 
       -- the last entry stands in the last block, in the slot that the counter there names
       pub ends-in : (h : ℕ) → h ≡ basicAt (st .basic) i .head → (s : Spot) → s ≡ spotIn g (blocksFrom g (st .overflow) h) (n - g .sib - 1)
-          → EndsIn g st i h (s .block) × (s .slot ≡ overflowAt (st .overflow) (s .block) .counter)
+          → EndsIn g st i h (s .block .0) × (s .slot .0 ≡ overflowAt (st .overflow) (s .block .0) .counter)
       unfolding lastFrom
       ends-in h eh s =
           rw eh

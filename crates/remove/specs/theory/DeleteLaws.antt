@@ -32,7 +32,7 @@ use Rattle.table.specs.theory.Spots.{chained, one-more, last-one, gather-some}
 use Rattle.table.specs.declared.lists.Spot.{Spot}
 use Rattle.stores.specs.Stores.{Poked, basicSlot, overflowSlot, freePut, basicCounterPut, headPut, overflowCounterPut, linkPut, slotPut, renewed}
 use Rattle.stores.specs.theory.StoreLaws.{overflow-slot-ends, overBasic, overOverflow, withFree, basic-twice, overflow-twice, basics, overflows, Stored, stored-then, stored-as, stored-free, stored-basic-counter, stored-head, stored-overflow-counter, stored-link, stored-overflow-slot, stored-renewed, poked-head, stored-poked}
-use Rattle.remove.specs.DeleteSteps.{endIn, clipped, released, handed, shrinkAt, stuckWith, stuckAt, Shrinkable, pokeBasic, pokeSpot, pokeAt, Movable}
+use Rattle.remove.specs.DeleteSteps.{end, endIn, clipped, released, handed, shrinkAt, stuckWith, stuckAt, Shrinkable, pokeBasic, pokeSpot, pokeAt, Movable}
 use Rattle.remove.specs.declared.shrink.End.{End}
 
 -- the last of two rows is the last of the second
@@ -62,12 +62,12 @@ module _ (g : Layout) (os : List Overflow) where
       record { others = c .others; chain = c .chain; few = omega (arith, c .few); same = ap (endIn g (g .nob)) (sym (c .are)) }
 
   ending-here-as : {b : ℕ} {cs : List ℕ} (before : ℕ) (r : End) → overflowAt os b .counter < g .sio → Chain g os b cs → endIn g before (b ∷ cs) ≡ r
-      → _≡_ {A = End} (record { last = b; before = before }) r
+      → end b before ≡ r
   ending-here-as before r l (ends h m) e = e
   ending-here-as before r l (more h m c) e = absurd (omega arith)
 
   pub ending-here : (first b before k : ℕ) → Ending first b before k → overflowAt os b .counter < g .sio
-      → _≡_ {A = End} (record { last = b; before = before }) (endIn g (g .nob) (blocksFrom g os first))
+      → end b before ≡ endIn g (g .nob) (blocksFrom g os first)
   ending-here first b before k m l = ending-here-as before (endIn g (g .nob) (blocksFrom g os first)) l (m .chain) (m .same)
 
   ending-on-as : (first b before k : ℕ) {cs : List ℕ} → Chain g os b cs → length cs + k < g .nob
@@ -95,12 +95,12 @@ module _ (g : Layout) (os : List Overflow) where
 
     -- what is known of place q of the blocks, and what a slot stored there does
     pub record Spotted (bs : List ℕ) (q : ℕ) : Type 0 where
-      pub low : spotIn g bs q .block < g .nob
-      pub few : spotIn g bs q .slot < g .sio
+      pub low : spotIn g bs q .block .0 < g .nob
+      pub few : spotIn g bs q .slot .0 < g .sio
       pub poked : (x : ℕ) → pokeOverflow g os bs q x
-          ≡ set os (spotIn g bs q .block)
-          (mkOverflow (overflowAt os (spotIn g bs q .block) .counter) (overflowAt os (spotIn g bs q .block) .link)
-          (set (overflowAt os (spotIn g bs q .block) .slots) (spotIn g bs q .slot) x))
+          ≡ set os (spotIn g bs q .block .0)
+          (mkOverflow (overflowAt os (spotIn g bs q .block .0) .counter) (overflowAt os (spotIn g bs q .block .0) .link)
+          (set (overflowAt os (spotIn g bs q .block .0) .slots) (spotIn g bs q .slot .0) x))
 
     spotted-here : {b : ℕ} (cs : List ℕ) (q : ℕ) → b < g .nob → q < g .sio → Spotted (b ∷ cs) q
     unfolding pokeOverflow
@@ -226,7 +226,7 @@ module _ (g : Layout) (st : State) (i : ℕ) where
   poke-keeps h l p x =
       cases (ltb p (g .sib))
       (λ q. rw q (record { free = refl; counters = counter-kept l _ refl }))
-      (λ q. rw q (record { free = refl; counters = counter-kept (spotIn g (blocksFrom g (st .overflow) h) (p - g .sib) .block) _ refl }))
+      (λ q. rw q (record { free = refl; counters = counter-kept (spotIn g (blocksFrom g (st .overflow) h) (p - g .sib) .block .0) _ refl }))
 
   pub stuck-kept : (u : State) → Kept u → (l : ℕ) → stuckAt g l u ≡ stuckAt g l st
   unfolding stuckWith
@@ -336,10 +336,10 @@ module _ (g : Layout) (t : List ℕ) (T : Table g t) where
         (ap (linkPut g a l) (e ∙ ev ∙ sym (ap (λ (st : State). overflowAt (st .overflow) l .link) (under .state)))
         ∙ link-own g a (under .table) l hl))
 
-  pub stored-spot : (s : Spot) (x at : ℕ) → s .block < g .nob → s .slot < g .sio → x < 2 ^ g .slot → at ≡ overflowSlot g (s .block) (s .slot) → (u : List ℕ) → u ≡ slotPut g t at x
+  pub stored-spot : (s : Spot) (x at : ℕ) → s .block .0 < g .nob → s .slot .0 < g .sio → x < 2 ^ g .slot → at ≡ overflowSlot g (s .block .0) (s .slot .0) → (u : List ℕ) → u ≡ slotPut g t at x
       → Stored g t u (pokeSpot g s x (decode g t))
   stored-spot s x at hb hs hx ea u eu =
-      stored-overflow-slot g t T (s .block) hb (s .slot) x hs hx u (eu ∙ ap (λ (n : ℕ). slotPut g t n x) ea)
+      stored-overflow-slot g t T (s .block .0) hb (s .slot .0) x hs hx u (eu ∙ ap (λ (n : ℕ). slotPut g t n x) ea)
 
 -- an emptied block: its displaced bits go back, and it is freed
 pub stored-further : {g : Layout} {t a : List ℕ} (i l p n v : ℕ) → n ≡ g .sio - 1 → v ≡ overflowAt (decode g t .overflow) l .link → p < g .nob

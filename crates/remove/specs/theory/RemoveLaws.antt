@@ -118,12 +118,12 @@ module _ (g : Layout) (st : State) (i p : ℕ) (P : Placed g st i p) where
         ∙ ap (λ (u : State). shrink g u i (first ∷ others)) (poke-is g st i sz (blocks .chain) (blocks .are) p (lastSlot st last) inside)
 
     pub record Route (b : ℕ) (e : End) : Type 0 where
-      pub low : e .last < g .nob
-      pub few : overflowAt (st .overflow) (e .last) .counter < g .sio
+      pub low : e .last .0 < g .nob
+      pub few : overflowAt (st .overflow) (e .last .0) .counter < g .sio
       pub reaches : g .sib ≤ p → Reaches g (st .overflow) b (p - g .sib)
-      pub shut : stuckAt g (e .last) st ≡ true → removal g st i p ≡ damage
-      pub goes : stuckAt g (e .last) st ≡ false
-          → removal g st i p ≡ done (shrinkAt g i (e .last) (e .before) (pokeAt g i b (e .last) p (lastSlot st (e .last)) st))
+      pub shut : stuckAt g (e .last .0) st ≡ true → removal g st i p ≡ damage
+      pub goes : stuckAt g (e .last .0) st ≡ false
+          → removal g st i p ≡ done (shrinkAt g i (e .last .0) (e .before .0) (pokeAt g i b (e .last .0) p (lastSlot st (e .last .0)) st))
 
     route-is : Route first (endIn g (g .nob) (first ∷ others))
     route-is =
@@ -211,24 +211,24 @@ module _ (g : Layout) (t : List ℕ) (T : Table g t) where
 module _ (g : Layout) (t : List ℕ) (T : Table g t) (i p : ℕ) (P : Placed g (decode g t) i p)
     (sz : (j : ℕ) → j < g .nob → length (overflowAt (decode g t .overflow) j .slots) ≡ g .sio) (h : g .sib < basicAt (decode g t .basic) i .counter)
     (b : ℕ) (e : End) (R : Route g (decode g t) i p P sz h b e) where
-  pub removed-shut : (r : Bool) → r ≡ stuckAt g (e .last) (decode g t) → r ≡ true → Removed g t t i p false
+  pub removed-shut : (r : Bool) → r ≡ stuckAt g (e .last .0) (decode g t) → r ≡ true → Removed g t t i p false
   removed-shut r er q = record { state = decode g t; is = R .shut (sym er ∙ q); stored = stored-none T }
 
-  pub removed-open : (r : Bool) → r ≡ stuckAt g (e .last) (decode g t) → r ≡ false → (n at x : ℕ)
-      → n ≡ overflowAt (decode g t .overflow) (e .last) .counter → at ≡ overflowSlot g (e .last) n → x ≡ field t at (g .slot) → (a u : List ℕ)
-      → Stored g t a (pokeAt g i b (e .last) p x (decode g t)) → Stored g a u (shrinkAt g i (e .last) (e .before) (decode g a)) → Removed g t u i p true
+  pub removed-open : (r : Bool) → r ≡ stuckAt g (e .last .0) (decode g t) → r ≡ false → (n at x : ℕ)
+      → n ≡ overflowAt (decode g t .overflow) (e .last .0) .counter → at ≡ overflowSlot g (e .last .0) n → x ≡ field t at (g .slot) → (a u : List ℕ)
+      → Stored g t a (pokeAt g i b (e .last .0) p x (decode g t)) → Stored g a u (shrinkAt g i (e .last .0) (e .before .0) (decode g a)) → Removed g t u i p true
   removed-open r er q n at x en ea ex a u s₁ s₂ =
       let st = decode g t in
-      let z : x ≡ lastSlot (decode g t) (e .last) =
-      ex ∙ ap (λ (y : ℕ). field t y (g .slot)) (ea ∙ ap (overflowSlot g (e .last)) en)
-      ∙ sym (overflow-slot-is g t T (e .last) (overflowAt (decode g t .overflow) (e .last) .counter) (R .low) (R .few)) in
+      let z : x ≡ lastSlot (decode g t) (e .last .0) =
+      ex ∙ ap (λ (y : ℕ). field t y (g .slot)) (ea ∙ ap (overflowSlot g (e .last .0)) en)
+      ∙ sym (overflow-slot-is g t T (e .last .0) (overflowAt (decode g t .overflow) (e .last .0) .counter) (R .low) (R .few)) in
       record {
-        state = shrinkAt g i (e .last) (e .before) (pokeAt g i b (e .last) p (lastSlot (decode g t) (e .last)) (decode g t));
+        state = shrinkAt g i (e .last .0) (e .before .0) (pokeAt g i b (e .last .0) p (lastSlot (decode g t) (e .last .0)) (decode g t));
         is = R .goes (sym er ∙ q);
         stored =
-            stored-as (shrinkAt g i (e .last) (e .before) (pokeAt g i b (e .last) p (lastSlot (decode g t) (e .last)) (decode g t)))
-            (stored-then (shrinkAt g i (e .last) (e .before)) s₁ s₂)
-            (ap (λ (y : ℕ). shrinkAt g i (e .last) (e .before) (pokeAt g i b (e .last) p y (decode g t))) z);
+            stored-as (shrinkAt g i (e .last .0) (e .before .0) (pokeAt g i b (e .last .0) p (lastSlot (decode g t) (e .last .0)) (decode g t)))
+            (stored-then (shrinkAt g i (e .last .0) (e .before .0)) s₁ s₂)
+            (ap (λ (y : ℕ). shrinkAt g i (e .last .0) (e .before .0) (pokeAt g i b (e .last .0) p y (decode g t))) z);
       }
 
 -- ---- what find answers, and delete comes to

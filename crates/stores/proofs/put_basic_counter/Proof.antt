@@ -23,7 +23,7 @@ unfolding basicSlots
 put-short-requires c κs =
     let s = c .before .before .before .before in
     let F = s .pre .0 .proper in
-    (some-bits (suc (s .args .g .sib)) (s .args .g .basic .counter) (omega arith) (F .basic-holds), omega (arith, F .basic-high), omega (arith, basic-counter-ends (s .args .g) F (s .args .i) (s .pre .1), s .pre .0 .room, c .before .before .basic-slots .ensures), s .pre .2)
+    (some-bits (suc (s .args .g .sib)) (s .args .g .basic .counter) (omega arith) (F .basic-holds), omega (arith, F .basic-high), omega (arith, basic-counter-ends (s .args .g) F (s .args .i .0) (s .pre .1), s .pre .0 .room, c .before .before .basic-slots .ensures), s .pre .2)
 
 same-length : tie.Need-same-length
 same-length c = search needs
@@ -33,7 +33,7 @@ unfolding basicCounterPut basicSlots
 returns c =
     let s = c .before .before .before .before .before .before .before in
     let g = s .args .g in
-    let e : c .before .before .before .before .before .basic-slots .result - g .basic .counter ≡ blockAt (g .basic) (s .args .i) =
+    let e : c .before .before .before .before .before .basic-slots .result - g .basic .counter ≡ blockAt (g .basic) (s .args .i .0) =
     omega (arith, c .before .before .before .before .before .basic-slots .ensures) in
     c .before .before .put-short .ensures ∙ ap (λ (x : ℕ). putField (now (s .args .t)) x (g .basic .counter) (s .args .n)) e
 

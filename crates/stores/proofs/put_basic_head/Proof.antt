@@ -17,7 +17,7 @@ put-requires : tie.Need-put-requires
 put-requires c κs =
     let s = c .before .before .before in
     let F = s .pre .0 .proper in
-    (omega (arith, basic-head-ends (s .args .g) F (s .args .i) (s .pre .1), F .link-high, s .pre .0 .room, c .before .basic-slots .ensures), s .pre .2)
+    (omega (arith, basic-head-ends (s .args .g) F (s .args .i .0) (s .pre .1), F .link-high, s .pre .0 .room, c .before .basic-slots .ensures), s .pre .2)
 
 same-length : tie.Need-same-length
 same-length c = search needs

@@ -26,7 +26,7 @@ unfolding overflowSlots
 put-short-requires c κs =
     let s = c .before .before .before .before in
     let F = s .pre .0 .proper in
-    (some-bits (s .args .g .sio) (s .args .g .overflow .counter) (F .sio-low) (F .overflow-holds), omega (arith, F .overflow-high), omega (arith, overflow-counter-ends (s .args .g) F (s .args .j) (s .pre .1), s .pre .0 .room, c .before .before .overflow-slots .ensures), s .pre .2)
+    (some-bits (s .args .g .sio) (s .args .g .overflow .counter) (F .sio-low) (F .overflow-holds), omega (arith, F .overflow-high), omega (arith, overflow-counter-ends (s .args .g) F (s .args .j .0) (s .pre .1), s .pre .0 .room, c .before .before .overflow-slots .ensures), s .pre .2)
 
 same-length : tie.Need-same-length
 same-length c = search needs
@@ -36,7 +36,7 @@ unfolding overflowCounterPut overflowSlots
 returns c =
     let s = c .before .before .before .before .before .before .before in
     let g = s .args .g in
-    let e : c .before .before .before .before .before .overflow-slots .result - (g .overflow .counter + g .link) ≡ blockAt (g .overflow) (s .args .j) =
+    let e : c .before .before .before .before .before .overflow-slots .result - (g .overflow .counter + g .link) ≡ blockAt (g .overflow) (s .args .j .0) =
     omega (arith, c .before .before .before .before .before .overflow-slots .ensures) in
     c .before .before .put-short .ensures ∙ ap (λ (x : ℕ). putField (now (s .args .t)) x (g .overflow .counter) (s .args .n)) e
 

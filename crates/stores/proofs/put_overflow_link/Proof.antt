@@ -23,7 +23,7 @@ unfolding overflowSlots linkAt
 put-requires c κs =
     let s = c .before .before .before .before in
     let F = s .pre .0 .proper in
-    (omega (arith, overflow-link-ends (s .args .g) F (s .args .j) (s .pre .1), F .link-high, s .pre .0 .room, c .before .before .overflow-slots .ensures), s .pre .2)
+    (omega (arith, overflow-link-ends (s .args .g) F (s .args .j .0) (s .pre .1), F .link-high, s .pre .0 .room, c .before .before .overflow-slots .ensures), s .pre .2)
 
 same-length : tie.Need-same-length
 same-length c = search needs
@@ -33,7 +33,7 @@ unfolding linkPut overflowSlots linkAt
 returns c =
     let s = c .before .before .before .before .before .before .before in
     let g = s .args .g in
-    let e : c .before .before .before .before .before .overflow-slots .result - g .link ≡ linkAt g (s .args .j) =
+    let e : c .before .before .before .before .before .overflow-slots .result - g .link ≡ linkAt g (s .args .j .0) =
     omega (arith, c .before .before .before .before .before .overflow-slots .ensures) in
     c .before .before .put .ensures ∙ ap (λ (x : ℕ). putField (now (s .args .t)) x (g .link) (s .args .l)) e
 

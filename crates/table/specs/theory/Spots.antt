@@ -11,10 +11,9 @@ use Rattle.settings.specs.declared.layout.Layout.{Layout}
 use Rattle.table.specs.State.{Overflow, State, basicAt, overflowAt, unpack}
 use Rattle.table.specs.Follow.{Seen, seen, lastOf, follow, gather, contentOver, content}
 use Rattle.table.specs.Steps.{lastFrom, Followed}
-use Rattle.table.specs.Spots.{blocksFrom, spotIn, Reaches}
+use Rattle.table.specs.Spots.{blocksFrom, spot, spotIn, Reaches}
 use Rattle.table.specs.theory.Reads.{unpack-length}
 use Rattle.table.specs.theory.Walks.{Chain, ends, more, Walk, lost, ended, walk, followed, content-high, content-bad, content-over}
-use Rattle.table.specs.declared.lists.Spot.{Spot}
 
 module _ (g : Layout) (os : List Overflow) where
   -- the blocks of a list that has an end
@@ -59,7 +58,7 @@ module _ (g : Layout) (os : List Overflow) where
         same = ap (λ (bs : List ℕ). spotIn g bs p) (sym (c .are));
       }
 
-  pub going-here : (first p b q : ℕ) → Going first p b q → q < g .sio → _≡_ {A = Spot} (record { block = b; slot = q }) (spotIn g (blocksFrom g os first) p)
+  pub going-here : (first p b q : ℕ) → Going first p b q → q < g .sio → spot b q ≡ spotIn g (blocksFrom g os first) p
   going-here first p b q m l = rw (lt-ltb q (g .sio) l) at (m .same)
 
   -- a decoded block has sio slots
@@ -103,7 +102,7 @@ module _ (g : Layout) (os : List Overflow) where
 
     -- it is in the last block, and is the slot that the counter there names
     pub last-spot : {b : ℕ} {cs : List ℕ} → Chain g os b cs
-        → spotIn g (b ∷ cs) (length (gather g os (b ∷ cs)) - 1) ≡ record { block = lastOf b cs; slot = overflowAt os (lastOf b cs) .counter }
+        → spotIn g (b ∷ cs) (length (gather g os (b ∷ cs)) - 1) ≡ spot (lastOf b cs) (overflowAt os (lastOf b cs) .counter)
     last-spot (ends {b} h l) =
         let n = overflowAt os b .counter in
         let e : length (gather g os (b ∷ [])) - 1 ≡ n = omega (arith, one-block [] h) in

@@ -10,6 +10,7 @@ use Rattle.table.specs.Find.{position}
 use Rattle.table.specs.Check.{hasEntry}
 use Rattle.table.specs.Steps.{slotsIn, overflowRun}
 use Rattle.table.specs.theory.Scans.{overflow-row, plain-position}
+use Rattle.settings.specs.declared.keys.BlockNumber.{BlockNumber}
 use Rattle.table.specs.declared.slots.Slots.{Slots}
 use Rattle.audit.specs.Entries.{nextOf, runOf, slotsFrom}
 use Rattle.audit.specs.theory.Doubles.{slots-out, slots-high, next-further, next-last}
@@ -19,56 +20,56 @@ use Rattle.audit.proofs.entries.held_from.Statement.{statement}
 use Rattle.audit.proofs.entries.held_from.Tie as tie
 
 abbrev Inv-loop : tie.InvT-loop
-Inv-loop t g first most entry b₀ left₀ b left =
-    hasEntry g (keyNumber entry) (slotsFrom g left (decode g t .overflow) b)
-    ≡ hasEntry g (keyNumber entry) (slotsFrom g most (decode g t .overflow) first)
+Inv-loop t g most entry first left₀ b left =
+    hasEntry g (keyNumber entry) (slotsFrom g left (decode g t .overflow) (b .0))
+    ≡ hasEntry g (keyNumber entry) (slotsFrom g most (decode g t .overflow) (first .0))
 
 abbrev μ-loop : tie.MeasureT-loop
-μ-loop t g first most entry b₀ left₀ b left = left
+μ-loop t g most entry first left₀ b left = left
 
 abbrev start : tie.At-loop Inv-loop μ-loop → tie.Start Inv-loop μ-loop
 start m = m .before .before
 
 abbrev head : tie.After-overflow-run Inv-loop μ-loop → tie.At-loop Inv-loop μ-loop
-head c = c .before .before .before .before .before .before
+head c = c .before .before .before .before .before .before .before
 
 -- there is a block to look in
-here : (c : tie.Else1 Inv-loop μ-loop) → let m = c .before .before .before in
-    (m .loop .left ≡ suc (m .loop .left - 1)) × (m .loop .b < start m .args .g .nob)
+here : (c : tie.Else1 Inv-loop μ-loop) → let m = c .before .before .before .before in
+    (m .loop .left ≡ suc (m .loop .left - 1)) × (m .loop .b .0 < start m .args .g .nob)
 here c = (omega arith, omega arith)
 
 -- the slots of the block
 run : (c : tie.After-overflow-run Inv-loop μ-loop) → let m = head c in
     let s = start m in
-    c .overflow-run .result ≡ runOf (s .args .g) (decode (s .args .g) (now (s .args .t)) .overflow) (m .loop .b)
+    c .overflow-run .result ≡ runOf (s .args .g) (decode (s .args .g) (now (s .args .t)) .overflow) (m .loop .b .0)
 run c =
     let m = head c in
     let s = start m in
-    run-is (s .args .g) (decode (s .args .g) (now (s .args .t)) .overflow) (m .loop .b) _ _ (c .overflow-run .result)
+    run-is (s .args .g) (decode (s .args .g) (now (s .args .t)) .overflow) (m .loop .b .0) _ _ (c .overflow-run .result)
     (c .before .before .overflow-front .ensures .0) (c .before .least .ensures) (c .overflow-run .ensures)
 
 -- the entry's place in them
 place : (d : tie.After-scan Inv-loop μ-loop) → let s = start (head (d .before)) in
-    d .scan .result ≡ position (s .args .g) (keyNumber (s .args .entry)) (slotsIn (s .args .g) (now (s .args .t)) (d .before .overflow-run .result))
+    d .scan .result .0 ≡ position (s .args .g) (keyNumber (s .args .entry)) (slotsIn (s .args .g) (now (s .args .t)) (d .before .overflow-run .result))
 unfolding keyNumber overflowRun
 place d =
     let s = start (head (d .before)) in
     plain-position (s .args .g) (s .pre .0 .proper) (now (s .args .t)) (d .before .overflow-run .result)
-    (ap (λ (r : Slots). r .link) (d .before .overflow-run .ensures)) (keyNumber (s .args .entry)) (d .scan .result) (d .scan .ensures)
+    (ap (λ (r : Slots). r .link) (d .before .overflow-run .ensures)) (keyNumber (s .args .entry)) (d .scan .result .0) (d .scan .ensures)
 
 -- the block after it
-next : (c : tie.Joined3 Inv-loop μ-loop) → let m = head (c .before .before .before .before .before .before) in
+next : (c : tie.Joined3 Inv-loop μ-loop) → let m = head (c .before .before .before .before .before .before .before) in
     let s = start m in
-    c .if3 .b ≡ nextOf (s .args .g) (decode (s .args .g) (now (s .args .t)) .overflow) (m .loop .b)
+    c .if3 .b .0 ≡ nextOf (s .args .g) (decode (s .args .g) (now (s .args .t)) .overflow) (m .loop .b .0)
 next c =
-    let k = c .before .before .before .before .before .before in
+    let k = c .before .before .before .before .before .before .before in
     let f = k .before .before .overflow-front .ensures in
     let m = head k in
     let s = start m in
     let os = decode (s .args .g) (now (s .args .t)) .overflow in
     ⊎-elim
-    (λ w. w .1 ∙ f .1 ∙ sym (next-further (s .args .g) os (m .loop .b) (sym (f .0) ∙ w .0 .taken)))
-    (λ w. w .1 ∙ sym (next-last (s .args .g) os (m .loop .b) (λ e. w .0 .left (f .0 ∙ e))))
+    (λ w. ap (λ (x : BlockNumber). x .0) (w .1) ∙ f .1 ∙ sym (next-further (s .args .g) os (m .loop .b .0) (sym (f .0) ∙ w .0 .taken)))
+    (λ w. ap (λ (x : BlockNumber). x .0) (w .1) ∙ sym (next-last (s .args .g) os (m .loop .b .0) (λ e. w .0 .left (f .0 ∙ e))))
     (c .if3 .came)
 
 loop-holds : tie.Need-loop-holds Inv-loop μ-loop
@@ -76,21 +77,21 @@ loop-holds c = refl
 
 returns : tie.Need-returns Inv-loop μ-loop
 returns c =
-    let m = c .before .before .before in
+    let m = c .before .before .before .before in
     let s = start m in
     ap (hasEntry (s .args .g) (keyNumber (s .args .entry)))
-    (sym (slots-high (s .args .g) (decode (s .args .g) (now (s .args .t)) .overflow) (m .loop .left) (m .loop .b) (omega arith)))
+    (sym (slots-high (s .args .g) (decode (s .args .g) (now (s .args .t)) .overflow) (m .loop .left) (m .loop .b .0) (omega arith)))
     ∙ m .loop .inv
 
 overflow-front-requires : tie.Need-overflow-front-requires Inv-loop μ-loop
-overflow-front-requires c κs = (start (c .before .before .before) .pre .0, omega arith)
+overflow-front-requires c κs = (start (c .before .before .before .before) .pre .0, omega arith)
 
 least-requires : tie.Need-least-requires Inv-loop μ-loop
 least-requires c κs = search needs
 
 overflow-run-requires : tie.Need-overflow-run-requires Inv-loop μ-loop
 overflow-run-requires c κs =
-    (start (c .before .before .before .before .before) .pre .0 .proper, omega arith, omega (arith, c .least .ensures))
+    (start (c .before .before .before .before .before .before) .pre .0 .proper, omega arith, omega (arith, c .least .ensures))
 
 scan-requires : tie.Need-scan-requires Inv-loop μ-loop
 unfolding overflowRun keyNumber
@@ -98,16 +99,16 @@ scan-requires c κs =
     let m = head c in
     let s = start m in
     let n : c .overflow-run .result .count ≤ s .args .g .sio = omega (arith, ap (λ (r : Slots). r .count) (c .overflow-run .ensures)) in
-    (rw (c .overflow-run .ensures) (overflow-row (s .args .g) (now (s .args .t)) (s .pre .0) (m .loop .b) (omega arith)), n, s .pre .1)
+    (rw (c .overflow-run .ensures) (overflow-row (s .args .g) (now (s .args .t)) (s .pre .0) (m .loop .b .0) (omega arith)), n, s .pre .1)
 
 returns-2 : tie.Need-returns-2 Inv-loop μ-loop
 returns-2 c =
-    let d = c .before .before in
+    let d = c .before .before .before in
     let h = here (d .before .before .before .before) in
     let m = head (d .before) in
     let s = start m in
     sym
-    (held-here (s .args .g) (now (s .args .t)) (s .pre .0) (keyNumber (s .args .entry)) (m .loop .left) (m .loop .left - 1) (m .loop .b)
+    (held-here (s .args .g) (now (s .args .t)) (s .pre .0) (keyNumber (s .args .entry)) (m .loop .left) (m .loop .left - 1) (m .loop .b .0)
     (d .before .overflow-run .result) (h .0) (h .1) (run (d .before)) (omega (arith, c .if2 .taken, place d)))
     ∙ m .loop .inv
 
@@ -120,14 +121,14 @@ loop-less c = omega arith
 loop-again : tie.Need-loop-again Inv-loop μ-loop
 loop-again c =
     let k = c .before .before .before in
-    let d = k .before .before in
+    let d = k .before .before .before in
     let h = here (d .before .before .before .before) in
     let m = head (d .before) in
     let s = start m in
     let os = decode (s .args .g) (now (s .args .t)) .overflow in
     ap (λ (x : ℕ). hasEntry (s .args .g) (keyNumber (s .args .entry)) (slotsFrom (s .args .g) (m .loop .left - 1) os x)) (next c)
     ∙ sym
-    (held-on (s .args .g) (now (s .args .t)) (s .pre .0) (keyNumber (s .args .entry)) (m .loop .left) (m .loop .left - 1) (m .loop .b)
+    (held-on (s .args .g) (now (s .args .t)) (s .pre .0) (keyNumber (s .args .entry)) (m .loop .left) (m .loop .left - 1) (m .loop .b .0)
     (d .before .overflow-run .result) (h .0) (h .1) (run (d .before)) (omega (arith, k .if2 .left, place d)))
     ∙ m .loop .inv
 
@@ -136,7 +137,7 @@ returns-3 c =
     let m = c .before in
     let s = start m in
     ap (hasEntry (s .args .g) (keyNumber (s .args .entry)))
-    (sym (slots-out (s .args .g) (decode (s .args .g) (now (s .args .t)) .overflow) (m .loop .left) (m .loop .b) (omega arith)))
+    (sym (slots-out (s .args .g) (decode (s .args .g) (now (s .args .t)) .overflow) (m .loop .left) (m .loop .b .0) (omega arith)))
     ∙ m .loop .inv
 
 pub held-from-spec : {M : Type 1} → statement M

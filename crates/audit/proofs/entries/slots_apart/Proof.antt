@@ -24,7 +24,7 @@ use Rattle.audit.proofs.entries.slots_apart.Tie as tie
 abbrev Inv-loop : tie.InvT-loop
 Inv-loop t g b next most at₀ j₀ at j =
     (j ≤ b .count) × (at ≡ b .start + j * g .slot)
-    × ((k : ℕ) → k < j → alone g (slotsIn g t b) (slotsFrom g most (decode g t .overflow) next) k ≡ true)
+    × ((k : ℕ) → k < j → alone g (slotsIn g t b) (slotsFrom g most (decode g t .overflow) (next .0)) k ≡ true)
 
 abbrev μ-loop : tie.MeasureT-loop
 μ-loop t g b next most at₀ j₀ at j = b .count - j
@@ -36,7 +36,7 @@ abbrev slots : tie.At-loop Inv-loop μ-loop → List ℕ
 slots m = slotsIn (start m .args .g) (now (start m .args .t)) (start m .args .b)
 
 abbrev later : tie.At-loop Inv-loop μ-loop → List ℕ
-later m = slotsFrom (start m .args .g) (start m .args .most) (decode (start m .args .g) (now (start m .args .t)) .overflow) (start m .args .next)
+later m = slotsFrom (start m .args .g) (start m .args .most) (decode (start m .args .g) (now (start m .args .t)) .overflow) (start m .args .next .0)
 
 -- the entry that was read is that of slot j
 entry : (c : tie.After-entry-at Inv-loop μ-loop) → let m = c .before .before .before in
@@ -53,7 +53,7 @@ small c = rw (c .entry-at .ensures) (field-lt _ _ _)
 -- the first j slots were looked through for it
 looked : (c : tie.After-scan-run Inv-loop μ-loop) → let m = c .before .before .before .before in let s = start m in
     First (shown (now (s .args .t)) (s .args .b)) (s .args .b .start) (s .args .g .slot) (s .args .g .bie) (keyNumber (c .before .entry-at .result)) (m .loop .j)
-    (c .scan-run .result)
+    (c .scan-run .result .0)
 unfolding shown
 looked c = c .scan-run .ensures
 
@@ -78,23 +78,23 @@ scan-run-requires c κs =
 
 returns : tie.Need-returns Inv-loop μ-loop
 returns c =
-    let k = c .before .before in
+    let k = c .before .before .before in
     let m = k .before .before .before in
     let s = start m in
     sym
     (every-not (s .args .b .count) (alone (s .args .g) (slots m) (later m)) (m .loop .j) (omega arith)
     (alone-before (s .args .g) (slots m) (later m) (m .loop .j) (keyNumber (k .entry-at .result)) (entry k)
-    (met-before (s .args .g) (s .pre .0 .proper) (now (s .args .t)) (s .args .b) (s .pre .1) (keyNumber (k .entry-at .result)) (m .loop .j) (c .before .scan-run .result)
-    (m .loop .inv .0) (looked (c .before)) (omega (arith, c .if2 .taken)))))
+    (met-before (s .args .g) (s .pre .0 .proper) (now (s .args .t)) (s .args .b) (s .pre .1) (keyNumber (k .entry-at .result)) (m .loop .j) (c .before .before .scan-run .result .0)
+    (m .loop .inv .0) (looked (c .before .before)) (omega (arith, c .if2 .taken)))))
 
 held-from-requires : tie.Need-held-from-requires Inv-loop μ-loop
 held-from-requires c κs =
-    let k = c .before .before in
+    let k = c .before .before .before in
     (start (k .before .before .before) .pre .0, small k)
 
 returns-2 : tie.Need-returns-2 Inv-loop μ-loop
 returns-2 c =
-    let k = c .before .before .before .before in
+    let k = c .before .before .before .before .before in
     let m = k .before .before .before in
     let s = start m in
     sym
@@ -103,14 +103,14 @@ returns-2 c =
 
 add-at : tie.Need-add-at Inv-loop μ-loop
 add-at c =
-    let m = c .before .before .before .before .before .before .before .before in
+    let m = c .before .before .before .before .before .before .before .before .before in
     let s = start m in
-    let h : suc (m .loop .j) ≤ s .args .b .count = omega arith in
+    let h : suc (m .loop .j) ≤ s .args .b .count = omega (arith, c .before .before .before .before .before .before .before .if1 .taken) in
     omega (arith, mul-le-mul-right (s .args .g .slot) h, s .pre .1 .near, m .loop .inv .1)
 
 add-j : tie.Need-add-j Inv-loop μ-loop
 add-j c =
-    let s = start (c .before .before .before .before .before .before .before .before) in
+    let s = start (c .before .before .before .before .before .before .before .before .before) in
     omega (arith, s .pre .1 .few)
 
 loop-less : tie.Need-loop-less Inv-loop μ-loop
@@ -120,15 +120,15 @@ loop-again : tie.Need-loop-again Inv-loop μ-loop
 loop-again c =
     let e = c .before in
     let n = e .before .before in
-    let k = n .before .before in
+    let k = n .before .before .before in
     let m = k .before .before .before in
     let s = start m in (
       omega arith,
       omega (arith, m .loop .inv .1),
       below-more _ _ (m .loop .inv .2)
           (alone-yes (s .args .g) (slots m) (later m) (m .loop .j) (keyNumber (k .entry-at .result)) (entry k)
-          (none-before (s .args .g) (s .pre .0 .proper) (now (s .args .t)) (s .args .b) (s .pre .1) (keyNumber (k .entry-at .result)) (m .loop .j) (n .before .scan-run .result)
-          (m .loop .inv .0) (looked (n .before)) (omega (arith, n .if2 .left)))
+          (none-before (s .args .g) (s .pre .0 .proper) (now (s .args .t)) (s .args .b) (s .pre .1) (keyNumber (k .entry-at .result)) (m .loop .j) (n .before .before .scan-run .result .0)
+          (m .loop .inv .0) (looked (n .before .before)) (omega (arith, n .if2 .left)))
           (sym (e .before .held-from .ensures) ∙ e .if3 .left)),
     )
 

@@ -17,8 +17,8 @@ free-start-requires c κs = search needs
 returns : tie.Need-returns
 unfolding chainWalk
 returns c =
-    let s = c .before .before .before .before in
-    rw (eq-eqb (decode (s .args .g) (now (s .args .t)) .free) (s .args .g .nob) (sym (c .before .free-start .ensures) ∙ c .if1 .taken))
+    let s = c .before .before .before .before .before in
+    rw (eq-eqb (decode (s .args .g) (now (s .args .t)) .free) (s .args .g .nob) (sym (c .before .before .free-start .ensures) ∙ c .if1 .taken))
 
 mark-from-requires : tie.Need-mark-from-requires
 mark-from-requires c κs = search needs
@@ -31,7 +31,7 @@ unfolding chainWalk
 returns-2 c =
     let k = c .before .before in
     let e = k .before .before in
-    let f = e .before in
+    let f = e .before .before in
     let s = f .before .before .before in
     rw (ne-eqb (decode (s .args .g) (now (s .args .t)) .free) (s .args .g .nob) (λ q. e .if1 .left (f .free-start .ensures ∙ q)))
     (ap (λ (b : ℕ). walk (s .args .g) (stepOf (s .args .g) (decode (s .args .g) (now (s .args .t)) .overflow) true) (s .args .g .nob) b (now (s .args .marks))) (sym (f .free-start .ensures))

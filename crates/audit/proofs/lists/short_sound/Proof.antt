@@ -24,7 +24,7 @@ zeros-after-requires c κs =
     let s = c .before .before in
     let T = s .pre .0 in
     let e = c .basic-slots .ensures in
-    let r = basic-room (s .args .g) (now (s .args .t)) T (s .args .i) (s .pre .1) in
+    let r = basic-room (s .args .g) (now (s .args .t)) T (s .args .i .0) (s .pre .1) in
     (s .pre .3, omega (arith, T .room), omega (arith, bits-high (s .args .g) (T .proper)))
 
 returns : tie.Need-returns
@@ -33,9 +33,9 @@ returns c =
     let s = z .before .before .before in
     let g = s .args .g in
     let t = now (s .args .t) in
-    let r = basicRun g (s .args .i) (s .args .n) in
+    let r = basicRun g (s .args .i .0) (s .args .n) in
     ap (λ (q : Bool). q && everyBelow (r .count) (alone g (slotsIn g t r) (slotsFrom g 0 (decode g t .overflow) (g .nob)))) (sym (not-true _ (c .if1 .taken)) ∙ z .zeros-after .ensures)
-    ∙ short-as g t (s .pre .0) (s .args .i) (s .pre .1) (z .before .basic-slots .result) (s .args .n) r (z .before .basic-slots .ensures) (s .pre .2) (s .pre .3) refl
+    ∙ short-as g t (s .pre .0) (s .args .i .0) (s .pre .1) (z .before .basic-slots .result) (s .args .n) r (z .before .basic-slots .ensures) (s .pre .2) (s .pre .3) refl
 
 basic-run-requires : tie.Need-basic-run-requires
 basic-run-requires c κs = search needs
@@ -43,7 +43,7 @@ basic-run-requires c κs = search needs
 slots-apart-requires : tie.Need-slots-apart-requires
 slots-apart-requires c κs =
     let s = c .before .before .before .before .before in
-    (s .pre .0, rw (c .basic-run .ensures) (basic-run-within (s .args .g) (now (s .args .t)) (s .pre .0) (s .args .i) (s .args .n) (s .pre .1) (s .pre .3)))
+    (s .pre .0, rw (c .basic-run .ensures) (basic-run-within (s .args .g) (now (s .args .t)) (s .pre .0) (s .args .i .0) (s .args .n) (s .pre .1) (s .pre .3)))
 
 returns-2 : tie.Need-returns-2
 returns-2 c =
@@ -52,7 +52,7 @@ returns-2 c =
     let z = e .before in
     let s = z .before .before .before in
     ap₂ _&&_ (sym (not-false _ (e .if1 .left)) ∙ z .zeros-after .ensures) (c .slots-apart .ensures)
-    ∙ short-as (s .args .g) (now (s .args .t)) (s .pre .0) (s .args .i) (s .pre .1) (z .before .basic-slots .result) (s .args .n) (r .basic-run .result)
+    ∙ short-as (s .args .g) (now (s .args .t)) (s .pre .0) (s .args .i .0) (s .pre .1) (z .before .basic-slots .result) (s .args .n) (r .basic-run .result)
     (z .before .basic-slots .ensures) (s .pre .2) (s .pre .3) (r .basic-run .ensures)
 
 pub short-sound-spec : {M : Type 1} → statement M

@@ -12,8 +12,8 @@ use Rattle.table.specs.State.{overflowAt}
 use Rattle.table.specs.Decode.{decode}
 use Rattle.table.specs.Check.{allZero}
 use Rattle.table.specs.theory.Changes.{bits-high}
-use Rattle.audit.specs.declared.steps.Step.the-variants.{Last, Further}
-use Rattle.audit.specs.Walk.{chainStep}
+use Rattle.audit.specs.declared.steps.Step.the-variants.{Last}
+use Rattle.audit.specs.Walk.{further, chainStep}
 use Rattle.audit.specs.theory.Zeros.{over-room, over-zeros}
 use Rattle.audit.specs.theory.Steps.{chain-used, chain-full, chain-free}
 use Rattle.audit.proofs.steps.chain_step.Statement.{statement}
@@ -33,21 +33,21 @@ zeros-after-requires c κs =
     let s = c .before .before .before .before in
     let T = s .pre .0 in
     let e = c .overflow-slots .ensures in
-    let r = over-room (s .args .g) (now (s .args .t)) T (s .args .b) (s .pre .1) in
+    let r = over-room (s .args .g) (now (s .args .t)) T (s .args .b .0) (s .pre .1) in
     (omega arith, omega (arith, T .room), omega (arith, bits-high (s .args .g) (T .proper)))
 
 slots : (c : tie.After-zeros-after) → let s = c .before .before .before .before .before in
-    allZero (overflowAt (decode (s .args .g) (now (s .args .t)) .overflow) (s .args .b) .slots) ≡ c .zeros-after .result
+    allZero (overflowAt (decode (s .args .g) (now (s .args .t)) .overflow) (s .args .b .0) .slots) ≡ c .zeros-after .result
 slots c =
     let s = c .before .before .before .before .before in
     let g = s .args .g in
     let t = now (s .args .t) in
-    over-zeros g t (s .pre .0) (s .args .b) 0 (s .pre .1)
+    over-zeros g t (s .pre .0) (s .args .b .0) 0 (s .pre .1)
     ∙ ap (λ (a : ℕ). eqb (field t (a + 0 * g .slot) ((g .sio - 0) * g .slot)) 0) (sym (c .before .overflow-slots .ensures))
     ∙ sym (c .zeros-after .ensures)
 
 counter : (c : tie.After-zeros-after) → let s = c .before .before .before .before .before in
-    overflowAt (decode (s .args .g) (now (s .args .t)) .overflow) (s .args .b) .counter ≡ 0
+    overflowAt (decode (s .args .g) (now (s .args .t)) .overflow) (s .args .b .0) .counter ≡ 0
 counter c = sym (c .before .before .before .overflow-counter .ensures) ∙ c .before .before .if1 .left
 
 returns-2 : tie.Need-returns-2
@@ -57,24 +57,24 @@ overflow-link-requires : tie.Need-overflow-link-requires
 overflow-link-requires c κs = search needs
 
 free : (c : tie.After-overflow-link) → let s = c .before .before .before .before .before .before .before in
-    let o = overflowAt (decode (s .args .g) (now (s .args .t)) .overflow) (s .args .b) in
-    cond (eqb (o .link) (s .args .b)) Last (Further (o .link)) ≡ chainStep (s .args .g) (decode (s .args .g) (now (s .args .t)) .overflow) (s .args .b)
+    let o = overflowAt (decode (s .args .g) (now (s .args .t)) .overflow) (s .args .b .0) in
+    cond (eqb (o .link) (s .args .b .0)) Last (further (o .link)) ≡ chainStep (s .args .g) (decode (s .args .g) (now (s .args .t)) .overflow) (s .args .b .0)
 free c =
     let z = c .before .before in
     sym (chain-free _ _ _ (counter z) (slots z ∙ not-false _ (c .before .if2 .left)))
 
 returns-3 : tie.Need-returns-3
 returns-3 c =
-    let s = c .before .before .before .before .before .before .before .before in
-    let e : overflowAt (decode (s .args .g) (now (s .args .t)) .overflow) (s .args .b) .link ≡ s .args .b = sym (c .before .overflow-link .ensures) ∙ c .if3 .taken in
-    let q = eq-eqb (overflowAt (decode (s .args .g) (now (s .args .t)) .overflow) (s .args .b) .link) (s .args .b) e in
-    ap (λ (r : Bool). cond r Last (Further (overflowAt (decode (s .args .g) (now (s .args .t)) .overflow) (s .args .b) .link))) (sym q) ∙ free (c .before)
+    let s = c .before .before .before .before .before .before .before .before .before in
+    let e : overflowAt (decode (s .args .g) (now (s .args .t)) .overflow) (s .args .b .0) .link ≡ s .args .b .0 = sym (c .before .before .overflow-link .ensures) ∙ c .if3 .taken in
+    let q = eq-eqb (overflowAt (decode (s .args .g) (now (s .args .t)) .overflow) (s .args .b .0) .link) (s .args .b .0) e in
+    ap (λ (r : Bool). cond r Last (further (overflowAt (decode (s .args .g) (now (s .args .t)) .overflow) (s .args .b .0) .link))) (sym q) ∙ free (c .before .before)
 
 returns-4 : tie.Need-returns-4
 returns-4 c =
-    let s = c .before .before .before .before .before .before .before .before in
-    let q = ne-eqb (overflowAt (decode (s .args .g) (now (s .args .t)) .overflow) (s .args .b) .link) (s .args .b) (λ e. c .if3 .left (c .before .overflow-link .ensures ∙ e)) in
-    ap Further (c .before .overflow-link .ensures) ∙ ap (λ (r : Bool). cond r Last (Further (overflowAt (decode (s .args .g) (now (s .args .t)) .overflow) (s .args .b) .link))) (sym q) ∙ free (c .before)
+    let s = c .before .before .before .before .before .before .before .before .before in
+    let q = ne-eqb (overflowAt (decode (s .args .g) (now (s .args .t)) .overflow) (s .args .b .0) .link) (s .args .b .0) (λ e. c .if3 .left (c .before .before .overflow-link .ensures ∙ e)) in
+    ap further (c .before .before .overflow-link .ensures) ∙ ap (λ (r : Bool). cond r Last (further (overflowAt (decode (s .args .g) (now (s .args .t)) .overflow) (s .args .b .0) .link))) (sym q) ∙ free (c .before .before)
 
 pub chain-step-spec : {M : Type 1} → statement M
 chain-step-spec =

@@ -11,8 +11,8 @@ use Rattle.table.specs.State.{overflowAt}
 use Rattle.table.specs.Decode.{overflowSlots, decode}
 use Rattle.table.specs.Check.{overflowUnused}
 use Rattle.table.specs.theory.Changes.{bits-high}
-use Rattle.audit.specs.declared.steps.Step.the-variants.{Further}
 use Rattle.audit.specs.theory.Zeros.{over-room, over-zeros}
+use Rattle.audit.specs.Walk.{further}
 use Rattle.audit.specs.theory.Steps.{list-further, list-high, list-last}
 use Rattle.audit.proofs.steps.list_step.Statement.{statement}
 use Rattle.audit.proofs.steps.list_step.Tie as tie
@@ -26,7 +26,7 @@ overflow-link-requires c κs = search needs
 returns : tie.Need-returns
 returns c =
     let k = c .before .before .before in
-    ap Further (c .overflow-link .ensures) ∙ sym (list-further _ _ _ (sym (k .overflow-counter .ensures) ∙ c .before .if1 .taken))
+    ap further (c .overflow-link .ensures) ∙ sym (list-further _ _ _ (sym (k .overflow-counter .ensures) ∙ c .before .if1 .taken))
 
 returns-2 : tie.Need-returns-2
 returns-2 c = sym (list-high _ _ _ (omega (arith, c .before .before .before .before .overflow-counter .ensures)))
@@ -42,25 +42,25 @@ zeros-after-requires c κs =
     let s = c .before .before .before .before .before .before .before in
     let T = s .pre .0 in
     let e = c .overflow-slots .ensures in
-    let r = over-room (s .args .g) (now (s .args .t)) T (s .args .b) (s .pre .1) in
+    let r = over-room (s .args .g) (now (s .args .t)) T (s .args .b .0) (s .pre .1) in
     (omega arith, omega (arith, T .room), omega (arith, bits-high (s .args .g) (T .proper)))
 
 unused : (c : tie.After-zeros-after) → let s = c .before .before .before .before .before .before .before .before in
-    overflowUnused (s .args .g) (decode (s .args .g) (now (s .args .t)) .overflow) (s .args .b) ≡ c .zeros-after .result
+    overflowUnused (s .args .g) (decode (s .args .g) (now (s .args .t)) .overflow) (s .args .b .0) ≡ c .zeros-after .result
 unused c =
     let k = c .before .before .before .before .before .before in
     let s = k .before .before in
     let g = s .args .g in
     let t = now (s .args .t) in
-    let o = overflowAt (decode g t .overflow) (s .args .b) in
+    let o = overflowAt (decode g t .overflow) (s .args .b .0) in
     let e : suc (o .counter) ≡ k .overflow-counter .result + 1 = omega (arith, k .overflow-counter .ensures) in
-    over-zeros g t (s .pre .0) (s .args .b) (suc (o .counter)) (s .pre .1)
-    ∙ ap (λ (n : ℕ). eqb (field t (overflowSlots g (s .args .b) + n * g .slot) ((g .sio - n) * g .slot)) 0) e
+    over-zeros g t (s .pre .0) (s .args .b .0) (suc (o .counter)) (s .pre .1)
+    ∙ ap (λ (n : ℕ). eqb (field t (overflowSlots g (s .args .b .0) + n * g .slot) ((g .sio - n) * g .slot)) 0) e
     ∙ ap (λ (a : ℕ). eqb (field t (a + (k .overflow-counter .result + 1) * g .slot) ((g .sio - (k .overflow-counter .result + 1)) * g .slot)) 0) (sym (c .before .overflow-slots .ensures))
     ∙ sym (c .zeros-after .ensures)
 
 low : (c : tie.After-zeros-after) → let s = c .before .before .before .before .before .before .before .before in
-    overflowAt (decode (s .args .g) (now (s .args .t)) .overflow) (s .args .b) .counter < s .args .g .sio
+    overflowAt (decode (s .args .g) (now (s .args .t)) .overflow) (s .args .b .0) .counter < s .args .g .sio
 low c = omega (arith, c .before .before .before .before .before .before .overflow-counter .ensures)
 
 returns-3 : tie.Need-returns-3

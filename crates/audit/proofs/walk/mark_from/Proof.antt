@@ -16,18 +16,18 @@ use Rattle.audit.proofs.walk.mark_from.Statement.{statement}
 use Rattle.audit.proofs.walk.mark_from.Tie as tie
 
 abbrev Inv-loop : tie.InvT-loop
-Inv-loop t g chain first marks₀ b₀ left₀ marks b left =
+Inv-loop t g chain marks₀ first left₀ marks b left =
     (left ≤ g .nob) × (length marks ≡ length marks₀)
-    × (walk g (stepOf g (decode g t .overflow) chain) left b marks ≡ walk g (stepOf g (decode g t .overflow) chain) (g .nob) first marks₀)
+    × (walk g (stepOf g (decode g t .overflow) chain) left (b .0) marks ≡ walk g (stepOf g (decode g t .overflow) chain) (g .nob) (first .0) marks₀)
 
 abbrev μ-loop : tie.MeasureT-loop
-μ-loop t g chain first marks₀ b₀ left₀ marks b left = left
+μ-loop t g chain marks₀ first left₀ marks b left = left
 
 abbrev start : tie.At-loop Inv-loop μ-loop → tie.Start Inv-loop μ-loop
 start m = m .before .before .before
 
 abbrev head : tie.After-put Inv-loop μ-loop → tie.At-loop Inv-loop μ-loop
-head p = p .before .before .before .before .before .before .before .before
+head p = p .before .before .before .before .before .before .before .before .before
 
 abbrev step : tie.At-loop Inv-loop μ-loop → ℕ → Step
 step m = stepOf (start m .args .g) (decode (start m .args .g) (now (start m .args .t)) .overflow) (start m .args .chain)
@@ -38,12 +38,12 @@ long p = ap length (p .put .ensures) ∙ put-length _ _ _ _ ∙ head p .loop .in
 turned : (w : tie.After-way-on Inv-loop μ-loop) (s : Step) → w .way-on .result ≡ s
     → let p = w .before .before .before in
     let m = head p in
-    walk (start m .args .g) (step m) (m .loop .left) (m .loop .b) (m .loop .marks)
+    walk (start m .args .g) (step m) (m .loop .left) (m .loop .b .0) (m .loop .marks)
     ≡ goOn s (p .put .last .0) (λ k. walk (start m .args .g) (step m) (m .loop .left - 1) k (p .put .last .0))
 turned w s e =
     let p = w .before .before .before in
     let m = head p in
-    walk-on (start m .args .g) (step m) (m .loop .left) (m .loop .left - 1) (m .loop .b) (m .loop .marks) s
+    walk-on (start m .args .g) (step m) (m .loop .left) (m .loop .left - 1) (m .loop .b .0) (m .loop .marks) s
     (omega arith) (omega arith)
     (λ q. p .before .before .if2 .left (p .before .before .before .get .ensures ∙ q))
     (sym (w .way-on .ensures) ∙ e)
@@ -53,24 +53,24 @@ loop-holds : tie.Need-loop-holds Inv-loop μ-loop
 loop-holds c = (omega arith, refl, refl)
 
 same-length : tie.Need-same-length Inv-loop μ-loop
-same-length c = c .before .before .before .loop .inv .1
+same-length c = c .before .before .before .before .loop .inv .1
 
 returns : tie.Need-returns Inv-loop μ-loop
 returns c =
-    let m = c .before .before .before in
-    sym (m .loop .inv .2) ∙ walk-high (start m .args .g) (step m) (m .loop .left) (m .loop .b) (m .loop .marks) (omega arith)
+    let m = c .before .before .before .before in
+    sym (m .loop .inv .2) ∙ walk-high (start m .args .g) (step m) (m .loop .left) (m .loop .b .0) (m .loop .marks) (omega arith)
 
 get-requires : tie.Need-get-requires Inv-loop μ-loop
 get-requires c κs = omega arith
 
 same-length-2 : tie.Need-same-length-2 Inv-loop μ-loop
-same-length-2 c = c .before .before .before .before .before .before .loop .inv .1
+same-length-2 c = c .before .before .before .before .before .before .before .loop .inv .1
 
 returns-2 : tie.Need-returns-2 Inv-loop μ-loop
 returns-2 c =
-    let m = c .before .before .before .before .before .before in
+    let m = c .before .before .before .before .before .before .before in
     sym (m .loop .inv .2)
-    ∙ walk-met (start m .args .g) (step m) (m .loop .left) (m .loop .b) (m .loop .marks) (sym (c .before .get .ensures) ∙ c .if2 .taken)
+    ∙ walk-met (start m .args .g) (step m) (m .loop .left) (m .loop .b .0) (m .loop .marks) (sym (c .before .get .ensures) ∙ c .if2 .taken)
 
 put-requires : tie.Need-put-requires Inv-loop μ-loop
 put-requires c κs = omega arith
@@ -106,10 +106,10 @@ returns-4 c =
     sym (head (w .before .before .before) .loop .inv .2) ∙ turned w Broken (c .enum-told2 .given .1)
 
 sub-left : tie.Need-sub-left Inv-loop μ-loop
-sub-left c = omega (arith, c .before .before .before .before .before .before .before .before .before .before .before .before .before .loop-test .taken)
+sub-left c = omega (arith, c .before .before .before .before .before .before .before .before .before .before .before .before .before .before .loop-test .taken)
 
 loop-less : tie.Need-loop-less Inv-loop μ-loop
-loop-less c = omega (arith, c .before .before .before .before .before .before .before .before .before .before .before .before .before .loop-test .taken)
+loop-less c = omega (arith, c .before .before .before .before .before .before .before .before .before .before .before .before .before .before .loop-test .taken)
 
 loop-again : tie.Need-loop-again Inv-loop μ-loop
 loop-again c =
@@ -124,7 +124,7 @@ same-length-5 c = c .before .loop .inv .1
 returns-5 : tie.Need-returns-5 Inv-loop μ-loop
 returns-5 c =
     let m = c .before in
-    sym (m .loop .inv .2) ∙ walk-out (start m .args .g) (step m) (m .loop .left) (m .loop .b) (m .loop .marks) (omega arith)
+    sym (m .loop .inv .2) ∙ walk-out (start m .args .g) (step m) (m .loop .left) (m .loop .b .0) (m .loop .marks) (omega arith)
 
 pub mark-from-spec : {M : Type 1} → statement M
 mark-from-spec =

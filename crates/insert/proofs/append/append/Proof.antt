@@ -14,10 +14,10 @@ use Rattle.insert.proofs.append.append.Statement.{statement}
 use Rattle.insert.proofs.append.append.Tie as tie
 
 -- the basic block's counter, where it has all the entries
-counter-is : (s : tie.Start) → let a = s .args in a .v .compared ≤ a .g .sib → a .v .compared ≡ basicAt (decode (a .g) (now (a .t)) .basic) (a .i) .counter
+counter-is : (s : tie.Start) → let a = s .args in a .v .compared ≤ a .g .sib → a .v .compared ≡ basicAt (decode (a .g) (now (a .t)) .basic) (a .i .0) .counter
 counter-is s h =
     let a = s .args in
-    few (a .g) (decode (a .g) (now (a .t))) (a .i) (a .v .compared) (s .pre .1) (sized (a .g) (now (a .t)) (s .pre .0 .table)) h
+    few (a .g) (decode (a .g) (now (a .t))) (a .i .0) (a .v .compared) (s .pre .1) (sized (a .g) (now (a .t)) (s .pre .0 .table)) h
 
 -- the list overflows
 many : (c : tie.Else2) → let a = c .before .before .before .before .before .before .args in a .g .sib < a .v .compared
@@ -60,19 +60,19 @@ spot-of-requires c κs =
     let a = s .args in
     let T = s .pre .0 .table in (
       T,
-      last-reached (a .g) (decode (a .g) (now (a .t))) (a .i) (a .v .compared) (s .pre .1) (sized (a .g) (now (a .t)) T)
+      last-reached (a .g) (decode (a .g) (now (a .t))) (a .i .0) (a .v .compared) (s .pre .1) (sized (a .g) (now (a .t)) T)
           (many (c .before .before .before .before)) (c .before .before .basic-head .result) (c .before .before .basic-head .ensures),
     )
 
 -- the last entry stands at the list's end
 end-is : (c : tie.After-spot-of)
     → let a = c .before .before .before .before .before .before .before .before .before .before .before .args in let st = decode (a .g) (now (a .t)) in
-    EndsIn (a .g) st (a .i) (c .before .before .before .basic-head .result) (c .spot-of .result .block)
-    × (c .spot-of .result .slot ≡ overflowAt (st .overflow) (c .spot-of .result .block) .counter)
+    EndsIn (a .g) st (a .i .0) (c .before .before .before .basic-head .result) (c .spot-of .result .block .0)
+    × (c .spot-of .result .slot .0 ≡ overflowAt (st .overflow) (c .spot-of .result .block .0) .counter)
 end-is c =
     let s = c .before .before .before .before .before .before .before .before .before .before .before in
     let a = s .args in
-    ends-in (a .g) (decode (a .g) (now (a .t))) (a .i) (a .v .compared) (s .pre .1) (sized (a .g) (now (a .t)) (s .pre .0 .table))
+    ends-in (a .g) (decode (a .g) (now (a .t))) (a .i .0) (a .v .compared) (s .pre .1) (sized (a .g) (now (a .t)) (s .pre .0 .table))
     (many (c .before .before .before .before .before)) (c .before .before .before .basic-head .result) (c .before .before .before .basic-head .ensures)
     (c .spot-of .result) (c .spot-of .ensures)
 
@@ -80,7 +80,7 @@ add-append-overflow : tie.Need-add-append-overflow
 add-append-overflow c =
     let s = c .before .before .before .before .before .before .before .before .before .before .before .before .before in
     let e = end-is (c .before .before) in
-    omega (arith, e .1, counter-small (s .args .g) (now (s .args .t)) (s .pre .0 .table) (c .before .before .spot-of .result .block) (e .0 .low))
+    omega (arith, e .1, counter-small (s .args .g) (now (s .args .t)) (s .pre .0 .table) (c .before .before .spot-of .result .block .0) (e .0 .low))
 
 append-overflow-requires : tie.Need-append-overflow-requires
 append-overflow-requires c κs =

@@ -12,7 +12,7 @@ use Rattle.insert.specs.theory.AppendLaws.{first-refused, append-first}
 use Rattle.insert.proofs.append.append_first.Statement.{statement}
 use Rattle.insert.proofs.append.append_first.Tie as tie
 
-took : (c : tie.After-number) → let s = c .before .before .before .before .before in Takes (s .args .g) (decode (s .args .g) (now (s .args .t))) (c .number .given .0 .0) (c .number .given .0 .1 .0)
+took : (c : tie.After-number) → let s = c .before .before .before .before .before in Takes (s .args .g) (decode (s .args .g) (now (s .args .t))) (c .number .given .0 .0 .0) (c .number .given .0 .1 .0 .0)
 took c = takes _ _ _ _ (sym (c .before .before .free-block .ensures) ∙ c .number .given .1)
 
 free-block-requires : tie.Need-free-block-requires
@@ -35,7 +35,7 @@ take-requires c κs =
     let k = took (c .before .before .before .before .before .before .before .before) in (
       c .before .before .before .link-basic .ensures .table,
       k .low,
-      rw (c .before .before .before .before .before .basic-head .ensures) (head-lt (s .args .g) (now (s .args .t)) (s .pre .0 .table) (s .args .i) (s .pre .0 .list)),
+      rw (c .before .before .before .before .before .basic-head .ensures) (head-lt (s .args .g) (now (s .args .t)) (s .pre .0 .table) (s .args .i .0) (s .pre .0 .list)),
       k .next-low,
       s .pre .0 .slotted,
     )
@@ -56,7 +56,7 @@ returns c =
     let g = s .args .g in
     let T = s .pre .0 .table in
     let v = s .args .v in
-    append-first g (now (s .args .t)) T (λ j. omega (arith, a .slice-known .given j)) (s .args .i) v (s .pre .0 .list)
+    append-first g (now (s .args .t)) T (λ j. omega (arith, a .slice-known .given j)) (s .args .i .0) v (s .pre .0 .list)
     (slot-lt g (T .proper) (keyNumber (v .entry)) (v .label) (s .pre .0 .slotted)) (s .pre .1) _ _ _
     (took (c .before .before .before .before .before .before .before .before .before .before .before .before))
     (c .before .before .before .before .before .before .before .before .before .basic-head .ensures) _ _ _
@@ -75,7 +75,7 @@ returns-2 c =
     let g = s .args .g in
     let T = s .pre .0 .table in
     let v = s .args .v in
-    first-refused g (now (s .args .t)) T (λ j. omega (arith, a .slice-known .given j)) (s .args .i) v (s .pre .0 .list)
+    first-refused g (now (s .args .t)) T (λ j. omega (arith, a .slice-known .given j)) (s .args .i .0) v (s .pre .0 .list)
     (slot-lt g (T .proper) (keyNumber (v .entry)) (v .label) (s .pre .0 .slotted)) (s .pre .1) _
     (sym (k .before .before .free-block .ensures) ∙ k .why .given .1)
 

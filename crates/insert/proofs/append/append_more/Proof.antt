@@ -13,7 +13,7 @@ use Rattle.insert.specs.theory.AppendLaws.{more-refused, more-met, appen
 use Rattle.insert.proofs.append.append_more.Statement.{statement}
 use Rattle.insert.proofs.append.append_more.Tie as tie
 
-took : (c : tie.After-number) → let s = c .before .before .before .before .before in Takes (s .args .g) (decode (s .args .g) (now (s .args .t))) (c .number .given .0 .0) (c .number .given .0 .1 .0)
+took : (c : tie.After-number) → let s = c .before .before .before .before .before in Takes (s .args .g) (decode (s .args .g) (now (s .args .t))) (c .number .given .0 .0 .0) (c .number .given .0 .1 .0 .0)
 took c = takes _ _ _ _ (sym (c .before .before .free-block .ensures) ∙ c .number .given .1)
 
 free-block-requires : tie.Need-free-block-requires
@@ -26,7 +26,7 @@ meets-requires : tie.Need-meets-requires
 meets-requires c κs =
     let s = c .before .before .before .before .before .before .before in (
       s .pre .0 .table,
-      followed (s .args .g) (decode (s .args .g) (now (s .args .t)) .overflow) (s .args .g .nob) (s .args .h) (omega (arith, s .pre .1 .last, s .pre .1 .low)),
+      followed (s .args .g) (decode (s .args .g) (now (s .args .t)) .overflow) (s .args .g .nob) (s .args .h .0) (omega (arith, s .pre .1 .last, s .pre .1 .low)),
     )
 
 same-length : tie.Need-same-length
@@ -39,8 +39,8 @@ returns c =
     let g = s .args .g in
     let T = s .pre .0 .table in
     let v = s .args .v in
-    more-met g (now (s .args .t)) T (λ j. omega (arith, a .slice-known .given j)) (s .args .i) v (s .pre .0 .list)
-    (slot-lt g (T .proper) (keyNumber (v .entry)) (v .label) (s .pre .0 .slotted)) (s .args .h) (s .args .j) (s .pre .1) (s .pre .2) _ _
+    more-met g (now (s .args .t)) T (λ j. omega (arith, a .slice-known .given j)) (s .args .i .0) v (s .pre .0 .list)
+    (slot-lt g (T .proper) (keyNumber (v .entry)) (v .label) (s .pre .0 .slotted)) (s .args .h .0) (s .args .j .0) (s .pre .1) (s .pre .2) _ _
     (took (c .before .before .before .before))
     (sym (c .if1 .taken) ∙ c .before .meets .ensures)
 
@@ -58,7 +58,7 @@ take-requires c κs =
     let k = took (c .before .before .before .before .before .before .before .before .before .before .before) in (
       c .before .before .before .link-overflow .ensures .table,
       k .low,
-      rw (c .before .before .before .before .before .overflow-link .ensures) (link-lt (s .args .g) (now (s .args .t)) (s .pre .0 .table) (s .args .j) (s .pre .1 .low)),
+      rw (c .before .before .before .before .before .overflow-link .ensures) (link-lt (s .args .g) (now (s .args .t)) (s .pre .0 .table) (s .args .j .0) (s .pre .1 .low)),
       k .next-low,
       s .pre .0 .slotted,
     )
@@ -79,8 +79,8 @@ returns-2 c =
     let g = s .args .g in
     let T = s .pre .0 .table in
     let v = s .args .v in
-    append-more g (now (s .args .t)) T (λ j. omega (arith, a .slice-known .given j)) (s .args .i) v (s .pre .0 .list)
-    (slot-lt g (T .proper) (keyNumber (v .entry)) (v .label) (s .pre .0 .slotted)) (s .args .h) (s .args .j) (s .pre .1) (s .pre .2) _ _ _
+    append-more g (now (s .args .t)) T (λ j. omega (arith, a .slice-known .given j)) (s .args .i .0) v (s .pre .0 .list)
+    (slot-lt g (T .proper) (keyNumber (v .entry)) (v .label) (s .pre .0 .slotted)) (s .args .h .0) (s .args .j .0) (s .pre .1) (s .pre .2) _ _ _
     (took (c .before .before .before .before .before .before .before .before .before .before .before .before .before .before .before))
     (sym (c .before .before .before .before .before .before .before .before .before .before .before .if1 .left) ∙ c .before .before .before .before .before .before .before .before .before .before .before .before .meets .ensures)
     (c .before .before .before .before .before .before .before .before .before .overflow-link .ensures) _ _ _
@@ -99,8 +99,8 @@ returns-3 c =
     let g = s .args .g in
     let T = s .pre .0 .table in
     let v = s .args .v in
-    more-refused g (now (s .args .t)) T (λ j. omega (arith, a .slice-known .given j)) (s .args .i) v (s .pre .0 .list)
-    (slot-lt g (T .proper) (keyNumber (v .entry)) (v .label) (s .pre .0 .slotted)) (s .args .h) (s .args .j) (s .pre .1) (s .pre .2) _
+    more-refused g (now (s .args .t)) T (λ j. omega (arith, a .slice-known .given j)) (s .args .i .0) v (s .pre .0 .list)
+    (slot-lt g (T .proper) (keyNumber (v .entry)) (v .label) (s .pre .0 .slotted)) (s .args .h .0) (s .args .j .0) (s .pre .1) (s .pre .2) _
     (sym (k .before .before .free-block .ensures) ∙ k .why .given .1)
 
 pub append-more-spec : {M : Type 1} → statement M

@@ -16,7 +16,7 @@ unfolding keyNumber
 put-slot-requires c κs =
     let s = c .before .before .before .before .before .before in
     slot-asks (s .args .g) (now (s .args .t)) (s .pre .0 .table) (c .overflow-slot .result) _ _
-    (omega (arith, c .overflow-slot .ensures, overflow-slot-ends (s .args .g) (s .pre .0 .table .proper) (s .args .j) (s .pre .1 .low) _ (c .before .before .before .if1 .taken)))
+    (omega (arith, c .overflow-slot .ensures, overflow-slot-ends (s .args .g) (s .pre .0 .table .proper) (s .args .j .0) (s .pre .1 .low) _ (c .before .before .before .if1 .taken)))
     (s .pre .0 .slotted)
 
 put-overflow-counter-requires : tie.Need-put-overflow-counter-requires
@@ -38,8 +38,8 @@ returns c =
     let g = s .args .g in
     let T = s .pre .0 .table in
     let v = s .args .v in
-    append-last g (now (s .args .t)) T (λ j. omega (arith, a .slice-known .given j)) (s .args .i) v (s .pre .0 .list)
-    (slot-lt g (T .proper) (keyNumber (v .entry)) (v .label) (s .pre .0 .slotted)) (s .args .h) (s .args .j) (s .pre .1) (s .args .n)
+    append-last g (now (s .args .t)) T (λ j. omega (arith, a .slice-known .given j)) (s .args .i .0) v (s .pre .0 .list)
+    (slot-lt g (T .proper) (keyNumber (v .entry)) (v .label) (s .pre .0 .slotted)) (s .args .h .0) (s .args .j .0) (s .pre .1) (s .args .n)
     (s .pre .2) (c .before .before .before .before .before .before .before .before .before .before .before .if1 .taken) _ _ _ _
     (c .before .before .before .before .before .before .before .before .overflow-slot .ensures)
     (slot-put g (T .proper) _ _ _ _ (c .before .before .before .before .before .before .before .put-slot .ensures))

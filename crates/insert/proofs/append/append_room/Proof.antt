@@ -18,7 +18,7 @@ unfolding keyNumber
 put-slot-requires c κs =
     let s = c .before .before .before .before in
     slot-asks (s .args .g) (now (s .args .t)) (s .pre .0 .table) (c .basic-slot .result) _ _
-    (omega (arith, c .basic-slot .ensures, basic-slot-ends (s .args .g) (s .pre .0 .table .proper) (s .args .i) (s .pre .0 .list) (s .args .c) (s .pre .1)))
+    (omega (arith, c .basic-slot .ensures, basic-slot-ends (s .args .g) (s .pre .0 .table .proper) (s .args .i .0) (s .pre .0 .list) (s .args .c) (s .pre .1)))
     (s .pre .0 .slotted)
 
 add-put-basic-counter : tie.Need-add-put-basic-counter
@@ -45,7 +45,7 @@ returns c =
     let g = s .args .g in
     let T = s .pre .0 .table in
     let v = s .args .v in
-    append-room g (now (s .args .t)) T (λ j. omega (arith, k .slice-known .given j)) (s .args .i) v (s .pre .0 .list)
+    append-room g (now (s .args .t)) T (λ j. omega (arith, k .slice-known .given j)) (s .args .i .0) v (s .pre .0 .list)
     (slot-lt g (T .proper) (keyNumber (v .entry)) (v .label) (s .pre .0 .slotted)) (s .args .c) (s .pre .1) (s .pre .2) _ _ _ _
     (c .before .before .before .before .before .before .before .before .basic-slot .ensures)
     (slot-put g (T .proper) _ _ _ _ (c .before .before .before .before .before .before .before .put-slot .ensures))

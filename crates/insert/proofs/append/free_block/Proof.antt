@@ -16,42 +16,42 @@ free-start-requires c κs = c .before .pre
 
 returns : tie.Need-returns
 returns c =
-    let s = c .before .before .before .before in
-    free-high (s .args .g) (held s) (omega (arith, c .before .before .free-start .ensures, c .if1 .taken))
+    let s = c .before .before .before .before .before in
+    free-high (s .args .g) (held s) (omega (arith, c .before .before .before .free-start .ensures, c .if1 .taken))
 
 returns-2 : tie.Need-returns-2
 returns-2 c =
-    let s = c .before .before .before .before .before .before in
-    free-none (s .args .g) (held s) (sym (c .before .before .before .before .free-start .ensures) ∙ c .if2 .taken)
+    let s = c .before .before .before .before .before .before .before .before in
+    free-none (s .args .g) (held s) (sym (c .before .before .before .before .before .before .free-start .ensures) ∙ c .if2 .taken)
 
 overflow-link-requires : tie.Need-overflow-link-requires
 overflow-link-requires c κs =
-    let s = c .before .before .before .before .before .before in
-    (s .pre, omega (arith, c .if2 .left, c .before .before .if1 .left))
+    let s = c .before .before .before .before .before .before .before .before in
+    (s .pre, omega (arith, c .if2 .left, c .before .before .before .if1 .left))
 
 returns-3 : tie.Need-returns-3
 returns-3 c =
     let e = c .before .before .before in
-    let s = e .before .before .before .before .before .before in
-    free-bad (s .args .g) (held s) (e .before .before .before .before .free-start .result) (c .before .before .overflow-link .result)
-    (e .before .before .before .before .free-start .ensures) (c .before .before .overflow-link .ensures)
-    (omega (arith, e .if2 .left, e .before .before .if1 .left)) (c .if3 .taken)
+    let s = e .before .before .before .before .before .before .before .before in
+    free-bad (s .args .g) (held s) (e .before .before .before .before .before .before .free-start .result .0) (c .before .before .overflow-link .result)
+    (e .before .before .before .before .before .before .free-start .ensures) (c .before .before .overflow-link .ensures)
+    (omega (arith, e .if2 .left, e .before .before .before .if1 .left)) (c .if3 .taken)
 
 returns-4 : tie.Need-returns-4
 returns-4 c =
-    let e = c .before .before .before .before in
-    let s = e .before .before .before .before .before .before in
-    free-end (s .args .g) (held s) (e .before .before .before .before .free-start .result) (c .before .before .before .overflow-link .result)
-    (e .before .before .before .before .free-start .ensures) (c .before .before .before .overflow-link .ensures)
-    (omega (arith, e .if2 .left, e .before .before .if1 .left)) (c .before .if3 .left) (c .if4 .taken)
+    let e = c .before .before .before .before .before in
+    let s = e .before .before .before .before .before .before .before .before in
+    free-end (s .args .g) (held s) (e .before .before .before .before .before .before .free-start .result .0) (c .before .before .before .before .overflow-link .result)
+    (e .before .before .before .before .before .before .free-start .ensures) (c .before .before .before .before .overflow-link .ensures)
+    (omega (arith, e .if2 .left, e .before .before .before .if1 .left)) (c .before .before .if3 .left) (c .if4 .taken)
 
 returns-5 : tie.Need-returns-5
 returns-5 c =
-    let e = c .before .before .before .before in
-    let s = e .before .before .before .before .before .before in
-    free-on (s .args .g) (held s) (e .before .before .before .before .free-start .result) (c .before .before .before .overflow-link .result)
-    (e .before .before .before .before .free-start .ensures) (c .before .before .before .overflow-link .ensures)
-    (omega (arith, e .if2 .left, e .before .before .if1 .left)) (c .before .if3 .left) (c .if4 .left)
+    let e = c .before .before .before .before .before in
+    let s = e .before .before .before .before .before .before .before .before in
+    free-on (s .args .g) (held s) (e .before .before .before .before .before .before .free-start .result .0) (c .before .before .before .before .overflow-link .result)
+    (e .before .before .before .before .before .before .free-start .ensures) (c .before .before .before .before .overflow-link .ensures)
+    (omega (arith, e .if2 .left, e .before .before .before .if1 .left)) (c .before .before .if3 .left) (c .if4 .left)
 
 pub free-block-spec : {M : Type 1} → statement M
 free-block-spec =

@@ -23,7 +23,7 @@ same-length c = search needs
 returns : tie.Need-returns
 returns c =
     let s = c .before .before .before .before .before .before .before .before .before in
-    stored-link-overflow (s .args .g) (now (s .args .t)) (s .pre .0) (s .args .j) (s .args .f) (s .pre .1) (s .pre .2) _ _
+    stored-link-overflow (s .args .g) (now (s .args .t)) (s .pre .0) (s .args .j .0) (s .args .f .0) (s .pre .1) (s .pre .2) _ _
     (c .before .before .before .before .before .before .put-overflow-counter .ensures)
     (c .before .before .put-overflow-link .ensures)
 

@@ -13,16 +13,16 @@ overflow-slot-requires : tie.Need-overflow-slot-requires
 overflow-slot-requires c κs = search needs
 
 sub-link-at : tie.Need-sub-link-at
-sub-link-at c = let a = c .before .before .before .before .args in omega (arith, before-first (a .g) (a .f) _ (c .before .overflow-slot .ensures))
+sub-link-at c = let a = c .before .before .before .before .args in omega (arith, before-first (a .g) (a .f .0) _ (c .before .overflow-slot .ensures))
 
 sub-renew : tie.Need-sub-renew
-sub-renew c = let a = c .before .before .before .before .before .before .args in omega (arith, before-first (a .g) (a .f) _ (c .before .before .before .overflow-slot .ensures))
+sub-renew c = let a = c .before .before .before .before .before .before .args in omega (arith, before-first (a .g) (a .f .0) _ (c .before .before .before .overflow-slot .ensures))
 
 renew-requires : tie.Need-renew-requires
 renew-requires c κs =
     let s = c .before .before .before .before .before .before in
     let a = s .args in
-    renew-asks (a .g) (a .f) _ (c .before .before .before .overflow-slot .ensures) (now (a .t)) (s .pre .0) (s .pre .1) (a .displaced) (s .pre .2)
+    renew-asks (a .g) (a .f .0) _ (c .before .before .before .overflow-slot .ensures) (now (a .t)) (s .pre .0) (s .pre .1) (a .displaced) (s .pre .2)
 
 put-slot-requires : tie.Need-put-slot-requires
 unfolding keyNumber
@@ -31,7 +31,7 @@ put-slot-requires c κs =
     let F = s .pre .0 .proper in
     let p = c .before .before .before .before .before .before .before .overflow-slot in
     slot-asks (s .args .g) (c .before .before .before .renew .last .0) (table-kept _ (c .before .before .before .renew .kept .0) (s .pre .0)) (p .result) _ _
-    (omega (arith, p .ensures, overflow-slot-ends (s .args .g) F (s .args .f) (s .pre .1) 0 (F .sio-low)))
+    (omega (arith, p .ensures, overflow-slot-ends (s .args .g) F (s .args .f .0) (s .pre .1) 0 (F .sio-low)))
     (s .pre .4)
 
 put-free-start-requires : tie.Need-put-free-start-requires
@@ -51,9 +51,9 @@ returns c =
     let g = s .args .g in
     let v = s .args .v in
     let p = c .before .before .before .before .before .before .before .before .before .before .before .before .before .before .overflow-slot in
-    stored-take g (now (s .args .t)) (s .pre .0) (s .args .f) (s .args .displaced) (s .args .next) _ (s .pre .1) (s .pre .2) (s .pre .3)
+    stored-take g (now (s .args .t)) (s .pre .0) (s .args .f .0) (s .args .displaced) (s .args .next .0) _ (s .pre .1) (s .pre .2) (s .pre .3)
     (slot-lt g (s .pre .0 .proper) (keyNumber (v .entry)) (v .label) (s .pre .4)) _ _ _ _
-    (renew-put g (s .args .f) _ (p .ensures) (now (s .args .t)) _ (s .args .displaced) (c .before .before .before .before .before .before .before .before .before .before .renew .ensures))
+    (renew-put g (s .args .f .0) _ (p .ensures) (now (s .args .t)) _ (s .args .displaced) (c .before .before .before .before .before .before .before .before .before .before .renew .ensures))
     (p .ensures)
     (slot-put g (s .pre .0 .proper) _ _ _ _ (c .before .before .before .before .before .before .put-slot .ensures))
     (c .before .before .put-free-start .ensures)

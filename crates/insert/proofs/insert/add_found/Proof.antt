@@ -9,11 +9,11 @@ use Rattle.insert.specs.theory.AddLaws.{Missing, missing, add-held, add-
 use Rattle.insert.proofs.insert.add_found.Statement.{statement}
 use Rattle.insert.proofs.insert.add_found.Tie as tie
 
-lacks : (c : tie.After-found2) → let a = c .before .before .before .args in Missing (a .g) (decode (a .g) (now (a .t))) (a .i) (keyNumber (a .entry)) (a .label) (c .found2 .given .0 .0)
+lacks : (c : tie.After-found2) → let a = c .before .before .before .args in Missing (a .g) (decode (a .g) (now (a .t))) (a .i .0) (keyNumber (a .entry)) (a .label) (c .found2 .given .0 .0)
 lacks c =
     let s = c .before .before .before in
     let a = s .args in
-    missing (a .g) (decode (a .g) (now (a .t))) (a .i) (keyNumber (a .entry)) (a .label) _ (sym (s .pre .3) ∙ c .found2 .given .1)
+    missing (a .g) (decode (a .g) (now (a .t))) (a .i .0) (keyNumber (a .entry)) (a .label) _ (sym (s .pre .3) ∙ c .found2 .given .1)
 
 enum-known-found : tie.Need-enum-known-found
 enum-known-found c = search needs
@@ -39,8 +39,8 @@ returns c =
     let s = b .before in
     let a = s .args in
     rw (c .held .ensures)
-    (added-same (a .g) (now (a .t)) (s .pre .0) (λ j. omega (arith, b .slice-known .given j)) (a .i) (keyNumber (a .entry)) (a .label) _
-    (add-held (a .g) (decode (a .g) (now (a .t))) (a .i) (keyNumber (a .entry)) (a .label) _ _ (sym (s .pre .3) ∙ k .found .given .1)))
+    (added-same (a .g) (now (a .t)) (s .pre .0) (λ j. omega (arith, b .slice-known .given j)) (a .i .0) (keyNumber (a .entry)) (a .label) _
+    (add-held (a .g) (decode (a .g) (now (a .t))) (a .i .0) (keyNumber (a .entry)) (a .label) _ _ (sym (s .pre .3) ∙ k .found .given .1)))
 
 same-length : tie.Need-same-length
 same-length c = search needs
@@ -49,7 +49,7 @@ returns-2 : tie.Need-returns-2
 returns-2 c =
     let k = c .before .before .before .before .before in
     let a = k .before .before .before .args in
-    added-more (a .g) (now (a .t)) _ (a .i) _ _ (lacks k) (c .before .before .append .ensures)
+    added-more (a .g) (now (a .t)) _ (a .i .0) _ _ (lacks k) (c .before .before .append .ensures)
 
 returns-3 : tie.Need-returns-3
 returns-3 c =
@@ -57,8 +57,8 @@ returns-3 c =
     let b = k .before .before in
     let s = b .before in
     let a = s .args in
-    added-same (a .g) (now (a .t)) (s .pre .0) (λ j. omega (arith, b .slice-known .given j)) (a .i) (keyNumber (a .entry)) (a .label) _
-    (add-refused (a .g) (decode (a .g) (now (a .t))) (a .i) (keyNumber (a .entry)) (a .label) _ (sym (s .pre .3) ∙ k .found3 .given .1))
+    added-same (a .g) (now (a .t)) (s .pre .0) (λ j. omega (arith, b .slice-known .given j)) (a .i .0) (keyNumber (a .entry)) (a .label) _
+    (add-refused (a .g) (decode (a .g) (now (a .t))) (a .i .0) (keyNumber (a .entry)) (a .label) _ (sym (s .pre .3) ∙ k .found3 .given .1))
 
 pub add-found-spec : {M : Type 1} → statement M
 add-found-spec =

@@ -12,13 +12,13 @@ add-next c = search needs
 
 returns : tie.Need-returns
 returns c =
-    let a = c .before .before .args in
-    rw (eq-eqb (suc (a .j)) (a .g .nob) (omega arith))
+    let a = c .before .before .before .args in
+    rw (eq-eqb (suc (a .j .0)) (a .g .nob) (omega arith))
 
 returns-2 : tie.Need-returns-2
 returns-2 c =
-    let a = c .before .before .args in
-    rw (ne-eqb (suc (a .j)) (a .g .nob) (λ e. c .if1 .left (omega arith))) (add-one (a .j))
+    let a = c .before .before .before .args in
+    rw (ne-eqb (suc (a .j .0)) (a .g .nob) (λ e. c .if1 .left (omega arith))) (add-one (a .j .0))
 
 pub free-link-spec : {M : Type 1} → statement M
 free-link-spec = tie.close (tie.spec add-next returns returns-2)

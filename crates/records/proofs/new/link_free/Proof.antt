@@ -55,7 +55,7 @@ loop-again c =
     let g = a .g in
     let j = k .loop .j in (
       omega (arith, p .before .before .before .if1 .taken),
-      rw (add-one j) (more g (now (a .t)) (k .loop .t) (p .put-link .last .0) j (p .before .free-link .result) (k .loop .inv .1) (p .before .free-link .ensures) (p .put-link .ensures)),
+      rw (add-one j) (more g (now (a .t)) (k .loop .t) (p .put-link .last .0) j (p .before .free-link .result .0) (k .loop .inv .1) (p .before .free-link .ensures) (p .put-link .ensures)),
       p .put-link .kept .0 ∙ k .loop .inv .2,
     )
 

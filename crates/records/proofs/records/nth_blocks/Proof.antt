@@ -14,15 +14,15 @@ use Rattle.records.proofs.records.nth_blocks.Statement.{statement}
 use Rattle.records.proofs.records.nth_blocks.Tie as tie
 
 abbrev Inv-loop : tie.InvT-loop
-Inv-loop t g first n b₀ m₀ q₀ b m q =
-    (q ≤ g .nob) × Followed g (g .nob - q) (decode g t .overflow) b
-    × (nthOf g (gatherFrom g (g .nob - q) (decode g t .overflow) b) m ≡ nthOf g (gatherFrom g (g .nob) (decode g t .overflow) first) n)
+Inv-loop t g n first m₀ q₀ b m q =
+    (q ≤ g .nob) × Followed g (g .nob - q) (decode g t .overflow) (b .0)
+    × (nthOf g (gatherFrom g (g .nob - q) (decode g t .overflow) (b .0)) m ≡ nthOf g (gatherFrom g (g .nob) (decode g t .overflow) (first .0)) n)
 
 abbrev μ-loop : tie.MeasureT-loop
-μ-loop t g first n b₀ m₀ q₀ b m q = g .nob - q
+μ-loop t g n first m₀ q₀ b m q = g .nob - q
 
 here : (k : tie.At-loop Inv-loop μ-loop) → let a = k .before .before .args in
-    Turn (a .g) (decode (a .g) (now (a .t)) .overflow) (a .g .nob - k .loop .q) (k .loop .b)
+    Turn (a .g) (decode (a .g) (now (a .t)) .overflow) (a .g .nob - k .loop .q) (k .loop .b .0)
 here k = turn _ _ _ _ (k .loop .inv .1)
 
 loop-holds : tie.Need-loop-holds Inv-loop μ-loop
@@ -44,7 +44,7 @@ nth-of-requires c κs =
     let k = r .before .before .before .before in
     let a = k .before .before in (
       a .pre .0 .proper,
-      rw (r .overflow-run .ensures) (overflow-run-within (a .args .g) (now (a .args .t)) (a .pre .0) (k .loop .b) (r .before .overflow-counter .result) (here k .low)),
+      rw (r .overflow-run .ensures) (overflow-run-within (a .args .g) (now (a .args .t)) (a .pre .0) (k .loop .b .0) (r .before .overflow-counter .result) (here k .low)),
     )
 
 returns : tie.Need-returns Inv-loop μ-loop
@@ -53,7 +53,7 @@ returns c =
     let k = r .before .before .before .before in
     let a = k .before .before in (
       c .nth-of .ensures .0
-          ∙ nth-in-block (a .args .g) (now (a .args .t)) (a .pre .0) (a .args .g .nob - k .loop .q) (k .loop .b) (r .before .overflow-counter .result) (r .overflow-run .result)
+          ∙ nth-in-block (a .args .g) (now (a .args .t)) (a .pre .0) (a .args .g .nob - k .loop .q) (k .loop .b .0) (r .before .overflow-counter .result) (r .overflow-run .result)
           (k .loop .inv .1) (r .before .overflow-counter .ensures) (r .overflow-run .ensures) (k .loop .m) (c .before .if2 .taken)
           ∙ k .loop .inv .2,
       c .nth-of .ensures .1,
@@ -65,7 +65,7 @@ returns-2 c =
     let r = e .before in
     let k = r .before .before .before .before in
     let a = k .before .before in (
-      nth-past-last (a .args .g) (now (a .args .t)) (a .pre .0) (a .args .g .nob - k .loop .q) (k .loop .b) (r .before .overflow-counter .result) (r .overflow-run .result)
+      nth-past-last (a .args .g) (now (a .args .t)) (a .pre .0) (a .args .g .nob - k .loop .q) (k .loop .b .0) (r .before .overflow-counter .result) (r .overflow-run .result)
           (k .loop .inv .1) (r .before .overflow-counter .ensures) (r .overflow-run .ensures) (k .loop .m) (e .if2 .left) (c .if3 .taken)
           ∙ k .loop .inv .2,
       bounded-past (a .args .g) _,
@@ -96,11 +96,11 @@ loop-again c =
     let l = c .overflow-link .ensures in
     let n = r .before .overflow-counter .ensures in
     let z : g .nob - (q + 1) ≡ g .nob - q - 1 = omega arith in
-    let s : overflowAt os (k .loop .b) .counter ≡ g .sio = omega (arith, here k .count, c .before .if3 .left) in (
+    let s : overflowAt os (k .loop .b .0) .counter ≡ g .sio = omega (arith, here k .count, c .before .if3 .left) in (
       omega (arith, k .loop .inv .0),
       rw (z, l) (here k .on s),
       rw (z, l)
-          (nth-past-block g t (a .pre .0) (g .nob - q) (k .loop .b) (r .before .overflow-counter .result) (r .overflow-run .result)
+          (nth-past-block g t (a .pre .0) (g .nob - q) (k .loop .b .0) (r .before .overflow-counter .result) (r .overflow-run .result)
           (k .loop .inv .1) n (r .overflow-run .ensures) (k .loop .m) (e .if2 .left) (c .before .if3 .left)
           ∙ k .loop .inv .2),
     )

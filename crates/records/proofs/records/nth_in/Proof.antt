@@ -22,7 +22,7 @@ nth-of-requires c κs =
     let a = n .before .before in (
       a .pre .0 .proper,
       rw (c .basic-run .ensures)
-          (basic-run-within (a .args .g) (now (a .args .t)) (a .pre .0) (a .args .i) (n .basic-counter .result) (a .pre .1) (c .before .if1 .taken)),
+          (basic-run-within (a .args .g) (now (a .args .t)) (a .pre .0) (a .args .i .0) (n .basic-counter .result) (a .pre .1) (c .before .if1 .taken)),
     )
 
 returns : tie.Need-returns
@@ -31,7 +31,7 @@ returns c =
     let n = r .before .before .before in
     let a = n .before .before in (
       c .nth-of .ensures .0
-          ∙ nth-short (a .args .g) (now (a .args .t)) (a .pre .0) (a .args .i) (a .args .n) (a .pre .1) (r .basic-run .result) (n .basic-counter .result)
+          ∙ nth-short (a .args .g) (now (a .args .t)) (a .pre .0) (a .args .i .0) (a .args .n) (a .pre .1) (r .basic-run .result) (n .basic-counter .result)
           (n .basic-counter .ensures) (r .before .if1 .taken) (r .basic-run .ensures),
       c .nth-of .ensures .1,
     )
@@ -43,8 +43,8 @@ returns-2 : tie.Need-returns-2
 returns-2 c =
     let n = c .before .before .before .before in
     let a = n .before .before in (
-      nth-damaged (a .args .g) (now (a .args .t)) (a .pre .0) (a .args .i) (a .args .n) (a .pre .1)
-          (content-high (a .args .g) (decode (a .args .g) (now (a .args .t))) (a .args .i) (omega (arith, n .basic-counter .ensures, c .if2 .taken))),
+      nth-damaged (a .args .g) (now (a .args .t)) (a .pre .0) (a .args .i .0) (a .args .n) (a .pre .1)
+          (content-high (a .args .g) (decode (a .args .g) (now (a .args .t))) (a .args .i .0) (omega (arith, n .basic-counter .ensures, c .if2 .taken))),
       bounded-damage (a .args .g),
     )
 

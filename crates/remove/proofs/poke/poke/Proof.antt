@@ -27,20 +27,20 @@ returns c =
     let a = c .before .before .before .before .before .before .before .args in
     let st = decode (a .g) (now (a .t)) in
     let x = field (now (a .t)) (a .from) (a .g .slot) in
-    stored-as (pokeAt (a .g) (a .i) (a .h) (a .l) (a .p) x st) (c .before .before .poke-basic .ensures)
-    (poke-low (a .g) st (a .i) (a .l) (a .p) (a .h) x (c .before .before .before .before .if1 .taken))
+    stored-as (pokeAt (a .g) (a .i .0) (a .h .0) (a .l .0) (a .p) x st) (c .before .before .poke-basic .ensures)
+    (poke-low (a .g) st (a .i .0) (a .l .0) (a .p) (a .h .0) x (c .before .before .before .before .if1 .taken))
 
 spot-of-requires : tie.Need-spot-of-requires
 spot-of-requires c κs = let s = c .before .before .before .before .before in (s .pre .0, s .pre .1 .reaches (c .before .before .if1 .left))
 
 -- the place is in a block of the table
-spot-low : (c : tie.After-spot-of) → let s = c .before .before .before .before .before .before in (c .spot-of .result .block < s .args .g .nob) × (c .spot-of .result .slot < s .args .g .sio)
+spot-low : (c : tie.After-spot-of) → let s = c .before .before .before .before .before .before in (c .spot-of .result .block .0 < s .args .g .nob) × (c .spot-of .result .slot .0 < s .args .g .sio)
 spot-low c =
     let s = c .before .before .before .before .before .before in
     let a = s .args in
-    let k = spotted-at (a .g) (decode (a .g) (now (a .t)) .overflow) (sized (a .g) (now (a .t)) (s .pre .0)) (a .h) (a .p - a .g .sib) (s .pre .1 .reaches (c .before .before .before .if1 .left)) in
-    let b : c .spot-of .result .block ≡ _ = ap (λ (x : Spot). x .block) (c .spot-of .ensures) in
-    let d : c .spot-of .result .slot ≡ _ = ap (λ (x : Spot). x .slot) (c .spot-of .ensures) in
+    let k = spotted-at (a .g) (decode (a .g) (now (a .t)) .overflow) (sized (a .g) (now (a .t)) (s .pre .0)) (a .h .0) (a .p - a .g .sib) (s .pre .1 .reaches (c .before .before .before .if1 .left)) in
+    let b : c .spot-of .result .block .0 ≡ _ = ap (λ (x : Spot). x .block .0) (c .spot-of .ensures) in
+    let d : c .spot-of .result .slot .0 ≡ _ = ap (λ (x : Spot). x .slot .0) (c .spot-of .ensures) in
     (omega (arith, b, k .low), omega (arith, d, k .few))
 
 overflow-slot-requires : tie.Need-overflow-slot-requires
@@ -52,7 +52,7 @@ copy-requires c κs =
     let k = spot-low (c .before .before) in
     let r = c .before .before .spot-of .result in
     copy-asks (s .args .g) (now (s .args .t)) (s .pre .0) (s .args .from) (c .overflow-slot .result) (s .pre .2 .ends)
-    (omega (arith, overflow-slot-ends (s .args .g) (s .pre .0 .proper) (r .block) (k .0) (r .slot) (k .1), c .overflow-slot .ensures))
+    (omega (arith, overflow-slot-ends (s .args .g) (s .pre .0 .proper) (r .block .0) (k .0) (r .slot .0) (k .1), c .overflow-slot .ensures))
 
 same-length-2 : tie.Need-same-length-2
 same-length-2 c = search needs
@@ -66,10 +66,10 @@ returns-2 c =
     let x = field (now (a .t)) (a .from) (a .g .slot) in
     let q = c .before .before .before .before .before in
     let k = spot-low q in
-    stored-as (pokeAt (a .g) (a .i) (a .h) (a .l) (a .p) x st)
+    stored-as (pokeAt (a .g) (a .i .0) (a .h .0) (a .l .0) (a .p) x st)
     (stored-spot (a .g) (now (a .t)) (s .pre .0) (q .spot-of .result) x _ (k .0) (k .1) (field-lt (now (a .t)) (a .from) (a .g .slot))
     (c .before .before .before .overflow-slot .ensures) _ (c .before .before .copy .ensures))
-    (ap (λ (y : Spot). pokeSpot (a .g) y x st) (q .spot-of .ensures) ∙ poke-high (a .g) st (a .i) (a .l) (a .p) (a .h) x (c .before .before .before .before .before .before .before .before .if1 .left))
+    (ap (λ (y : Spot). pokeSpot (a .g) y x st) (q .spot-of .ensures) ∙ poke-high (a .g) st (a .i .0) (a .l .0) (a .p) (a .h .0) x (c .before .before .before .before .before .before .before .before .if1 .left))
 
 pub poke-spec : {M : Type 1} → statement M
 poke-spec =

@@ -23,7 +23,7 @@ basic-slot-requires c κs = search needs
 
 -- the displaced bits fit a link
 old-fits : (c : tie.After-overflow-link) → c .overflow-link .result < 2 ^ c .before .before .before .args .g .link
-old-fits c = let s = c .before .before .before in rw (c .overflow-link .ensures) (link-lt (s .args .g) (now (s .args .t)) (s .pre .0) (s .args .l) (s .pre .2))
+old-fits c = let s = c .before .before .before in rw (c .overflow-link .ensures) (link-lt (s .args .g) (now (s .args .t)) (s .pre .0) (s .args .l .0) (s .pre .2))
 
 poke-displaced-requires : tie.Need-poke-displaced-requires
 unfolding basicSlot
@@ -34,8 +34,8 @@ poke-displaced-requires c κs =
       s .pre .0,
       old-fits (c .before .before .before),
       omega (arith, c .before .before .basic-slots .ensures, c .before .basic-slot .ensures),
-      omega (arith, basic-slot-ends (s .args .g) F (s .args .i) (s .pre .1) (s .args .p) (s .pre .3), c .before .basic-slot .ensures),
-      omega (arith, head-before (s .args .g) F (s .args .i) (s .pre .1), c .before .before .basic-slots .ensures, M .behind),
+      omega (arith, basic-slot-ends (s .args .g) F (s .args .i .0) (s .pre .1) (s .args .p .0) (s .pre .3), c .before .basic-slot .ensures),
+      omega (arith, head-before (s .args .g) F (s .args .i .0) (s .pre .1), c .before .before .basic-slots .ensures, M .behind),
       M .ends,
     )
 
@@ -54,7 +54,7 @@ returns : tie.Need-returns
 returns c =
     let s = c .before .before .before .before .before .before .before .before .before .before .before .before .before .before in
     let a = s .args in
-    stored-poke (a .g) (now (a .t)) (s .pre .0) (a .i) (a .l) (a .p) (c .before .before .before .before .before .before .before .before .before .before .before .overflow-link .result) (field (now (a .t)) (a .from) (a .g .slot)) _ _
+    stored-poke (a .g) (now (a .t)) (s .pre .0) (a .i .0) (a .l .0) (a .p .0) (c .before .before .before .before .before .before .before .before .before .before .before .overflow-link .result) (field (now (a .t)) (a .from) (a .g .slot)) _ _
     (s .pre .1) (s .pre .2) (s .pre .3) (field-lt (now (a .t)) (a .from) (a .g .slot)) (c .before .before .before .before .before .before .before .before .before .before .before .overflow-link .ensures) (c .before .before .before .before .before .before .before .before .before .before .basic-slots .ensures) (c .before .before .before .before .before .before .before .before .before .basic-slot .ensures) _ _
     (c .before .before .before .before .before .before .before .poke-displaced .ensures) _ (c .before .before .put-overflow-link .ensures)
 
@@ -65,7 +65,7 @@ returns-2 : tie.Need-returns-2
 returns-2 c =
     let s = c .before .before .before .before .before .before .before .before .before .before in
     let a = s .args in
-    stored-poke-same (a .g) (now (a .t)) (s .pre .0) (a .i) (a .l) (a .p) (c .before .before .before .before .before .before .before .overflow-link .result) (field (now (a .t)) (a .from) (a .g .slot)) _ _
+    stored-poke-same (a .g) (now (a .t)) (s .pre .0) (a .i .0) (a .l .0) (a .p .0) (c .before .before .before .before .before .before .before .overflow-link .result) (field (now (a .t)) (a .from) (a .g .slot)) _ _
     (s .pre .1) (s .pre .2) (s .pre .3) (field-lt (now (a .t)) (a .from) (a .g .slot)) (c .before .before .before .before .before .before .before .overflow-link .ensures) (c .before .before .before .before .before .before .basic-slots .ensures) (c .before .before .before .before .before .basic-slot .ensures) _ _
     (c .before .before .before .poke-displaced .ensures) (c .if1 .left)
 

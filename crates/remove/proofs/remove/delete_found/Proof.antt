@@ -10,11 +10,11 @@ use Rattle.remove.proofs.remove.delete_found.Statement.{statement}
 use Rattle.remove.proofs.remove.delete_found.Tie as tie
 
 -- the entry is there
-there : (c : tie.After-found) → let a = c .before .before .before .args in Found (a .g) (decode (a .g) (now (a .t))) (a .i) (keyNumber (a .entry)) (c .found .given .0 .0) (c .found .given .0 .1 .0)
+there : (c : tie.After-found) → let a = c .before .before .before .args in Found (a .g) (decode (a .g) (now (a .t))) (a .i .0) (keyNumber (a .entry)) (c .found .given .0 .0) (c .found .given .0 .1 .0)
 there c =
     let s = c .before .before .before in
     let a = s .args in
-    delete-found (a .g) (decode (a .g) (now (a .t))) (a .i) (keyNumber (a .entry)) _ _ (sym (s .pre .3) ∙ c .found .given .1)
+    delete-found (a .g) (decode (a .g) (now (a .t))) (a .i .0) (keyNumber (a .entry)) _ _ (sym (s .pre .3) ∙ c .found .given .1)
 
 enum-known-found : tie.Need-enum-known-found
 enum-known-found c = search needs
@@ -36,7 +36,7 @@ returns c =
     let k = c .before .before .before .before .before .before .before .before in
     let s = k .before in
     let a = s .args in
-    deleted-gone (a .g) (now (a .t)) (s .pre .0) (λ j. omega (arith, k .slice-known .given j)) (a .i) (keyNumber (a .entry)) _ _ (there (c .before .before .before .before .before .before)) _ _ (c .before .before .before .remove .ensures) (c .if1 .taken)
+    deleted-gone (a .g) (now (a .t)) (s .pre .0) (λ j. omega (arith, k .slice-known .given j)) (a .i .0) (keyNumber (a .entry)) _ _ (there (c .before .before .before .before .before .before)) _ _ (c .before .before .before .remove .ensures) (c .if1 .taken)
 
 enum-known-found-2 : tie.Need-enum-known-found-2
 enum-known-found-2 c = search needs
@@ -52,23 +52,23 @@ returns-2 c =
     let k = c .before .before .before .before .before .before .before .before in
     let s = k .before in
     let a = s .args in
-    deleted-stuck (a .g) (now (a .t)) (s .pre .0) (λ j. omega (arith, k .slice-known .given j)) (a .i) (keyNumber (a .entry)) _ _ (there (c .before .before .before .before .before .before)) _ _ (c .before .before .before .remove .ensures) (c .if1 .left)
+    deleted-stuck (a .g) (now (a .t)) (s .pre .0) (λ j. omega (arith, k .slice-known .given j)) (a .i .0) (keyNumber (a .entry)) _ _ (there (c .before .before .before .before .before .before)) _ _ (c .before .before .before .remove .ensures) (c .if1 .left)
 
 returns-3 : tie.Need-returns-3
 returns-3 c =
     let k = c .before .before .before in
     let s = k .before in
     let a = s .args in
-    deleted-same (a .g) (now (a .t)) (s .pre .0) (λ j. omega (arith, k .slice-known .given j)) (a .i) (keyNumber (a .entry)) _
-    (delete-none (a .g) (decode (a .g) (now (a .t))) (a .i) (keyNumber (a .entry)) _ (sym (s .pre .3) ∙ c .before .found2 .given .1))
+    deleted-same (a .g) (now (a .t)) (s .pre .0) (λ j. omega (arith, k .slice-known .given j)) (a .i .0) (keyNumber (a .entry)) _
+    (delete-none (a .g) (decode (a .g) (now (a .t))) (a .i .0) (keyNumber (a .entry)) _ (sym (s .pre .3) ∙ c .before .found2 .given .1))
 
 returns-4 : tie.Need-returns-4
 returns-4 c =
     let k = c .before .before .before in
     let s = k .before in
     let a = s .args in
-    deleted-same (a .g) (now (a .t)) (s .pre .0) (λ j. omega (arith, k .slice-known .given j)) (a .i) (keyNumber (a .entry)) _
-    (delete-refused (a .g) (decode (a .g) (now (a .t))) (a .i) (keyNumber (a .entry)) _ (sym (s .pre .3) ∙ c .before .found3 .given .1))
+    deleted-same (a .g) (now (a .t)) (s .pre .0) (λ j. omega (arith, k .slice-known .given j)) (a .i .0) (keyNumber (a .entry)) _
+    (delete-refused (a .g) (decode (a .g) (now (a .t))) (a .i .0) (keyNumber (a .entry)) _ (sym (s .pre .3) ∙ c .before .found3 .given .1))
 
 pub delete-found-spec : {M : Type 1} → statement M
 delete-found-spec =

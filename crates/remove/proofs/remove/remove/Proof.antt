@@ -16,8 +16,8 @@ remove-short-requires : tie.Need-remove-short-requires
 remove-short-requires c κs =
     let s = c .before .before .before .before .before .before in
     let a = s .args in
-    let h : basicAt (decode (a .g) (now (a .t)) .basic) (a .i) .counter ≤ a .g .sib = omega (arith, c .before .before .before .basic-counter .ensures, c .before .if1 .taken) in
-    let q = short-place (a .g) (decode (a .g) (now (a .t))) (a .i) (a .p) (s .pre .2) h in
+    let h : basicAt (decode (a .g) (now (a .t)) .basic) (a .i .0) .counter ≤ a .g .sib = omega (arith, c .before .before .before .basic-counter .ensures, c .before .if1 .taken) in
+    let q = short-place (a .g) (decode (a .g) (now (a .t))) (a .i .0) (a .p) (s .pre .2) h in
     (s .pre .0, s .pre .1, s .pre .2, c .before .before .before .basic-counter .ensures, c .before .if1 .taken, omega (arith, c .before .before .before .basic-counter .ensures, q))
 
 same-length : tie.Need-same-length

@@ -17,8 +17,8 @@ use Rattle.remove.specs.theory.RemoveLaws.{removed-short}
 use Rattle.remove.proofs.remove.remove_short.Statement.{statement}
 use Rattle.remove.proofs.remove.remove_short.Tie as tie
 
-sub-basic-slot : tie.Need-sub-basic-slot
-sub-basic-slot c = search needs
+sub-put-basic-counter : tie.Need-sub-put-basic-counter
+sub-put-basic-counter c = search needs
 
 basic-slot-requires : tie.Need-basic-slot-requires
 basic-slot-requires c κs = search needs
@@ -31,13 +31,13 @@ last-ends : (c : tie.After-basic-slot2) → c .before .basic-slot .result + c .b
 last-ends c =
     let s = c .before .before .before in
     let k : s .args .c - 1 < s .args .g .sib = omega arith in
-    omega (arith, basic-slot-ends (s .args .g) (s .pre .0 .proper) (s .args .i) (s .pre .1) (s .args .c - 1) k, c .before .basic-slot .ensures)
+    omega (arith, basic-slot-ends (s .args .g) (s .pre .0 .proper) (s .args .i .0) (s .pre .1) (s .args .c - 1) k, c .before .basic-slot .ensures)
 
 hole-ends : (c : tie.After-basic-slot2) → c .basic-slot2 .result + c .before .before .before .args .g .slot ≤ c .before .before .before .args .g .bits
 hole-ends c =
     let s = c .before .before .before in
     let k : s .args .p < s .args .g .sib = omega arith in
-    omega (arith, basic-slot-ends (s .args .g) (s .pre .0 .proper) (s .args .i) (s .pre .1) (s .args .p) k, c .basic-slot2 .ensures)
+    omega (arith, basic-slot-ends (s .args .g) (s .pre .0 .proper) (s .args .i .0) (s .pre .1) (s .args .p) k, c .basic-slot2 .ensures)
 
 copy-requires : tie.Need-copy-requires
 copy-requires c κs =
@@ -67,8 +67,8 @@ clear-requires c κs =
     let s = q .before .before .before .before in
     omega (arith, last-ends (q .before), long q, bits-high (s .args .g) (s .pre .0 .proper), s .pre .0 .room)
 
-sub-put-basic-counter : tie.Need-sub-put-basic-counter
-sub-put-basic-counter c = search needs
+sub-put-basic-counter-2 : tie.Need-sub-put-basic-counter-2
+sub-put-basic-counter-2 c = search needs
 
 put-basic-counter-requires : tie.Need-put-basic-counter-requires
 put-basic-counter-requires c κs =
@@ -87,7 +87,7 @@ returns c =
     let a = s .args in
     let last = q .before .before .basic-slot in
     let x = field (now (a .t)) (last .result) (a .g .slot) in
-    removed-short (a .g) (now (a .t)) (s .pre .0) (a .i) (a .p) (a .c) x (s .pre .1) (s .pre .2) (s .pre .3) (s .pre .4)
+    removed-short (a .g) (now (a .t)) (s .pre .0) (a .i .0) (a .p) (a .c) x (s .pre .1) (s .pre .2) (s .pre .3) (s .pre .4)
     (ap (λ (y : ℕ). field (now (a .t)) y (a .g .slot)) (last .ensures)) (field-lt (now (a .t)) (last .result) (a .g .slot)) _ _ _
     (moved q ∙ ap (λ (y : ℕ). putField (now (a .t)) y (a .g .slot) x) (q .before .basic-slot2 .ensures))
     (c .before .before .before .before .before .before .clear .ensures ∙ ap (λ (y : ℕ). putField (q .if1 .t) y (a .g .slot) 0) (last .ensures))
@@ -97,12 +97,12 @@ pub remove-short-spec : {M : Type 1} → statement M
 remove-short-spec =
     tie.close
     (tie.spec
-    sub-basic-slot
+    sub-put-basic-counter
     basic-slot-requires
     basic-slot-requires-2
     copy-requires
     clear-requires
-    sub-put-basic-counter
+    sub-put-basic-counter-2
     put-basic-counter-requires
     same-length
     returns)

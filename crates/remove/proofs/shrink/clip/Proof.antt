@@ -24,7 +24,7 @@ clear-requires c κs =
     let s = c .before .before .before .before .before .before .before in
     let F = s .pre .0 .proper in
     let l : length (c .before .before .before .before .put-overflow-counter .last .0) ≡ length (now (s .args .t)) = c .before .before .before .before .put-overflow-counter .kept .0 in
-    omega (arith, overflow-slot-ends (s .args .g) F (s .args .j) (s .pre .1) (s .args .n) (s .pre .3), bits-high (s .args .g) F, s .pre .0 .room, c .overflow-slot .ensures)
+    omega (arith, overflow-slot-ends (s .args .g) F (s .args .j .0) (s .pre .1) (s .args .n) (s .pre .3), bits-high (s .args .g) F, s .pre .0 .room, c .overflow-slot .ensures)
 
 same-length : tie.Need-same-length
 same-length c = search needs
@@ -32,7 +32,7 @@ same-length c = search needs
 returns : tie.Need-returns
 returns c =
     let s = c .before .before .before .before .before .before .before .before .before .before in
-    stored-clip (s .args .g) (now (s .args .t)) (s .pre .0) (s .args .j) (s .pre .1) (s .args .n) _ (s .pre .3) (s .pre .4)
+    stored-clip (s .args .g) (now (s .args .t)) (s .pre .0) (s .args .j .0) (s .pre .1) (s .args .n) _ (s .pre .3) (s .pre .4)
     (c .before .before .before .overflow-slot .ensures) _ _ (c .before .before .before .before .before .before .before .put-overflow-counter .ensures) (c .before .before .clear .ensures)
 
 pub clip-spec : {M : Type 1} → statement M

@@ -9,17 +9,17 @@ use Rattle.remove.proofs.shrink.end_of.Statement.{statement}
 use Rattle.remove.proofs.shrink.end_of.Tie as tie
 
 abbrev Inv-loop : tie.InvT-loop
-Inv-loop t g first b₀ before₀ k₀ b before k = Ending g (decode g t .overflow) first b before k
+Inv-loop t g first before₀ k₀ b before k = Ending g (decode g t .overflow) (first .0) (b .0) (before .0) k
 
 abbrev μ-loop : tie.MeasureT-loop
-μ-loop t g first b₀ before₀ k₀ b before k = g .nob - k
+μ-loop t g first before₀ k₀ b before k = g .nob - k
 
 loop-holds : tie.Need-loop-holds Inv-loop μ-loop
 loop-holds c =
     let s = c .before in
-    ending-first (s .args .g) (decode (s .args .g) (now (s .args .t)) .overflow) (s .args .first) (s .pre .1)
+    ending-first (s .args .g) (decode (s .args .g) (now (s .args .t)) .overflow) (s .args .first .0) (s .pre .1)
 
-block-low : (c : tie.At-loop Inv-loop μ-loop) → c .loop .b < c .before .before .args .g .nob
+block-low : (c : tie.At-loop Inv-loop μ-loop) → c .loop .b .0 < c .before .before .args .g .nob
 block-low c = let s = c .before .before .args in chain-low (s .g) (decode (s .g) (now (s .t)) .overflow) (c .loop .inv .chain)
 
 overflow-counter-requires : tie.Need-overflow-counter-requires Inv-loop μ-loop
@@ -29,7 +29,7 @@ returns : tie.Need-returns Inv-loop μ-loop
 returns c =
     let m = c .before .before .before .before .before in
     let s = m .before .before .args in
-    ending-here (s .g) (decode (s .g) (now (s .t)) .overflow) (s .first) (m .loop .b) (m .loop .before) (m .loop .k) (m .loop .inv)
+    ending-here (s .g) (decode (s .g) (now (s .t)) .overflow) (s .first .0) (m .loop .b .0) (m .loop .before .0) (m .loop .k) (m .loop .inv)
     (omega (arith, c .before .before .overflow-counter .ensures, c .if2 .taken))
 
 overflow-link-requires : tie.Need-overflow-link-requires Inv-loop μ-loop
@@ -46,7 +46,7 @@ loop-again c =
     let m = c .before .before .before .before .before .before in
     let s = m .before .before .args in
     rw (c .overflow-link .ensures)
-    (ending-on (s .g) (decode (s .g) (now (s .t)) .overflow) (s .first) (m .loop .b) (m .loop .before) (m .loop .k) (m .loop .inv)
+    (ending-on (s .g) (decode (s .g) (now (s .t)) .overflow) (s .first .0) (m .loop .b .0) (m .loop .before .0) (m .loop .k) (m .loop .inv)
     (omega (arith, c .before .before .before .overflow-counter .ensures, c .before .if2 .left)))
 
 returns-2 : tie.Need-returns-2 Inv-loop μ-loop

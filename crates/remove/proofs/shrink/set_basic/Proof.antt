@@ -17,7 +17,7 @@ same-length c = search needs
 returns : tie.Need-returns
 returns c =
     let s = c .before .before .before .before .before .before .before .before .before in
-    stored-basic (s .args .g) (now (s .args .t)) (s .pre .0) (s .args .i) (s .pre .1) (s .args .n) (s .args .h) (s .pre .2) (s .pre .3) _ _
+    stored-basic (s .args .g) (now (s .args .t)) (s .pre .0) (s .args .i .0) (s .pre .1) (s .args .n) (s .args .h) (s .pre .2) (s .pre .3) _ _
     (c .before .before .before .before .before .before .put-basic-counter .ensures) (c .before .before .put-basic-head .ensures)
 
 pub set-basic-spec : {M : Type 1} → statement M

@@ -17,7 +17,7 @@ same-length c = search needs
 returns : tie.Need-returns
 returns c =
     let s = c .before .before .before .before .before .before .before .before .before in
-    stored-overflow (s .args .g) (now (s .args .t)) (s .pre .0) (s .args .j) (s .pre .1) (s .args .n) (s .args .l) (s .pre .2) (s .pre .3) _ _
+    stored-overflow (s .args .g) (now (s .args .t)) (s .pre .0) (s .args .j .0) (s .pre .1) (s .args .n) (s .args .l) (s .pre .2) (s .pre .3) _ _
     (c .before .before .before .before .before .before .put-overflow-counter .ensures) (c .before .before .put-overflow-link .ensures)
 
 pub set-overflow-spec : {M : Type 1} → statement M

@@ -17,8 +17,8 @@ free-start-requires c κs = search needs
 returns-2 : tie.Need-returns-2
 unfolding stuckWith
 returns-2 c =
-    let a = c .before .before .before .before .args in
-    rw (le-ltb 0 (a .n) (c .before .before .if1 .left)) (ap (ltb (a .g .nob)) (c .before .free-start .ensures))
+    let a = c .before .before .before .before .before .args in
+    rw (le-ltb 0 (a .n) (c .before .before .before .if1 .left)) (ap (ltb (a .g .nob)) (c .before .before .free-start .ensures))
 
 pub stuck-spec : {M : Type 1} → statement M
 stuck-spec = tie.close (tie.spec returns free-start-requires returns-2)

@@ -18,7 +18,7 @@ short-field-requires : tie.Need-short-field-requires
 short-field-requires c κs =
     let a = c .before .before in
     let F = a .pre .0 .proper in
-    let h = basic-ends (a .args .g) F (a .args .i) (a .pre .1) in
+    let h = basic-ends (a .args .g) F (a .args .i .0) (a .pre .1) in
     omega (arith, h, start-high (a .args .g) F, F .basic-is, F .basic-high, a .pre .0 .room, c .block-at .ensures)
 
 returns : tie.Need-returns
@@ -27,7 +27,7 @@ returns c =
     let a = c .before .before .before in
     c .short-field .ensures
     ∙ ap (λ (x : ℕ). field (now (a .args .t)) x (a .args .g .basic .counter)) (c .before .block-at .ensures)
-    ∙ sym (ap (λ (b : Basic). b .counter) (at-basic (a .args .g) (a .pre .0 .proper) (now (a .args .t)) (a .args .i) (a .pre .1)))
+    ∙ sym (ap (λ (b : Basic). b .counter) (at-basic (a .args .g) (a .pre .0 .proper) (now (a .args .t)) (a .args .i .0) (a .pre .1)))
 
 pub basic-counter-spec : {M : Type 1} → statement M
 basic-counter-spec = tie.close (tie.spec block-at-requires short-field-requires returns)

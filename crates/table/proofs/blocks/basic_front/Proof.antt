@@ -17,7 +17,7 @@ front-at-requires : tie.Need-front-at-requires
 front-at-requires c κs =
     let a = c .before .before in
     let F = a .pre .0 .proper in
-    let h = basic-ends (a .args .g) F (a .args .i) (a .pre .1) in
+    let h = basic-ends (a .args .g) F (a .args .i .0) (a .pre .1) in
     let n = basic-some (a .args .g) F in
     omega (arith, h, start-high (a .args .g) F, F .basic-is, F .basic-high, F .link-fits, F .link-high, a .pre .0 .room, c .block-at .ensures)
 
@@ -26,7 +26,7 @@ unfolding readBasic basicSlots
 returns c =
     let a = c .before .before .before in
     let g = a .args .g in
-    let e = at-basic g (a .pre .0 .proper) (now (a .args .t)) (a .args .i) (a .pre .1) in (
+    let e = at-basic g (a .pre .0 .proper) (now (a .args .t)) (a .args .i .0) (a .pre .1) in (
       c .front-at .ensures .0
           ∙ ap (λ (x : ℕ). field (now (a .args .t)) x (g .basic .counter)) (c .before .block-at .ensures)
           ∙ sym (ap (λ (b : Basic). b .counter) e),

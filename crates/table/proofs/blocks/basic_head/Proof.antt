@@ -19,7 +19,7 @@ unfolding basicSlots
 short-field-requires c κs =
     let a = c .before .before in
     let F = a .pre .0 .proper in
-    let h = basic-ends (a .args .g) F (a .args .i) (a .pre .1) in
+    let h = basic-ends (a .args .g) F (a .args .i .0) (a .pre .1) in
     omega (arith, h, start-high (a .args .g) F, F .basic-is, F .link-fits, F .link-high, a .pre .0 .room, c .basic-slots .ensures)
 
 returns : tie.Need-returns
@@ -28,7 +28,7 @@ returns c =
     let a = c .before .before .before in
     c .short-field .ensures
     ∙ ap (λ (x : ℕ). field (now (a .args .t)) x (a .args .g .link)) (c .before .basic-slots .ensures)
-    ∙ sym (ap (λ (b : Basic). b .head) (at-basic (a .args .g) (a .pre .0 .proper) (now (a .args .t)) (a .args .i) (a .pre .1)))
+    ∙ sym (ap (λ (b : Basic). b .head) (at-basic (a .args .g) (a .pre .0 .proper) (now (a .args .t)) (a .args .i .0) (a .pre .1)))
 
 pub basic-head-spec : {M : Type 1} → statement M
 basic-head-spec = tie.close (tie.spec basic-slots-requires short-field-requires returns)

@@ -17,7 +17,7 @@ block-at-requires c κs = basic-within _ (c .pre .0) _ (c .pre .1)
 add-result : tie.Need-add-result
 add-result c =
     let a = c .before .before in
-    let h = basic-ends (a .args .g) (a .pre .0) (a .args .i) (a .pre .1) in
+    let h = basic-ends (a .args .g) (a .pre .0) (a .args .i .0) (a .pre .1) in
     omega (arith, h, bits-high (a .args .g) (a .pre .0), start-high (a .args .g) (a .pre .0), a .pre .0 .basic-is, c .before .block-at .ensures)
 
 returns : tie.Need-returns

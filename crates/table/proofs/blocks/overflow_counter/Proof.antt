@@ -18,7 +18,7 @@ short-field-requires : tie.Need-short-field-requires
 short-field-requires c κs =
     let a = c .before .before in
     let F = a .pre .0 .proper in
-    let h = over-ends (a .args .g) F (a .args .j) (a .pre .1) in
+    let h = over-ends (a .args .g) F (a .args .j .0) (a .pre .1) in
     omega (arith, h, start-high (a .args .g) F, F .overflow-is, F .overflow-high, a .pre .0 .room, c .block-at .ensures)
 
 returns : tie.Need-returns
@@ -27,7 +27,7 @@ returns c =
     let a = c .before .before .before in
     c .short-field .ensures
     ∙ ap (λ (x : ℕ). field (now (a .args .t)) x (a .args .g .overflow .counter)) (c .before .block-at .ensures)
-    ∙ sym (ap (λ (b : Overflow). b .counter) (at-over (a .args .g) (a .pre .0 .proper) (now (a .args .t)) (a .args .j) (a .pre .1)))
+    ∙ sym (ap (λ (b : Overflow). b .counter) (at-over (a .args .g) (a .pre .0 .proper) (now (a .args .t)) (a .args .j .0) (a .pre .1)))
 
 pub overflow-counter-spec : {M : Type 1} → statement M
 overflow-counter-spec = tie.close (tie.spec block-at-requires short-field-requires returns)

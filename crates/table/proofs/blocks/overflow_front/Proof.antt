@@ -17,7 +17,7 @@ front-at-requires : tie.Need-front-at-requires
 front-at-requires c κs =
     let a = c .before .before in
     let F = a .pre .0 .proper in
-    let h = over-ends (a .args .g) F (a .args .j) (a .pre .1) in
+    let h = over-ends (a .args .g) F (a .args .j .0) (a .pre .1) in
     let n = over-some (a .args .g) F in
     omega (arith, h, F .overflow-is, F .overflow-high, F .link-high, a .pre .0 .room, c .block-at .ensures)
 
@@ -26,7 +26,7 @@ unfolding readOverflow linkAt
 returns c =
     let a = c .before .before .before in
     let g = a .args .g in
-    let e = at-over g (a .pre .0 .proper) (now (a .args .t)) (a .args .j) (a .pre .1) in (
+    let e = at-over g (a .pre .0 .proper) (now (a .args .t)) (a .args .j .0) (a .pre .1) in (
       c .front-at .ensures .0
           ∙ ap (λ (x : ℕ). field (now (a .args .t)) x (g .overflow .counter)) (c .before .block-at .ensures)
           ∙ sym (ap (λ (b : Overflow). b .counter) e),

@@ -20,7 +20,7 @@ add-result c = search needs
 add-result-2 : tie.Need-add-result-2
 add-result-2 c =
     let a = c .before .before in
-    let h = over-ends (a .args .g) (a .pre .0) (a .args .j) (a .pre .1) in
+    let h = over-ends (a .args .g) (a .pre .0) (a .args .j .0) (a .pre .1) in
     omega (arith, h, bits-high (a .args .g) (a .pre .0), a .pre .0 .overflow-is, c .before .block-at .ensures)
 
 returns : tie.Need-returns

@@ -8,15 +8,15 @@ use Rattle.table.proofs.lists.spot_of.Statement.{statement}
 use Rattle.table.proofs.lists.spot_of.Tie as tie
 
 abbrev Inv-loop : tie.InvT-loop
-Inv-loop t g first p b₀ q₀ b q = Going g (decode g t .overflow) first p b q
+Inv-loop t g p first q₀ b q = Going g (decode g t .overflow) (first .0) p (b .0) q
 
 abbrev μ-loop : tie.MeasureT-loop
-μ-loop t g first p b₀ q₀ b q = q
+μ-loop t g p first q₀ b q = q
 
 loop-holds : tie.Need-loop-holds Inv-loop μ-loop
 loop-holds c =
     let s = c .before in
-    going-first (s .args .g) (decode (s .args .g) (now (s .args .t)) .overflow) (s .args .first) (s .args .p) (s .pre .1)
+    going-first (s .args .g) (decode (s .args .g) (now (s .args .t)) .overflow) (s .args .first .0) (s .args .p) (s .pre .1)
 
 overflow-link-requires : tie.Need-overflow-link-requires Inv-loop μ-loop
 overflow-link-requires c κs =
@@ -32,13 +32,13 @@ loop-again c =
     let s = m .before .before in
     rw (c .before .overflow-link .ensures)
     (going-on (s .args .g) (decode (s .args .g) (now (s .args .t)) .overflow) (sized (s .args .g) (now (s .args .t)) (s .pre .0))
-    (s .args .first) (s .args .p) (m .loop .b) (m .loop .q) (m .loop .inv) (omega arith))
+    (s .args .first .0) (s .args .p) (m .loop .b .0) (m .loop .q) (m .loop .inv) (omega arith))
 
 returns : tie.Need-returns Inv-loop μ-loop
 returns c =
     let m = c .before .before in
     let s = m .before .before .args in
-    going-here (s .g) (decode (s .g) (now (s .t)) .overflow) (s .first) (s .p) (m .loop .b) (m .loop .q) (m .loop .inv) (omega arith)
+    going-here (s .g) (decode (s .g) (now (s .t)) .overflow) (s .first .0) (s .p) (m .loop .b .0) (m .loop .q) (m .loop .inv) (omega arith)
 
 pub spot-of-spec : {M : Type 1} → statement M
 spot-of-spec =

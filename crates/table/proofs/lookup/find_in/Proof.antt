@@ -20,8 +20,8 @@ returns c =
     let d = c .before .before .before .before in
     let s = d .before .before in
     c .find-short .ensures
-    ∙ find-counted (s .args .g) (now (s .args .t)) (s .pre .0) (s .args .i) (keyNumber (s .args .entry)) (s .pre .1)
-    (d .basic-front .result .counter) (basicRun (s .args .g) (s .args .i) (d .basic-front .result .counter)) (d .basic-front .ensures .0) (omega arith) refl
+    ∙ find-counted (s .args .g) (now (s .args .t)) (s .pre .0) (s .args .i .0) (keyNumber (s .args .entry)) (s .pre .1)
+    (d .basic-front .result .counter) (basicRun (s .args .g) (s .args .i .0) (d .basic-front .result .counter)) (d .basic-front .ensures .0) (omega arith) refl
 
 add-if2 : tie.Need-add-if2
 add-if2 c = search needs
@@ -30,7 +30,7 @@ returns-2 : tie.Need-returns-2
 returns-2 c =
     let d = c .before .before .before .before .before .before in
     let s = d .before .before in
-    find-high (s .args .g) (now (s .args .t)) (s .pre .0) (s .args .i) (keyNumber (s .args .entry)) (s .pre .1)
+    find-high (s .args .g) (now (s .args .t)) (s .pre .0) (s .args .i .0) (keyNumber (s .args .entry)) (s .pre .1)
     (d .basic-front .result .counter) (d .basic-front .ensures .0) (omega arith)
 
 find-long-requires : tie.Need-find-long-requires

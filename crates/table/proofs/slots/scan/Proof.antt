@@ -16,13 +16,13 @@ candidate-requires c κs =
 
 returns : tie.Need-returns
 returns c =
-    let k = c .before in
+    let k = c .before .before in
     let a = k .before .before .before .args in
     none-first (now (a .t)) (a .start) (a .slot) (a .bie) _ (a .count) (k .candidate .result) (k .candidate .ensures .before) (omega (arith, c .if1 .taken))
 
 scan-from-requires : tie.Need-scan-from-requires
 scan-from-requires c κs =
-    let k = c .before in
+    let k = c .before .before in
     let l = k .before in
     let s = l .before .before in (
       (

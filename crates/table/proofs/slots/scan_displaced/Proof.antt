@@ -79,15 +79,15 @@ scan-requires c κs =
       s .pre .0 .2,
     )
 
-add-result : tie.Need-add-result
-add-result c = search needs
+add-t20 : tie.Need-add-t20
+add-t20 c = search needs
 
 returns-4 : tie.Need-returns-4
 returns-4 c =
-    let d = c .before in
+    let d = c .before .before in
     let s = d .before .before .before .before .before in
-    found-behind (now (s .args .t)) _ (s .args .start) (s .args .slot) (s .args .bie) _ (s .args .count) (c .scan .result)
-    (eqb-false _ _ (sym (d .before .first-holds .ensures) ∙ d .if3 .left)) (omega arith) (plain s (omega arith)) (c .scan .ensures)
+    found-behind (now (s .args .t)) _ (s .args .start) (s .args .slot) (s .args .bie) _ (s .args .count) (c .before .scan .result .0)
+    (eqb-false _ _ (sym (d .before .first-holds .ensures) ∙ d .if3 .left)) (omega arith) (plain s (omega arith)) (c .before .scan .ensures)
 
 pub scan-displaced-spec : {M : Type 1} → statement M
 scan-displaced-spec =
@@ -102,5 +102,5 @@ scan-displaced-spec =
     sub-scan
     sub-scan-2
     scan-requires
-    add-result
+    add-t20
     returns-4)

@@ -12,11 +12,11 @@ use Rattle.table.proofs.slots.scan_from.Statement.{statement}
 use Rattle.table.proofs.slots.scan_from.Tie as tie
 
 abbrev Inv-loop : tie.InvT-loop
-Inv-loop t start from count slot bie high low j₀ j =
+Inv-loop t start count slot bie high low j₀ j =
     (j < 2 ^ 17) × ((k : ℕ) → k < j → k < count → field t (start + k * slot) bie ≡ high * 2 ^ 64 + low → ⊥)
 
 abbrev μ-loop : tie.MeasureT-loop
-μ-loop t start from count slot bie high low j₀ j = count - j
+μ-loop t start count slot bie high low j₀ j = count - j
 
 -- the entry of a slot is within the bytes
 inside : (s : tie.Start Inv-loop μ-loop) (j : ℕ) → j < s .args .count
