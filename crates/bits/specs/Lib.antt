@@ -4,4 +4,5 @@ pub mod Put
 pub mod Within
 pub mod Bytes
 pub mod Word
+-- What is proved of them.
 pub mod theory

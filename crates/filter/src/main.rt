@@ -6,8 +6,8 @@ ghost use mathlib.Core.Path.{_≡_};
 ghost use mathlib.Core.Bool.{true, false};
 ghost use Prim.Native.Nat.{ℕ, _+_, _≤_, _<_};
 ghost use lib.ListN.{length};
-ghost use Rattle.reader.specs.ReaderSteps.{Classes};
-ghost use Rattle.stream.specs.Output.{newTable};
+ghost use Rattle.text_read.specs.ReaderSteps.{Classes};
+ghost use Rattle.program_stream.specs.Output.{newTable};
 ghost use Rattle.filter.specs.declared.More.the-variants as more;
 
 // Writes all of buf. A write that takes a part of it, or that a signal interrupts, is gone on with; one that takes nothing
@@ -57,7 +57,7 @@ fn answer_some(
     requires { ⌜ Classes (now classes) × (at ≤ length (now input)) × (19617 ≤ length (now t)) × (80 ≤ length (now out)) ⌝ }
     ensures { λ r. ⌜ (r .at ≤ length (now (input .entry))) × (r .more ≡ true → at < r .at) × (r .more ≡ false → length (now (input .entry)) ≤ r .at + 64) ⌝ }
 {
-    let r = stream::consume(classes, input, at, skip, t, out);
+    let r = program_stream::consume(classes, input, at, skip, t, out);
     let n = r.made;
     let ok = write_out(&out[..n]);
     Left {
@@ -128,7 +128,7 @@ fn last_line(classes: &[u8; 256], input: &[u8], skip: bool, t: &mut [u8], out: &
     requires { ⌜ Classes (now classes) × (19617 ≤ length (now t)) × (80 ≤ length (now out)) ⌝ }
     ensures { λ r. ⌜ r .have ≤ 64 ⌝ }
 {
-    let n = stream::finish(classes, input, skip, t, out);
+    let n = program_stream::finish(classes, input, skip, t, out);
     if !write_out(&out[..n]) {
         os::fail(b"write");
     }
@@ -154,7 +154,7 @@ fn answer_read(
         return END;
     }
     let at = r.at;
-    let have = stream::keep(buf, at, end);
+    let have = program_stream::keep(buf, at, end);
     Next {
         have,
         skip: r.skip,
@@ -200,10 +200,10 @@ fn run(classes: &[u8; 256], buf: &mut [u8], t: &mut [u8], out: &mut [u8])
 
 // All memory of the run: the class table, the table, for which the settings ask 19617 bytes, and the buffers.
 fn main() {
-    let classes = reader::classes();
+    let classes = text_read::classes();
     let mut buf = [0u8; 65536];
     let mut t = [0u8; 19617];
     let mut out = [0u8; 65536];
-    records::make(answers::SETTINGS, &mut t);
+    table_make::make(program_answers::SETTINGS, &mut t);
     run(&classes, &mut buf, &mut t, &mut out);
 }

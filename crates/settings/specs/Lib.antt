@@ -8,6 +8,5 @@ pub mod Legal
 pub mod Layout
 pub mod Made
 pub mod Proper
-pub mod Key
 -- What is proved of them.
 pub mod theory

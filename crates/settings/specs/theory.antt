@@ -5,7 +5,3 @@ pub mod Tables
 pub mod Primes
 pub mod Legal
 pub mod Proper
-pub mod Remainders
-pub mod Halves
-pub mod Keys
-pub mod Examples

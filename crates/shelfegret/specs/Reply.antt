@@ -2,7 +2,7 @@
 -- accepted; the key of add, find and delete is the key asked for.
 use Prim.Native.Nat.{ℕ}
 use Rattle.settings.specs.Refusal.{numberOf}
-use Rattle.settings.specs.declared.keys.Key.{Key}
+use Rattle.keys.specs.declared.Key.{Key}
 use Rattle.settings.specs.declared.refusal.Refusal.{Refusal}
 use Rattle.settings.specs.declared.settings.Size.{Size}
 use Rattle.settings.specs.declared.settings.Size.the-variants as size
@@ -18,10 +18,10 @@ use Rattle.table.specs.declared.answers.RecordAnswer.{RecordAnswer}
 use Rattle.table.specs.declared.answers.RecordAnswer.the-variants as recording
 use Rattle.table.specs.declared.answers.CheckAnswer.{CheckAnswer}
 use Rattle.table.specs.declared.answers.CheckAnswer.the-variants as checking
-use Rattle.reader.specs.declared.Parsed.{Parsed}
-use Rattle.reader.specs.declared.Parsed.the-variants as parsed
-use Rattle.writer.specs.declared.Written.{Written}
-use Rattle.writer.specs.declared.Written.the-variants as out
+use Rattle.text_read.specs.declared.Parsed.{Parsed}
+use Rattle.text_read.specs.declared.Parsed.the-variants as parsed
+use Rattle.text_write.specs.declared.Written.{Written}
+use Rattle.text_write.specs.declared.Written.the-variants as out
 use Rattle.shelfegret.specs.declared.Answer.{Answer}
 
 -- the words' numbers; 0 where a call has no word

@@ -2,11 +2,11 @@
 use Prim.Native.Nat.{ℕ}
 use mathlib.Core.List.{List}
 use Rattle.settings.specs.declared.settings.Settings.{Settings}
-use Rattle.settings.specs.declared.keys.Key.{Key}
-use Rattle.reader.specs.Answers.{readingOf}
-use Rattle.reader.specs.declared.Parsed.{Parsed}
-use Rattle.reader.specs.declared.Parsed.the-variants as parsed
-use Rattle.address.specs.TextCalls.{findTextAnswer, addTextAnswer, deleteTextAnswer}
+use Rattle.keys.specs.declared.Key.{Key}
+use Rattle.text_read.specs.Answers.{readingOf}
+use Rattle.text_read.specs.declared.Parsed.{Parsed}
+use Rattle.text_read.specs.declared.Parsed.the-variants as parsed
+use Rattle.text_calls.specs.TextCalls.{findTextAnswer, addTextAnswer, deleteTextAnswer}
 use Rattle.shelfegret.specs.declared.Answer.{Answer}
 use Rattle.shelfegret.specs.Reply.{noKey, addReply, findReply, deleteReply}
 

@@ -1,7 +1,6 @@
 // Each call's own answer as the struct that C gets.
 use crate::Answer;
-use reader::Parsed;
-use settings::Key;
+use keys::Key;
 use settings::Refusal;
 use settings::Size;
 use table::AddAnswer;
@@ -10,7 +9,8 @@ use table::DeleteAnswer;
 use table::FindAnswer;
 use table::MakeAnswer;
 use table::RecordAnswer;
-use writer::Written;
+use text_read::Parsed;
+use text_write::Written;
 ghost use mathlib.Core.Path.{_≡_};
 ghost use Rattle.shelfegret.specs.Reply.{refusedReply, saying, numbered, sizeReply, makeReply, addReply, findReply, deleteReply, recordReply, checkReply, readReply, writeReply};
 

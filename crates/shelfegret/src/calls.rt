@@ -7,7 +7,7 @@ use crate::answers::found;
 use crate::answers::made;
 use crate::answers::recorded;
 use crate::answers::sized;
-use settings::Key;
+use keys::Key;
 use settings::Settings;
 ghost use mathlib.Core.Path.{_≡_};
 ghost use Rattle.settings.specs.Made.{sizeOf};
@@ -27,7 +27,7 @@ pub extern "C" fn shelfegret_size(s: Settings) -> Answer
 pub extern "C" fn shelfegret_make(s: Settings, t: &mut [u8]) -> Answer
     ensures { λ r. ⌜ (r ≡ makeReply (makeAnswer s (now (t .entry)))) × (now (t .exit) ≡ makeBytes s (now (t .entry))) ⌝ }
 {
-    made(records::make(s, t))
+    made(table_make::make(s, t))
 }
 
 // "added" with the label, or "held" with the old one.
@@ -35,7 +35,7 @@ pub extern "C" fn shelfegret_make(s: Settings, t: &mut [u8]) -> Answer
 pub extern "C" fn shelfegret_add(s: Settings, t: &mut [u8], key: Key, label: u64) -> Answer
     ensures { λ r. ⌜ (r ≡ addReply key (addAnswer s (now (t .entry)) key label)) × (now (t .exit) ≡ addBytes s (now (t .entry)) key label) ⌝ }
 {
-    added(key, insert::add(s, t, key, label))
+    added(key, table_add::add(s, t, key, label))
 }
 
 // "held" with the label, or "none".
@@ -43,7 +43,7 @@ pub extern "C" fn shelfegret_add(s: Settings, t: &mut [u8], key: Key, label: u64
 pub extern "C" fn shelfegret_find(s: Settings, t: &[u8], key: Key) -> Answer
     ensures { λ r. ⌜ r ≡ findReply key (findAnswer s (now (t .entry)) key) ⌝ }
 {
-    found(key, table::find(s, t, key))
+    found(key, table_find::find(s, t, key))
 }
 
 // "gone" with the label, or "none".
@@ -51,7 +51,7 @@ pub extern "C" fn shelfegret_find(s: Settings, t: &[u8], key: Key) -> Answer
 pub extern "C" fn shelfegret_delete(s: Settings, t: &mut [u8], key: Key) -> Answer
     ensures { λ r. ⌜ (r ≡ deleteReply key (deleteAnswer s (now (t .entry)) key)) × (now (t .exit) ≡ deleteBytes s (now (t .entry)) key) ⌝ }
 {
-    deleted(key, remove::delete(s, t, key))
+    deleted(key, table_delete::delete(s, t, key))
 }
 
 // The key and the label of the nth record, or "none".
@@ -59,7 +59,7 @@ pub extern "C" fn shelfegret_delete(s: Settings, t: &mut [u8], key: Key) -> Answ
 pub extern "C" fn shelfegret_record(s: Settings, t: &[u8], n: u64) -> Answer
     ensures { λ r. ⌜ r ≡ recordReply (recordAnswer s (now (t .entry)) n) ⌝ }
 {
-    recorded(records::record(s, t, n))
+    recorded(table_record::record(s, t, n))
 }
 
 // "sound" or "unsound".
@@ -67,5 +67,5 @@ pub extern "C" fn shelfegret_record(s: Settings, t: &[u8], n: u64) -> Answer
 pub extern "C" fn shelfegret_check(s: Settings, t: &[u8], marks: &mut [u8]) -> Answer
     ensures { λ r. ⌜ (r ≡ checkReply (checkAnswer s (now (t .entry)) (now (marks .entry)))) × (now (marks .exit) ≡ checkMarks s (now (t .entry)) (now (marks .entry))) ⌝ }
 {
-    checked(audit::check(s, t, marks))
+    checked(table_check::check(s, t, marks))
 }

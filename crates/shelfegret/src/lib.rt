@@ -4,7 +4,7 @@ mod answers;
 mod calls;
 mod texts;
 
-use settings::Key;
+use keys::Key;
 
 // Code 0 and what the call tells, or the number of its refusal and zeros.
 #[repr(C)]

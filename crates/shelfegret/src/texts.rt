@@ -7,16 +7,16 @@ use crate::answers::found;
 use crate::answers::parsed;
 use crate::answers::refused;
 use crate::answers::written;
-use address::admit_to;
-use reader::Parsed;
-use settings::Key;
+use keys::Key;
 use settings::Laid;
 use settings::Refusal;
 use settings::Settings;
+use text_calls::admit_to;
+use text_read::Parsed;
 ghost use mathlib.Core.Path.{_≡_};
-ghost use Rattle.reader.specs.Answers.{readingOf};
-ghost use Rattle.writer.specs.Answers.{writingOf, storedOf};
-ghost use Rattle.address.specs.TextCalls.{addTextBytes, deleteTextBytes};
+ghost use Rattle.text_read.specs.Answers.{readingOf};
+ghost use Rattle.text_write.specs.Answers.{writingOf, storedOf};
+ghost use Rattle.text_calls.specs.TextCalls.{addTextBytes, deleteTextBytes};
 ghost use Rattle.shelfegret.specs.Reply.{readReply, writeReply};
 ghost use Rattle.shelfegret.specs.TextReply.{addTextReply, findTextReply, deleteTextReply};
 
@@ -28,16 +28,16 @@ pub extern "C" fn shelfegret_add_text(s: Settings, t: &mut [u8], text: &[u8], la
     match s.layout() {
         Laid::Layout(g) => match admit_to(s, g, t, text) {
             Parsed::Key(key) => {
-                if !insert::fits(label, s.val) {
+                if !table_add::fits(label, s.val) {
                     return refused(Refusal::Label);
                 }
                 let place = key.place(s);
                 let list = place.list;
                 let entry = place.entry;
-                let answer = table::find_in(t, g, list, entry);
+                let answer = table_find::find_in(t, g, list, entry);
                 added(
                     key,
-                    insert::add_found(t, g, list, answer, entry, label as u32),
+                    table_add::add_found(t, g, list, answer, entry, label as u32),
                 )
             }
             Parsed::Refused(why) => refused(why),
@@ -56,7 +56,7 @@ pub extern "C" fn shelfegret_find_text(s: Settings, t: &[u8], text: &[u8]) -> An
             Parsed::Key(key) => {
                 let place = key.place(s);
                 let list = place.list;
-                found(key, table::find_in(t, g, list, place.entry))
+                found(key, table_find::find_in(t, g, list, place.entry))
             }
             Parsed::Refused(why) => refused(why),
         },
@@ -75,8 +75,8 @@ pub extern "C" fn shelfegret_delete_text(s: Settings, t: &mut [u8], text: &[u8])
                 let place = key.place(s);
                 let list = place.list;
                 let entry = place.entry;
-                let answer = table::find_in(t, g, list, entry);
-                deleted(key, remove::delete_found(t, g, list, answer, entry))
+                let answer = table_find::find_in(t, g, list, entry);
+                deleted(key, table_delete::delete_found(t, g, list, answer, entry))
             }
             Parsed::Refused(why) => refused(why),
         },
@@ -89,7 +89,7 @@ pub extern "C" fn shelfegret_delete_text(s: Settings, t: &mut [u8], text: &[u8])
 pub extern "C" fn shelfegret_read_text(text: &[u8]) -> Answer
     ensures { λ r. ⌜ r ≡ readReply (readingOf (now (text .entry))) ⌝ }
 {
-    parsed(reader::read(text))
+    parsed(text_read::read(text))
 }
 
 // The length of the key's text, which is then the front of the lent bytes.
@@ -97,5 +97,5 @@ pub extern "C" fn shelfegret_read_text(text: &[u8]) -> Answer
 pub extern "C" fn shelfegret_write_text(key: Key, out: &mut [u8]) -> Answer
     ensures { λ r. ⌜ (r ≡ writeReply (writingOf key (now (out .entry)))) × (now (out .exit) ≡ storedOf key (now (out .entry))) ⌝ }
 {
-    written(writer::write(key, out))
+    written(text_write::write(key, out))
 }

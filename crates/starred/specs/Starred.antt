@@ -4,10 +4,10 @@ use mathlib.Core.List.{List, [], _∷_, _++_}
 use Prim.Native.Nat.{ℕ, _+_, _*_, _%_}
 use Prim.Native.String.{String}
 use Rattle.settings.specs.Prime.{primeAbove}
-use Rattle.settings.specs.Key.{hash}
-use Rattle.settings.specs.theory.Examples.{remainder-of-7, hash-of-7}
+use Rattle.keys.specs.Key.{hash}
+use Rattle.keys.specs.theory.Examples.{remainder-of-7, hash-of-7}
 use Rattle.settings.specs.declared.settings.Settings.{Settings}
-use Rattle.settings.specs.declared.keys.Key.{Key}
+use Rattle.keys.specs.declared.Key.{Key}
 use Rattle.settings.specs.declared.refusal.Refusal.the-variants as refusal
 use Rattle.table.specs.Calls.{makeBytes, addBytes, addAnswer, deleteBytes, findAnswer}
 use Rattle.table.specs.theory.Computing as tables
@@ -15,10 +15,10 @@ use Rattle.table.specs.declared.answers.AddAnswer.{AddAnswer}
 use Rattle.table.specs.declared.answers.AddAnswer.the-variants as adding
 use Rattle.table.specs.declared.answers.FindAnswer.{FindAnswer}
 use Rattle.table.specs.declared.answers.FindAnswer.the-variants as finding
-use Rattle.reader.specs.Answers.{readingOf}
-use Rattle.reader.specs.declared.Parsed.the-variants as parsed
-use Rattle.address.specs.Ascii.{ascii}
-use Rattle.address.specs.theory.Computing as texts
+use Rattle.text_read.specs.Answers.{readingOf}
+use Rattle.text_read.specs.declared.Parsed.the-variants as parsed
+use Rattle.text_calls.specs.Ascii.{ascii}
+use Rattle.text_calls.specs.theory.Computing as texts
 
 -- Claims ---------------------------------------------------------------------------------------------------------------------
 

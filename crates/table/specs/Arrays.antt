@@ -23,3 +23,8 @@ abbrev pub padded : ℕ → List ℕ → List ℕ
 padded zero es = []
 padded (suc n) [] = 0 ∷ padded n []
 padded (suc n) (x ∷ es) = x ∷ padded n es
+
+-- f 0 + f 1 + .. + f (n - 1)
+abbrev pub sumBelow : ℕ → (ℕ → ℕ) → ℕ
+sumBelow zero f = 0
+sumBelow (suc n) f = f 0 + sumBelow n (λ i. f (suc i))

@@ -6,13 +6,13 @@ use mathlib.Core.List.{List}
 use lib.ListN.{length}
 use lib.Dec.{leb, ltb}
 use Rattle.settings.specs.declared.settings.Settings.{Settings}
-use Rattle.settings.specs.declared.keys.Key.{Key}
+use Rattle.keys.specs.declared.Key.{Key}
 use Rattle.settings.specs.declared.refusal.Refusal.{Refusal}
 use Rattle.settings.specs.declared.refusal.Refusal.the-variants as refusal
 use Rattle.settings.specs.Sizes.{tableBytes}
 use Rattle.settings.specs.Legal.{legal}
 use Rattle.settings.specs.Layout.{layoutOf}
-use Rattle.settings.specs.Key.{keyNumber, listNumber, entry}
+use Rattle.keys.specs.Key.{keyNumber, listNumber, entry}
 use Rattle.table.specs.State.{State}
 use Rattle.table.specs.Decode.{decode, written}
 use Rattle.table.specs.Find.{findIn}

@@ -12,13 +12,7 @@ pub mod Rebuilt
 pub mod Record
 pub mod Check
 pub mod Calls
-pub mod Set
 pub mod Sound
-pub mod Plain
-pub mod Same
--- Words that only the contracts of functions below the calls use.
 pub mod Table
-pub mod Steps
-pub mod Spots
 -- What is proved of them.
 pub mod theory

@@ -4,7 +4,7 @@ use Prim.Native.Nat.{ℕ, suc}
 use mathlib.Core.List.{List, [], _∷_, _++_}
 use mathlib.Core.Option.{Option, none, some}
 use Rattle.settings.specs.declared.settings.Settings.{Settings}
-use Rattle.settings.specs.Key.{rebuilt}
+use Rattle.keys.specs.Key.{rebuilt}
 use Rattle.settings.specs.Layout.{layoutOf}
 use Rattle.table.specs.State.{Basic, Overflow, State, entryOf, labelOf}
 use Rattle.table.specs.Follow.{Seen, contentOf}

@@ -8,7 +8,7 @@ use lib.ListN.{length, getD}
 use lib.Dec.{ltb}
 use Rattle.settings.specs.declared.settings.Settings.{Settings}
 use Rattle.settings.specs.declared.refusal.Refusal.the-variants as refusal
-use Rattle.settings.specs.Key.{keyOf, rebuilt}
+use Rattle.keys.specs.Key.{keyOf, rebuilt}
 use Rattle.settings.specs.Layout.{layoutOf}
 use Rattle.table.specs.State.{Basic, Overflow, State, entryOf, labelOf}
 use Rattle.table.specs.Follow.{Seen, contentOf}

@@ -12,7 +12,7 @@ use Rattle.table.specs.State.{Overflow, State, basicAt, overflowAt, unpa
 use Rattle.table.specs.Decode.{decode}
 use Rattle.table.specs.Follow.{Seen, content}
 use Rattle.table.specs.Take.{occurs}
-use Rattle.table.specs.Set.{sumBelow}
+use Rattle.table.specs.Arrays.{sumBelow}
 
 module _ (g : Layout) where
   -- each link leads to an overflow block; "The last free block links to itself."

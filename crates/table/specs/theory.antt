@@ -1,4 +1,3 @@
--- Laws of the definitions, from rows of numbers up to soundness.
 pub mod Arrays
 pub mod Decode
 pub mod Changes
@@ -10,12 +9,4 @@ pub mod Occurs
 pub mod Chain
 pub mod Sound
 pub mod Computing
--- Laws behind the code.
-pub mod Reads
-pub mod Rows
-pub mod Walks
-pub mod Lasts
-pub mod Spots
-pub mod Finds
-pub mod Scans
 pub mod Opened

@@ -1,5 +1,5 @@
 // What the calls on a table answer: document 01's words, each with its values, or a refusal.
-use settings::Key;
+use keys::Key;
 use settings::Refusal;
 
 pub enum MakeAnswer {

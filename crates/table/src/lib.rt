@@ -1,9 +1,5 @@
-// The table in lent bytes.
+// The table in lent bytes: what its calls answer. The definitions stand in specs/; the code of each call in a crate of its own.
 mod answers;
-pub mod blocks;
-pub mod lists;
-mod lookup;
-pub mod slots;
 
 pub use answers::AddAnswer;
 pub use answers::CheckAnswer;
@@ -11,5 +7,3 @@ pub use answers::DeleteAnswer;
 pub use answers::FindAnswer;
 pub use answers::MakeAnswer;
 pub use answers::RecordAnswer;
-pub use lookup::find;
-pub use lookup::find_in;

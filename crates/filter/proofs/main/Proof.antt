@@ -4,7 +4,7 @@ use native.Mathlib.Omega.{arith}
 use lib.ListN.{length, replicate, length-replicate}
 use lib.Dec.{lit<}
 use borrow.Author.Needs.{needs}
-use Rattle.stream.specs.Output.{newTable}
+use Rattle.program_stream.specs.Output.{newTable}
 use Rattle.filter.proofs.main.Statement.{statement}
 use Rattle.filter.proofs.main.Tie as tie
 

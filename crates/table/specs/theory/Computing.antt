@@ -7,7 +7,7 @@ use Rattle.settings.specs.Prime.{noneDivides, isPrime, primeAbove}
 use Rattle.settings.specs.Sizes.{linkBits, freeStartBits, basicCounterBits, basicBlockBits, lists, overflowCounterBits, overflowBlockBits, overflowStart, tableBits, tableBytes}
 use Rattle.settings.specs.Legal.{inRanges, fits, belowPrime, legal}
 use Rattle.settings.specs.Layout.{layoutOf}
-use Rattle.settings.specs.Key.{keyNumber, keyOf, index, entry, hash, listNumber, rebuilt}
+use Rattle.keys.specs.Key.{keyNumber, keyOf, index, entry, hash, listNumber, rebuilt}
 use Rattle.table.specs.State.{unpack, headOf, restOf}
 use Rattle.table.specs.Decode.{blockAt, basicSlots, linkAt, overflowSlots, readBasic, readOverflow, decode, image, written}
 use Rattle.table.specs.Follow.{content}

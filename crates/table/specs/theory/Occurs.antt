@@ -8,7 +8,7 @@ use lib.Dec.{eqb, eqb·suc-suc, eqb·suc-zero, eqb·zero-suc}
 use lib.ListN.{length}
 use borrow.Author.Tests.{eq-eqb}
 use Rattle.table.specs.Take.{occurs}
-use Rattle.table.specs.Set.{sumBelow}
+use Rattle.table.specs.Arrays.{sumBelow}
 use Rattle.table.specs.theory.Formed.{All, all-nil, all-cons}
 use Rattle.table.specs.theory.FormedCalls.{Below}
 

@@ -10,13 +10,13 @@ use borrow.Author.Tests.{le-leb, lt-leb, ltb-true}
 use Rattle.settings.specs.Sizes.{lists, tableBytes}
 use Rattle.settings.specs.Legal.{legal}
 use Rattle.settings.specs.Layout.{layoutOf}
-use Rattle.settings.specs.Key.{keyNumber, listNumber, entry, placeOf}
+use Rattle.keys.specs.Key.{keyNumber, listNumber, entry, placeOf}
 use Rattle.settings.specs.theory.Legal.{legal-means}
 use Rattle.settings.specs.theory.Proper.{layout-proper}
-use Rattle.settings.specs.theory.Keys.{number-key, list-below, entry-below}
+use Rattle.keys.specs.theory.Keys.{number-key, list-below, entry-below}
 use Rattle.settings.specs.declared.settings.Settings.{Settings}
 use Rattle.settings.specs.declared.layout.Layout.{Layout}
-use Rattle.settings.specs.declared.keys.Place.{Place}
+use Rattle.keys.specs.declared.Place.{Place}
 use Rattle.settings.specs.declared.refusal.Refusal.{Refusal}
 use Rattle.settings.specs.declared.refusal.Refusal.the-variants as refusal
 use Rattle.table.specs.Table.{Table}

@@ -16,7 +16,7 @@ use Rattle.table.specs.State.{Basic, Overflow, State, basicAt, overflowA
 use Rattle.table.specs.Decode.{decode}
 use Rattle.table.specs.Follow.{Seen, seen, follow, contentOver, contentOf, content}
 use Rattle.table.specs.Take.{occurs}
-use Rattle.table.specs.Set.{sumBelow}
+use Rattle.table.specs.Arrays.{sumBelow}
 use Rattle.table.specs.Check.{
   every,
   everyBelow,

@@ -9,10 +9,10 @@ use borrow.Author.Tests.{not-true, not-false}
 use Rattle.settings.specs.Made.{laidOf}
 use Rattle.settings.specs.theory.Legal.{legal-means}
 use Rattle.settings.specs.declared.layout.Laid.the-variants as laid
-use Rattle.insert.specs.theory.AddLaws.{label-below, label-slot, call-label, call-on}
+use Rattle.table_add.specs.theory.AddLaws.{label-below, label-slot, call-label, call-on}
 use Rattle.shelfegret.specs.Reply.{addReply}
-use Rattle.shelfegret.specs.theory.TextReply.{add-replied, add-left}
-use Rattle.shelfegret.specs.theory.Placed.{Passed, passed, refused-first, asks-place, table, list-below, entry-below, list-is, entry-is}
+use Rattle.shelfegret.proofs.TextReply.{add-replied, add-left}
+use Rattle.shelfegret.proofs.Placed.{Passed, passed, refused-first, asks-place, table, list-below, entry-below, list-is, entry-is}
 use borrow.Author.Needs.{needs}
 use Rattle.shelfegret.proofs.texts.shelfegret_add_text.Statement.{statement}
 use Rattle.shelfegret.proofs.texts.shelfegret_add_text.Tie as tie

@@ -4,10 +4,10 @@ use native.Mathlib.Omega.{arith}
 use denote.Ref.{now}
 use Rattle.settings.specs.Made.{laidOf}
 use Rattle.settings.specs.declared.layout.Laid.the-variants as laid
-use Rattle.remove.specs.theory.RemoveLaws.{call-on}
+use Rattle.table_delete.specs.theory.RemoveLaws.{call-on}
 use Rattle.shelfegret.specs.Reply.{deleteReply}
-use Rattle.shelfegret.specs.theory.TextReply.{delete-replied, delete-left}
-use Rattle.shelfegret.specs.theory.Placed.{Passed, passed, refused-first, asks-place, table, list-below, entry-below, list-is, entry-is}
+use Rattle.shelfegret.proofs.TextReply.{delete-replied, delete-left}
+use Rattle.shelfegret.proofs.Placed.{Passed, passed, refused-first, asks-place, table, list-below, entry-below, list-is, entry-is}
 use borrow.Author.Needs.{needs}
 use Rattle.shelfegret.proofs.texts.shelfegret_delete_text.Statement.{statement}
 use Rattle.shelfegret.proofs.texts.shelfegret_delete_text.Tie as tie

@@ -5,8 +5,8 @@ use denote.Ref.{now}
 use Rattle.settings.specs.Made.{laidOf}
 use Rattle.settings.specs.declared.layout.Laid.the-variants as laid
 use Rattle.shelfegret.specs.Reply.{findReply}
-use Rattle.shelfegret.specs.theory.TextReply.{find-replied}
-use Rattle.shelfegret.specs.theory.Placed.{Passed, passed, refused-first, asks-place, table, list-below, entry-below, found-is}
+use Rattle.shelfegret.proofs.TextReply.{find-replied}
+use Rattle.shelfegret.proofs.Placed.{Passed, passed, refused-first, asks-place, table, list-below, entry-below, found-is}
 use borrow.Author.Needs.{needs}
 use Rattle.shelfegret.proofs.texts.shelfegret_find_text.Statement.{statement}
 use Rattle.shelfegret.proofs.texts.shelfegret_find_text.Tie as tie

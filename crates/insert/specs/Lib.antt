@@ -1,4 +1,0 @@
--- Words of contracts.
-pub mod Adds
--- Laws of them.
-pub mod theory

@@ -1,3 +1,0 @@
-pub mod FreeLaws
-pub mod AppendLaws
-pub mod AddLaws

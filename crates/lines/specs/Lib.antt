@@ -1,3 +1,0 @@
--- Definitions, which contracts cite; and, in theory, the laws that hold of them.
-pub mod Ends
-pub mod theory

@@ -1,0 +1,116 @@
+-- A state that holds lists of slots, as the calls see and change it: what following a list gives, how many blocks are used, and what append and
+-- delete make of the lists. The next level needs no more of the blocks than this.
+use mathlib.Core.Path.{_≡_, refl, sym, ap, _∙_}
+use mathlib.Core.Bool.{true, false}
+use mathlib.Core.List.{List, [], _∷_, _++_}
+use mathlib.Core.Option.{some}
+use Prim.Native.Nat.{ℕ, _+_, _-_, _<_}
+use native.Mathlib.Omega.{arith}
+use lib.ListN.{length, getD, set, take, length-set}
+use lib.Seq.{getD-set-same, set-getD, set-set}
+use lib.Pow.{pow-pos}
+use lib.Dec.{eqb}
+use Rattle.settings.specs.declared.layout.Layout.{Layout}
+use Rattle.settings.specs.Proper.{Proper}
+use Rattle.table.specs.State.{State, basicAt}
+use Rattle.table.specs.Follow.{seen, content}
+use Rattle.table.specs.Take.{Done, damage, noBlock, done}
+use Rattle.table.specs.Add.{append}
+use Rattle.table.specs.Delete.{poke, shrink}
+use Rattle.table.specs.Arrays.{sumBelow}
+use Rattle.table.specs.theory.Formed.{all-getD, Fits}
+use Rattle.plain_set.specs.theory.Count.{never, eqb-iff, sum, sum-at, sumBelow-ext, sumBelow-list}
+use Rattle.plain_set.specs.theory.Blocks.{blocks-total}
+use Rattle.plain_set.specs.theory.Swap.{swapOut}
+use Rattle.plain_set.specs.theory.Rep.{Rep, Stores}
+use Rattle.plain_set.specs.theory.Follow.{content-holds}
+use Rattle.plain_set.specs.theory.Use.{blocksFor, usedBy, noRoom, blocks-holds}
+use Rattle.plain_set.specs.theory.Update.{Standing, Edit, rep-standing, rep-edit}
+use Rattle.plain_set.specs.theory.Append.{Appended, append-local}
+use Rattle.plain_set.specs.theory.Delete.{poke-local, Shrunk, shrink-local}
+
+module _ (g : Layout) where
+  -- a change that was done, and the lists after it
+  pub record Ended (o : Done) (T : List (List ℕ)) : Type 0 where
+    pub after : State
+    pub is : o ≡ done after
+    pub stores : Stores g after T
+
+-- list i, followed to its end: its blocks and its slots
+pub rep-content : {g : Layout} {st : State} {T B : List (List ℕ)} {fs : List ℕ} → Rep g st T B fs → (i : ℕ) → i < g .lists
+    → content g st i ≡ some (seen (getD B i []) (getD T i []))
+unfolding content
+rep-content {g} {st} {T} {B} {fs} r i h =
+    content-holds g (basicAt (st .basic) i) (st .overflow) (getD B i []) (getD T i []) (r .each i h)
+    (λ j l. rep-standing r h .low j (omega arith))
+    (omega (arith, blocks-total (g .nob) B fs (r .once), sum-at length B i [] (omega (arith, r .blocks))))
+
+module _ {g : Layout} (F : Proper g) {st : State} {T B : List (List ℕ)} {fs : List ℕ} (r : Rep g st T B fs) where
+  -- the blocks used and the free ones are all blocks
+  pub used-blocks : usedBy g T + length fs ≡ g .nob
+  used-blocks = omega (arith, blocks-total (g .nob) B fs (r .once), used)
+    where
+      used : usedBy g T ≡ sum length B
+      used =
+          sumBelow-ext (g .lists) (λ i. blocksFor (g .sib) (g .sio) (length (getD T i []))) (λ i. length (getD B i []))
+          (λ i h. blocks-holds F (basicAt (st .basic) i) (st .overflow) (getD B i []) (getD T i []) (r .each i h))
+          ∙ ap (λ (n : ℕ). sumBelow n (λ i. length (getD B i []))) (sym (r .blocks))
+          ∙ sumBelow-list length B []
+
+  -- all blocks are used exactly if none is free
+  pub used-all : eqb (usedBy g T) (g .nob) ≡ eqb (length fs) 0
+  used-all =
+      let t = used-blocks in
+      eqb-iff (usedBy g T) (g .nob) (length fs) 0 (λ q. omega arith) (λ q. omega arith)
+
+  module _ (i : ℕ) (h : i < g .lists) where
+    -- the slot x at the end of list i: refused for want of a block where that is due, and else done
+    module _ (x : ℕ) (fx : Fits (g .slot) x) where
+      pub append-refused : noRoom g T i ≡ true → append g st i (getD B i []) x ≡ noBlock
+      append-refused = go (append g st i (getD B i []) x) (append-local F x fx (getD B i []) fs (rep-standing r h))
+        where
+          go : (o : Done) → Appended g st i (getD B i []) fs (getD T i []) x o → noRoom g T i ≡ true → o ≡ noBlock
+          go damage w = absurd w
+          go noBlock w = λ e. refl
+          go (done u) w = rw (used-all, w .0) (λ e. never e)
+
+      pub append-done : noRoom g T i ≡ false → Ended g (append g st i (getD B i []) x) (set T i (getD T i [] ++ x ∷ []))
+      append-done = go (append g st i (getD B i []) x) (append-local F x fx (getD B i []) fs (rep-standing r h))
+        where
+          go : (o : Done) → Appended g st i (getD B i []) fs (getD T i []) x o → noRoom g T i ≡ false
+              → Ended g o (set T i (getD T i [] ++ x ∷ []))
+          go damage w = absurd w
+          go noBlock w = rw (used-all, w) (λ e. never (sym e))
+          go (done u) w = λ e.
+              record {
+                after = u;
+                is = refl;
+                stores = record { B = set B i (w .1 .cs); fs = w .1 .ns; rep = rep-edit r h (w .1 .edit) };
+              }
+
+    -- the last slot of list i moved into place p, and its own place off
+    pub delete-done : (p : ℕ) → p < length (getD T i [])
+        → Ended g (shrink g (poke g st i (getD B i []) p (getD (getD T i []) (length (getD T i []) - 1) 0)) i (getD B i []))
+        (set T i (swapOut (getD T i []) p))
+    delete-done p l =
+        let es : List ℕ = getD T i [] in
+        let x : ℕ = getD es (length es - 1) 0 in
+        let fx : Fits (g .slot) x = all-getD (r .fits i h) (pow-pos (g .slot)) (length es - 1) in
+        let u : State = poke g st i (getD B i []) p x in
+        let w : Edit g st i (getD B i []) fs (getD B i []) fs (set es p x) u = poke-local p x l fx (getD B i []) (rep-standing r h) in
+        let r₁ : Rep g u (set T i (set es p x)) B fs = rw (set-getD B i []) at (rep-edit r h w) in
+        let k : Standing g u i (getD B i []) fs (set es p x) =
+        rw (getD-set-same T i (set es p x) [] (omega (arith, r .lists))) at (rep-standing r₁ h) in
+        go (set es p x) u r₁ (length es - 1) (shrink g u i (getD B i []))
+        (shrink-local F (length es - 1) (omega (arith, length-set es p x)) (getD B i []) fs k)
+      where
+        go : (ys : List ℕ) (u : State) → Rep g u (set T i ys) B fs → (n : ℕ) (o : Done) → Shrunk g u i (getD B i []) fs (take n ys) o
+            → Ended g o (set T i (take n ys))
+        go ys u q n damage w = absurd w
+        go ys u q n noBlock w = absurd w
+        go ys u q n (done v) w =
+            record {
+              after = v;
+              is = refl;
+              stores = record { B = set B i (w .cs); fs = w .ns; rep = rw (set-set T i ys (take n ys)) at (rep-edit q h (w .edit)) };
+            }

@@ -1,0 +1,142 @@
+-- A sound state passes check's test: so the test says exactly that the state is sound.
+use mathlib.Core.Path.{_≡_, refl, sym, ap, _∙_}
+use mathlib.Core.Bool.{true, _&&_}
+use mathlib.Core.List.{List, [], _∷_}
+use mathlib.Core.Option.{some}
+use Prim.Native.Nat.{ℕ, zero, suc, _+_, _-_, _≤_, _<_}
+use native.Mathlib.Omega.{arith}
+use lib.ListN.{length, getD, drop, drop-of-length-le}
+use lib.Seq.{ext-getD}
+use lib.Dec.{eqb, ltb}
+use borrow.Author.Tests.{eq-eqb, ne-eqb, lt-ltb}
+use Rattle.settings.specs.declared.layout.Layout.{Layout}
+use Rattle.settings.specs.theory.Cases.{both-true}
+use Rattle.table.specs.Arrays.{padded}
+use Rattle.table.specs.State.{Basic, Overflow, State, basicAt, overflowAt}
+use Rattle.table.specs.Follow.{seen, contentOf, content}
+use Rattle.table.specs.Take.{occurs}
+use Rattle.table.specs.Check.{every, everyBelow, allZero, blocksOf, basicUnused, overflowUnused, freeZero, noEntryTwice, listSound, listsSound, chainFrom, freeChain, occursInLists, chainSound, stateSound}
+use Rattle.plain_set.specs.theory.Count.{and-both, one, one-le, sum}
+use Rattle.plain_set.specs.theory.Blocks.{occurs-head, below, blocks-total}
+use Rattle.plain_set.specs.theory.Pad.{length-padded, padded-zeros}
+use Rattle.plain_set.specs.theory.Rep.{Tail, Holds, Links, Chain, Rep, Sound}
+use Rattle.plain_set.specs.theory.Tails.{not-in}
+use Rattle.plain_set.specs.theory.Change.{rep-content}
+use Rattle.plain_set.specs.theory.Tests.{everyBelow-all, single-once, allBlocks, occursInLists-sum, getD-each, length-each, listsSound-all}
+
+module _ (g : Layout) where
+  -- a full block has no unused slots
+  padded-none : (n : ℕ) (es : List ℕ) → allZero (drop (suc n) (padded n es)) ≡ true
+  padded-none n es = rw (drop-of-length-le (padded n es) {i = suc n} (omega (arith, length-padded n es)))
+
+  -- the unused slots of a list's blocks are zero
+  tail-unused : (os : List Overflow) (b : ℕ) (bs : List ℕ) (es : List ℕ) (d : ℕ) → Tail g os b bs es d
+      → every (overflowUnused g os) (b ∷ bs) ≡ true
+  tail-unused os b [] es d h =
+      let e : suc (length es - 1) ≡ length es = omega arith in
+      and-both (overflowUnused g os b) true (rw (h .2, e) (padded-zeros (g .sio) es)) refl
+  tail-unused os b (c ∷ cs) es d h =
+      and-both (overflowUnused g os b) (every (overflowUnused g os) (c ∷ cs)) (rw (h .1) (padded-none (g .sio) es))
+      (tail-unused os c cs (drop (g .sio) es) d (h .2))
+
+  holds-unused : (b : Basic) (os : List Overflow) (bs : List ℕ) (es : List ℕ) → Holds g b os bs es
+      → basicUnused g b bs && every (overflowUnused g os) bs ≡ true
+  holds-unused b os [] es h = and-both (basicUnused g b []) true (rw (h .2, h .1) (padded-zeros (g .sib) es)) refl
+  holds-unused b os (c ∷ cs) es h = tail-unused os c cs (drop (g .sib) es) (h .0) (h .5)
+
+  -- the walk along the free chain finds it
+  chain-links : (n : ℕ) (os : List Overflow) (f : ℕ) (fs : List ℕ) → Links g os f fs → ((j : ℕ) → occurs j (f ∷ fs) ≤ 1)
+      → ((j : ℕ) → 0 < occurs j (f ∷ fs) → j < g .nob) → length fs < n → chainFrom g n os f ≡ some (f ∷ fs)
+  chain-links zero os f fs h dis low l = absurd (omega arith)
+  chain-links (suc n) os f [] h dis low l =
+      rw (lt-ltb f (g .nob) (low f (occurs-head f [])), eq-eqb (overflowAt os f .link) f (ap (λ (o : Overflow). o .link) h))
+  chain-links (suc n) os f (m ∷ ms) h dis low l =
+      let e : overflowAt os f .link ≡ m = ap (λ (o : Overflow). o .link) (h .0) in
+      rw (
+        lt-ltb f (g .nob) (low f (occurs-head f (m ∷ ms))),
+        ne-eqb (overflowAt os f .link) f (λ q. not-in f m (m ∷ ms) dis (occurs-head m ms) (sym e ∙ q)),
+        e,
+        chain-links n os m ms (h .1) (λ j. omega (arith, dis j)) (λ j k. low j (omega arith)) (omega arith),
+      )
+
+  -- free blocks are zeroed
+  links-zero : (os : List Overflow) (f : ℕ) (fs : List ℕ) → Links g os f fs → every (freeZero g os) (f ∷ fs) ≡ true
+  links-zero os f [] h = and-both (freeZero g os f) true (rw h (padded-zeros (g .sio) [])) refl
+  links-zero os f (m ∷ ms) h =
+      and-both (freeZero g os f) (every (freeZero g os) (m ∷ ms)) (rw (h .0) (padded-zeros (g .sio) [])) (links-zero os m ms (h .1))
+
+  chain-zero : (os : List Overflow) (f : ℕ) (fs : List ℕ) → Chain g os f fs → every (freeZero g os) fs ≡ true
+  chain-zero os f [] h = refl
+  chain-zero os f (m ∷ ms) h = links-zero os m ms (h .1)
+
+  free-is : (st : State) (fs : List ℕ) → Chain g (st .overflow) (st .free) fs → ((j : ℕ) → occurs j fs ≤ 1)
+      → ((j : ℕ) → 0 < occurs j fs → j < g .nob) → length fs ≤ g .nob → freeChain g st ≡ some fs
+  free-is st [] h dis low l = rw (eq-eqb (st .free) (g .nob) h)
+  free-is st (m ∷ ms) h dis low l =
+      rw (ne-eqb (st .free) (g .nob) (λ q. omega (arith, h .0, low m (occurs-head m ms))), h .0)
+      (chain-links (g .nob) (st .overflow) m ms (h .1) dis low l)
+
+  pub sound-check : (st : State) → Sound g st → stateSound g st ≡ true
+  unfolding stateSound content
+  sound-check st o =
+      and-both (listsSound g bs os) (chainSound g st (freeChain g st)) lists-fine
+      (rw (free-is st fs (r .chain) dis low (omega (arith, blocks-total (g .nob) (o .B) fs (r .once))))
+      (and-both (every (freeZero g os) fs) (everyBelow (g .nob) (λ j. eqb (occursInLists g j bs os + occurs j fs) 1))
+      (chain-zero os (st .free) fs (r .chain))
+      (everyBelow-all (g .nob) (λ j. eqb (occursInLists g j bs os + occurs j fs) 1)
+      (λ j l. eq-eqb (occursInLists g j bs os + occurs j fs) 1 (one-each j l)))))
+    where
+      bs : List Basic
+      bs = st .basic
+
+      os : List Overflow
+      os = st .overflow
+
+      fs : List ℕ
+      fs = o .fs
+
+      r : Rep g st (o .T) (o .B) (o .fs)
+      r = o .rep
+
+      dis : (j : ℕ) → occurs j fs ≤ 1
+      dis j = omega (arith, r .once j, one-le (ltb j (g .nob)))
+
+      low : (j : ℕ) → 0 < occurs j fs → j < g .nob
+      low j l = below j (g .nob) (omega (arith, r .once j))
+
+      content-is : (i : ℕ) → i < g .lists → contentOf g (basicAt bs i) os ≡ some (seen (getD (o .B) i []) (getD (o .T) i []))
+      content-is i l = rep-content r i l
+
+      blocks-are : allBlocks g bs os ≡ o .B
+      blocks-are =
+          ext-getD [] (allBlocks g bs os) (o .B) (length-each g blocksOf bs os ∙ r .basics ∙ sym (r .blocks))
+          (λ i l.
+          getD-each g blocksOf bs os i [] (omega (arith, length-each g blocksOf bs os))
+          ∙ ap blocksOf (content-is i (omega (arith, length-each g blocksOf bs os, r .basics))))
+
+      one-each : (j : ℕ) → j < g .nob → occursInLists g j bs os + occurs j fs ≡ 1
+      one-each j l =
+          omega (
+            arith,
+            occursInLists-sum g j bs os,
+            ap (λ (B : List (List ℕ)). sum (occurs j) B) blocks-are,
+            r .once j,
+            ap one (lt-ltb j (g .nob) l),
+          )
+
+      list-fine : (i : ℕ) → i < g .lists → listSound g (basicAt bs i) os (some (seen (getD (o .B) i []) (getD (o .T) i []))) ≡ true
+      list-fine i l =
+          let b : Basic = basicAt bs i in
+          let cs : List ℕ = getD (o .B) i [] in
+          let es : List ℕ = getD (o .T) i [] in
+          let z = holds-unused b os cs es (r .each i l) in
+          and-both (basicUnused g b cs) (every (overflowUnused g os) cs && noEntryTwice g es)
+          (both-true (basicUnused g b cs) (every (overflowUnused g os) cs) z .0)
+          (and-both (every (overflowUnused g os) cs) (noEntryTwice g es)
+          (both-true (basicUnused g b cs) (every (overflowUnused g os) cs) z .1)
+          (single-once g es (o .single i l)))
+
+      lists-fine : listsSound g bs os ≡ true
+      lists-fine =
+          listsSound-all g bs os
+          (λ i l. let m : i < g .lists = omega (arith, r .basics) in rw (content-is i m) (list-fine i m))

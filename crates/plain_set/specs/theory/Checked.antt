@@ -1,0 +1,312 @@
+-- A state that passes check's test is sound.
+use mathlib.Core.Path.{_≡_, refl, sym, ap, _∙_, subst}
+use mathlib.Core.Bool.{Bool, true, _&&_}
+use mathlib.Core.List.{List, [], _∷_, _++_, append-nil}
+use mathlib.Core.Option.{Option, none, some}
+use Prim.Native.Nat.{ℕ, zero, suc, _+_, _-_, _≤_, _<_}
+use native.Mathlib.Omega.{arith}
+use lib.ListN.{length, take, length-append, length-take}
+use lib.Seq.{length-take-le, take-all, drop-at}
+use lib.Dec.{eqb, ltb}
+use borrow.Author.Tests.{eqb-true, ltb-true, ltb-false}
+use Rattle.settings.specs.declared.layout.Layout.{Layout}
+use Rattle.settings.specs.Proper.{Proper}
+use Rattle.settings.specs.theory.Cases.{cases, both-true}
+use Rattle.table.specs.Arrays.{padded}
+use Rattle.table.specs.State.{Basic, Overflow, State, mkOverflow, basicAt, overflowAt, unpack}
+use Rattle.table.specs.Follow.{lastOf, Seen, cons?, follow, gather, contentOver, contentOf, content}
+use Rattle.table.specs.Take.{occurs}
+use Rattle.table.specs.Rebuilt.{slotsOf}
+use Rattle.table.specs.Check.{every, everyBelow, allZero, blocksOf, basicUnused, overflowUnused, freeZero, noEntryTwice, listSound, listsSound, chainFrom, freeChain, occursInLists, chainSound, stateSound}
+use Rattle.plain_set.specs.theory.Count.{never, one, sum}
+use Rattle.table.specs.theory.Formed.{All, all-nil, Fits, Formed, overflow-fits}
+use Rattle.table.specs.theory.FormedCalls.{SeenFits, holds-none, holds-some, unpack-each}
+use Rattle.table.specs.theory.FormedCalls.{Holds as Whole, content-holds as content-formed}
+use Rattle.plain_set.specs.theory.Pad.{padded-id, padded-append-le, zeros-padded}
+use Rattle.plain_set.specs.theory.Rep.{Tail, Holds, Links, Chain, Single, Sound}
+use Rattle.plain_set.specs.theory.Tests.{everyBelow-at, once-single, allBlocks, allSlots, occursInLists-sum, getD-each, length-each, listsSound-at}
+
+-- a block, by its fields
+overflow-eta : (o : Overflow) (n l : ℕ) (es : List ℕ) → o .counter ≡ n → o .link ≡ l → o .slots ≡ es → o ≡ mkOverflow n l es
+overflow-eta o n l es p q r = λ i. record { counter = p i; link = q i; slots = r i }
+
+module _ (g : Layout) where
+  -- the blocks c, cs that following passes
+  abbrev Path : List Overflow → ℕ → List ℕ → Type 0
+  Path os c [] = (c < g .nob) × (overflowAt os c .counter < g .sio)
+  Path os c (d ∷ ds) = (c < g .nob) × (overflowAt os c .counter ≡ g .sio) × (overflowAt os c .link ≡ d) × Path os d ds
+
+  abbrev Followed : List Overflow → ℕ → Option (List ℕ) → Type 0
+  Followed os b none = Unit {0}
+  Followed os b (some []) = ⊥
+  Followed os b (some (c ∷ cs)) = (b ≡ c) × Path os c cs
+
+  -- following passes such blocks only
+  followed-cons : (os : List Overflow) (b : ℕ) (o : Option (List ℕ)) → Followed os (overflowAt os b .link) o → b < g .nob
+      → overflowAt os b .counter ≡ g .sio → Followed os b (cons? b o)
+  followed-cons os b none w l e = tt
+  followed-cons os b (some []) w l e = absurd w
+  followed-cons os b (some (c ∷ cs)) w l e = (refl, (l, e, w .0, w .1))
+
+  followed : (n : ℕ) (os : List Overflow) (b : ℕ) → Followed os b (follow g n os b)
+  followed zero os b = tt
+  followed (suc n) os b =
+      let o : Overflow = overflowAt os b in
+      cases (ltb b (g .nob))
+      (λ e.
+      cases (ltb (o .counter) (g .sio))
+      (λ f. rw (e, f) (refl, (ltb-true b (g .nob) e, ltb-true (o .counter) (g .sio) f)))
+      (λ f.
+      cases (eqb (o .counter) (g .sio))
+      (λ k.
+      rw (e, f, k)
+      (followed-cons os b (follow g n os (o .link)) (followed n os (o .link)) (ltb-true b (g .nob) e) (eqb-true (o .counter) (g .sio) k)))
+      (λ k. rw (e, f, k) tt)))
+      (λ e. rw e tt)
+
+  path-first : (os : List Overflow) (c : ℕ) (cs : List ℕ) → Path os c cs → c < g .nob
+  path-first os c [] p = p .0
+  path-first os c (d ∷ ds) p = p .0
+
+  path-low : (os : List Overflow) (c : ℕ) (cs : List ℕ) (j : ℕ) → Path os c cs → 0 < occurs j (c ∷ cs) → j < g .nob
+  path-low os c [] j p l =
+      cases (eqb j c) (λ e. let q = eqb-true j c e in omega (arith, p .0)) (λ e. absurd (omega (arith, ap one e)))
+  path-low os c (d ∷ ds) j p l =
+      cases (eqb j c)
+      (λ e. let q = eqb-true j c e in omega (arith, p .0))
+      (λ e. path-low os d ds j (p .3) (omega (arith, ap one e)))
+
+  -- the blocks that following finds, in any state, are blocks of the table
+  list-low : (os : List Overflow) (b : Basic) (j : ℕ) → 0 < occurs j (blocksOf (contentOf g b os)) → j < g .nob
+  list-low os b j =
+      cases (ltb (b .counter) (suc (g .sib)))
+      (λ e. rw e (λ h. absurd (omega arith)))
+      (λ e.
+      cases (eqb (b .counter) (suc (g .sib)))
+      (λ f. rw (e, f) (over (follow g (g .nob) os (b .head)) (followed (g .nob) os (b .head))))
+      (λ f. rw (e, f) (λ h. absurd (omega arith))))
+    where
+      over : (o : Option (List ℕ)) → Followed os (b .head) o → 0 < occurs j (blocksOf (contentOver g b os o)) → j < g .nob
+      over none w h = absurd (omega arith)
+      over (some []) w h = absurd w
+      over (some (c ∷ cs)) w h = path-low os c cs j (w .1) h
+
+  none-above : (bs : List Basic) (os : List Overflow) (j : ℕ) → g .nob ≤ j → sum (occurs j) (allBlocks g bs os) ≡ 0
+  none-above [] os j l = refl
+  none-above (b ∷ bs) os j l =
+      let n : ℕ = occurs j (blocksOf (contentOf g b os)) in
+      cases (ltb 0 n)
+      (λ e. absurd (omega (arith, list-low os b j (ltb-true 0 n e))))
+      (λ e. omega (arith, ltb-false 0 n e, none-above bs os j l))
+
+  -- all slots found have the slots' width
+  seen-fits : {o : Option Seen} → Whole (SeenFits g) o → All (Fits (g .slot)) (slotsOf o)
+  seen-fits holds-none = all-nil
+  seen-fits (holds-some v) = v .slots
+
+  list-fits : {st : State} (i : ℕ) → Formed g st → All (Fits (g .slot)) (slotsOf (contentOf g (basicAt (st .basic) i) (st .overflow)))
+  unfolding content
+  list-fits i f = seen-fits (content-formed g f i)
+
+  list-single : (b : Basic) (os : List Overflow) (o : Option Seen) → listSound g b os o ≡ true → Single g (slotsOf o)
+  list-single b os none h = never h
+  list-single b os (some v) h =
+      once-single g (v .slots)
+      (both-true (every (overflowUnused g os) (v .blocks)) (noEntryTwice g (v .slots))
+      (both-true (basicUnused g b (v .blocks)) (every (overflowUnused g os) (v .blocks) && noEntryTwice g (v .slots)) h .1) .1)
+
+  -- what holds of the free chain that its walk found
+  abbrev Linked : List Overflow → ℕ → Option (List ℕ) → Type 0
+  Linked os f none = Unit {0}
+  Linked os f (some []) = ⊥
+  Linked os f (some (n ∷ ns)) =
+      (f ≡ n) × (every (freeZero g os) (n ∷ ns) ≡ true → Links g os n ns) × ((j : ℕ) → 0 < occurs j (n ∷ ns) → j < g .nob)
+
+  module _ (os : List Overflow) (sized : (j : ℕ) → j < g .nob → length (overflowAt os j .slots) ≡ g .sio) where
+    free-block : (f l : ℕ) → f < g .nob → overflowAt os f .link ≡ l → freeZero g os f ≡ true
+        → overflowAt os f ≡ mkOverflow 0 l (padded (g .sio) [])
+    free-block f l h e z =
+        let o : Overflow = overflowAt os f in
+        overflow-eta o 0 l (padded (g .sio) []) (eqb-true (o .counter) 0 (both-true (eqb (o .counter) 0) (allZero (o .slots)) z .0)) e
+        (zeros-padded (o .slots) 0 (g .sio) (sized f h) (omega arith) (both-true (eqb (o .counter) 0) (allZero (o .slots)) z .1))
+
+    linked-cons : (f : ℕ) (o : Option (List ℕ)) → Linked os (overflowAt os f .link) o → f < g .nob → Linked os f (cons? f o)
+    linked-cons f none w l = tt
+    linked-cons f (some []) w l = absurd w
+    linked-cons f (some (n ∷ ns)) w l = (
+      refl,
+      (λ z. (
+        free-block f n l (w .0) (both-true (freeZero g os f) (every (freeZero g os) (n ∷ ns)) z .0),
+        w .1 (both-true (freeZero g os f) (every (freeZero g os) (n ∷ ns)) z .1),
+      )),
+      (λ j h. cases (eqb j f) (λ e. let q = eqb-true j f e in omega arith) (λ e. w .2 j (omega (arith, ap one e)))),
+    )
+
+    linked : (n f : ℕ) → Linked os f (chainFrom g n os f)
+    linked zero f = tt
+    linked (suc n) f =
+        cases (ltb f (g .nob))
+        (λ e.
+        let low = ltb-true f (g .nob) e in
+        cases (eqb (overflowAt os f .link) f)
+        (λ k.
+        rw (e, k) (
+          refl,
+          (λ z. free-block f f low (eqb-true (overflowAt os f .link) f k) (both-true (freeZero g os f) true z .0)),
+          (λ j h. cases (eqb j f) (λ q. let p = eqb-true j f q in omega arith) (λ q. absurd (omega (arith, ap one q)))),
+        ))
+        (λ k. rw (e, k) (linked-cons f (chainFrom g n os (overflowAt os f .link)) (linked n (overflowAt os f .link)) low)))
+        (λ e. rw e tt)
+
+  -- and of the free chain as a whole
+  abbrev Chained : State → Option (List ℕ) → Type 0
+  Chained st none = Unit {0}
+  Chained st (some fs) =
+      (every (freeZero g (st .overflow)) fs ≡ true → Chain g (st .overflow) (st .free) fs) × ((j : ℕ) → 0 < occurs j fs → j < g .nob)
+
+  chained : (st : State) → Formed g st → Chained st (freeChain g st)
+  chained st d =
+      cases (eqb (st .free) (g .nob))
+      (λ e. rw e ((λ z. eqb-true (st .free) (g .nob) e), (λ j h. absurd (omega arith))))
+      (λ e. rw e (go (chainFrom g (g .nob) (st .overflow) (st .free)) (linked (st .overflow) (λ j l. overflow-fits g d j l .slots .long) (g .nob) (st .free))))
+    where
+      go : (o : Option (List ℕ)) → Linked (st .overflow) (st .free) o → Chained st o
+      go none w = tt
+      go (some []) w = absurd w
+      go (some (n ∷ ns)) w = ((λ z. (w .0, w .1 z)), w .2)
+
+module _ {g : Layout} (F : Proper g) where
+  module _ (os : List Overflow) (sized : (j : ℕ) → j < g .nob → length (overflowAt os j .slots) ≡ g .sio) where
+    gather-some : (c : ℕ) (cs : List ℕ) → c < g .nob → 0 < length (gather g os (c ∷ cs))
+    gather-some c cs l =
+        let o : Overflow = overflowAt os c in
+        omega (
+          arith,
+          length-append (take (suc (o .counter)) (o .slots)) (gather g os cs),
+          length-take (suc (o .counter)) (o .slots),
+          sized c l,
+          F .sio-low,
+        )
+
+    -- such blocks, with zeros where slots are unused, hold the slots that following gathers
+    path-tail : (c : ℕ) (cs : List ℕ) → Path g os c cs → every (overflowUnused g os) (c ∷ cs) ≡ true
+        → Tail g os c cs (gather g os (c ∷ cs)) (overflowAt os (lastOf c cs) .link)
+    path-tail c [] p z =
+        let o : Overflow = overflowAt os c in
+        let xs : List ℕ = take (suc (o .counter)) (o .slots) in
+        let t : length xs ≡ suc (o .counter) = length-take-le (suc (o .counter)) (o .slots) (omega (arith, sized c (p .0), p .1)) in
+        rw append-nil (
+          omega arith,
+          omega (arith, p .1),
+          overflow-eta o (length xs - 1) (o .link) (padded (g .sio) xs) (omega arith) refl
+              (zeros-padded (o .slots) (suc (o .counter)) (g .sio) (sized c (p .0)) (p .1) (both-true (overflowUnused g os c) true z .0)),
+        )
+    path-tail c (d ∷ ds) p z =
+        let o : Overflow = overflowAt os c in
+        let s : length (o .slots) ≡ g .sio = sized c (p .0) in
+        let whole : take (suc (o .counter)) (o .slots) ≡ o .slots = take-all (suc (o .counter)) (o .slots) (omega (arith, p .1)) in
+        let later : List ℕ = gather g os (d ∷ ds) in
+        let v : ℕ = overflowAt os (lastOf d ds) .link in
+        rw whole (
+          omega (arith, length-append (o .slots) later, gather-some d ds (path-first g os d ds (p .3))),
+          overflow-eta o (g .sio) d (padded (g .sio) (o .slots ++ later)) (p .1) (p .2)
+              (sym (padded-append-le (g .sio) (o .slots) later (omega arith) ∙ padded-id (g .sio) (o .slots) s)),
+          subst (λ (xs : List ℕ). Tail g os d ds xs v) (sym (drop-at (o .slots) later (g .sio) s))
+              (path-tail d ds (p .3) (both-true (overflowUnused g os c) (every (overflowUnused g os) (d ∷ ds)) z .1)),
+        )
+
+    -- a list that passes its test stands as the blocks and slots that were found
+    list-holds : (b : Basic) → listSound g b os (contentOf g b os) ≡ true
+        → Holds g b os (blocksOf (contentOf g b os)) (slotsOf (contentOf g b os))
+    list-holds b =
+        cases (ltb (b .counter) (suc (g .sib)))
+        (λ e.
+        rw e
+        (λ h.
+        let all : List ℕ = unpack g (b .head) (b .rest) in
+        let s : length all ≡ g .sib = unpack-each g (b .head) (b .rest) .long in
+        let l : b .counter < suc (g .sib) = ltb-true (b .counter) (suc (g .sib)) e in
+        let t : length (take (b .counter) all) ≡ b .counter = length-take-le (b .counter) all (omega arith) in
+        (omega arith, omega arith, zeros-padded all (b .counter) (g .sib) s (omega arith) (both-true (basicUnused g b []) _ h .0))))
+        (λ e.
+        cases (eqb (b .counter) (suc (g .sib)))
+        (λ f. rw (e, f) (over (follow g (g .nob) os (b .head)) (followed g (g .nob) os (b .head)) (eqb-true (b .counter) (suc (g .sib)) f)))
+        (λ f. rw (e, f) (λ h. never h)))
+      where
+        over : (o : Option (List ℕ)) → Followed g os (b .head) o → b .counter ≡ suc (g .sib) → listSound g b os (contentOver g b os o) ≡ true
+            → Holds g b os (blocksOf (contentOver g b os o)) (slotsOf (contentOver g b os o))
+        over none w f h = never h
+        over (some []) w f h = absurd w
+        over (some (c ∷ cs)) w f h =
+            let d : ℕ = overflowAt os (lastOf c cs) .link in
+            let base : List ℕ = unpack g d (b .rest) in
+            let later : List ℕ = gather g os (c ∷ cs) in
+            let l : length base ≡ g .sib = unpack-each g d (b .rest) .long in (
+              d,
+              omega (arith, length-append base later, gather-some c cs (path-first g os c cs (w .1))),
+              f,
+              w .0,
+              sym (padded-append-le (g .sib) base later (omega arith) ∙ padded-id (g .sib) base l),
+              subst (λ (xs : List ℕ). Tail g os c cs xs d) (sym (drop-at base later (g .sib) l))
+                  (path-tail c cs (w .1) (both-true (every (overflowUnused g os) (c ∷ cs)) (noEntryTwice g (base ++ later)) h .0)),
+            )
+
+  -- check's test passes: the state holds the lists that following finds, each block once, each entry once in its list
+  pub check-sound : (st : State) → Formed g st → stateSound g st ≡ true → Sound g st
+  unfolding stateSound
+  check-sound st d h = go (freeChain g st) (chained g st d) (both-true (listsSound g bs os) (chainSound g st (freeChain g st)) h .1)
+    where
+      bs : List Basic
+      bs = st .basic
+
+      os : List Overflow
+      os = st .overflow
+
+      ok-at : (i : ℕ) → i < g .lists → listSound g (basicAt bs i) os (contentOf g (basicAt bs i) os) ≡ true
+      ok-at i l =
+          listsSound-at g bs os i (both-true (listsSound g bs os) (chainSound g st (freeChain g st)) h .0) (omega (arith, d .basic .long))
+
+      not-above : (j : ℕ) (ns : List ℕ) → ((n : ℕ) → 0 < occurs n ns → n < g .nob) → g .nob ≤ j → occurs j ns ≡ 0
+      not-above j ns f l =
+          cases (ltb 0 (occurs j ns))
+          (λ e. absurd (omega (arith, f j (ltb-true 0 (occurs j ns) e))))
+          (λ e. omega (arith, ltb-false 0 (occurs j ns) e))
+
+      go : (o : Option (List ℕ)) → Chained g st o → chainSound g st o ≡ true → Sound g st
+      go none w z = never z
+      go (some fs) w z =
+          record {
+            T = allSlots g bs os;
+            B = allBlocks g bs os;
+            fs = fs;
+            rep = record {
+              basics = d .basic .long;
+              overs = d .overflow .long;
+              lists = length-each g slotsOf bs os ∙ d .basic .long;
+              blocks = length-each g blocksOf bs os ∙ d .basic .long;
+              each = λ i l.
+                  rw (getD-each g slotsOf bs os i [] (omega (arith, d .basic .long)), getD-each g blocksOf bs os i [] (omega (arith, d .basic .long)))
+                  (list-holds os (λ j l. overflow-fits g d j l .slots .long) (basicAt bs i) (ok-at i l));
+              fits = λ i l. rw (getD-each g slotsOf bs os i [] (omega (arith, d .basic .long))) (list-fits g i d);
+              chain = w .0 (both-true zeroed (everyBelow (g .nob) one-each) z .0);
+              once = λ j.
+                  cases (ltb j (g .nob))
+                  (λ e.
+                  let q : occursInLists g j bs os + occurs j fs ≡ 1 =
+                  eqb-true (occursInLists g j bs os + occurs j fs) 1
+                  (everyBelow-at (g .nob) one-each j (both-true zeroed (everyBelow (g .nob) one-each) z .1) (ltb-true j (g .nob) e)) in
+                  omega (arith, occursInLists-sum g j bs os, ap one e))
+                  (λ e.
+                  let l = ltb-false j (g .nob) e in
+                  omega (arith, ap one e, none-above g bs os j l, not-above j fs (w .1) l));
+            };
+            single = λ i l.
+                rw (getD-each g slotsOf bs os i [] (omega (arith, d .basic .long)))
+                (list-single g (basicAt bs i) os (contentOf g (basicAt bs i) os) (ok-at i l));
+          }
+        where
+          zeroed : Bool
+          zeroed = every (freeZero g os) fs
+
+          one-each : ℕ → Bool
+          one-each j = eqb (occursInLists g j bs os + occurs j fs) 1

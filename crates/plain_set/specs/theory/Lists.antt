@@ -1,0 +1,232 @@
+-- The table as its lists of slots, without block numbers: the level between the plain set and the table's fields.
+use mathlib.Core.Path.{_≡_, refl, sym, ap, _∙_}
+use mathlib.Core.Bool.{Bool, true, false, cond, _&&_}
+use mathlib.Core.List.{List, [], _∷_, _++_}
+use mathlib.Core.Option.{none, some}
+use Prim.Native.Nat.{ℕ, _^_, _≤_, _<_}
+use native.Mathlib.Omega.{arith}
+use lib.ListN.{length, getD, set, length-set}
+use lib.Dec.{eqb}
+use borrow.Author.Tests.{eq-eqb, eqb-true, ltb-true, ltb-false, lt-ltb}
+use Rattle.settings.specs.declared.settings.Settings.{Settings}
+use Rattle.settings.specs.declared.refusal.Refusal.the-variants as refusal
+use Rattle.settings.specs.Sizes.{lists, tableBytes}
+use Rattle.settings.specs.Legal.{Legal}
+use Rattle.settings.specs.Layout.{layoutOf}
+use Rattle.keys.specs.Key.{entry, listNumber}
+use Rattle.settings.specs.theory.Cases.{cases}
+use Rattle.table.specs.State.{entryOf, labelOf, slotOf}
+use Rattle.table.specs.Find.{position, isHeld, labelAt}
+use Rattle.table.specs.Rebuilt.{Pair, pair, pairOf}
+use Rattle.table.specs.Arrays.{sumBelow}
+use Rattle.plain_set.specs.Set.{key, Call, find, add, delete, Answer, held, nothing, added, gone, refused, count, hasKey, lookup, erase, Step}
+use Rattle.plain_set.specs.Set.{blocksUsed, listLength, noVacantSlot, allBlocksUsed, setStep}
+use Rattle.table.specs.theory.Formed.{all-nil, all-cons, all-append}
+use Rattle.plain_set.specs.theory.Count.{one, count-append, count-at, sumBelow-ext}
+use Rattle.plain_set.specs.theory.Use.{blocksFor, usedBy, noRoom}
+use Rattle.plain_set.specs.theory.Keys.{slot-fits, slot-entry, slot-label, number-below, key-of-entry}
+use Rattle.plain_set.specs.Same.{SamePairs, NoKeyTwice}
+use Rattle.plain_set.specs.theory.SetLaws.{isPair, lookup-none, lookup-some, count-erase, goes-on}
+use Rattle.plain_set.specs.theory.Swap.{swapOut, count-swap, all-swap}
+use Rattle.plain_set.specs.theory.Rows.{position-held, position-none}
+use Rattle.plain_set.specs.theory.Rows.{pairsFrom, RowsFit, count-at-row, count-put, fit-put, count-key, count-list}
+
+-- Calls with a key -------------------------------------------------------------------------------------------------------
+
+pub data KeyCall : Type 0 where
+  findKey : ℕ → KeyCall
+  addKey : ℕ → ℕ → KeyCall
+  deleteKey : ℕ → KeyCall
+
+-- the same call, as the plain set takes it
+abbrev pub callOf : KeyCall → Call
+callOf (findKey k) = find (key k)
+callOf (addKey k l) = add (key k) l
+callOf (deleteKey k) = delete (key k)
+
+-- neither of codes 5 and 6 is due
+abbrev pub LegalCall : Settings → KeyCall → Type 0
+LegalCall s (findKey k) = k < 2 ^ s .w
+LegalCall s (addKey k l) = (k < 2 ^ s .w) × (l < 2 ^ s .val)
+LegalCall s (deleteKey k) = k < 2 ^ s .w
+
+-- The steps on lists -----------------------------------------------------------------------------------------------------
+
+-- an answer, and the lists after it
+pub record ListsStep : Type 0 where
+  pub answer : Answer
+  pub after : List (List ℕ)
+
+abbrev pub listsTo : Answer → List (List ℕ) → ListsStep
+listsTo a T = record { answer = a; after = T }
+
+module _ (s : Settings) where
+  -- the slots of a key's list
+  abbrev pub rowOf : List (List ℕ) → ℕ → List ℕ
+  rowOf T k = getD T (listNumber s k) []
+
+  -- is the key in the lists, and with which label
+  abbrev pub holdsKey : List (List ℕ) → ℕ → Bool
+  holdsKey T k = isHeld (layoutOf s) (entry s k) (rowOf T k)
+
+  abbrev pub labelIn : List (List ℕ) → ℕ → ℕ
+  labelIn T k = labelAt (layoutOf s) (entry s k) (rowOf T k)
+
+  -- the key's list has no vacant slot, and no block is free
+  abbrev pub isFull : List (List ℕ) → ℕ → Bool
+  isFull T k = noRoom (layoutOf s) T (listNumber s k)
+
+  -- a new pair at the end of its key's list
+  abbrev pub addTo : List (List ℕ) → ℕ → ℕ → List (List ℕ)
+  addTo T k l = set T (listNumber s k) (rowOf T k ++ slotOf (layoutOf s) (entry s k) l ∷ [])
+
+  -- the key's pair out of its list
+  abbrev pub takeFrom : List (List ℕ) → ℕ → List (List ℕ)
+  takeFrom T k = set T (listNumber s k) (swapOut (rowOf T k) (position (layoutOf s) (entry s k) (rowOf T k)))
+
+  -- what each call answers, and the lists after it
+  unfoldable pub listsStep : List (List ℕ) → KeyCall → ListsStep
+  listsStep T (findKey k) = cond (holdsKey T k) (listsTo (held (labelIn T k)) T) (listsTo nothing T)
+  listsStep T (addKey k l) =
+      cond (holdsKey T k) (listsTo (held (labelIn T k)) T)
+      (cond (isFull T k) (listsTo (refused refusal.NoBlock) T) (listsTo (added l) (addTo T k l)))
+  listsStep T (deleteKey k) = cond (holdsKey T k) (listsTo (gone (labelIn T k)) (takeFrom T k)) (listsTo nothing T)
+
+-- The lists stand for a set ----------------------------------------------------------------------------------------------
+
+-- as many lists as the settings say, each slot in its bits; the pairs rebuilt from them are those of the set, which has no key twice
+pub record Stands (s : Settings) (T : List (List ℕ)) (ps : List Pair) : Type 0 where
+  pub long : length T ≡ lists s
+  pub fit : RowsFit s T
+  pub pairs : SamePairs (pairsFrom s 0 T) ps
+  pub once : NoKeyTwice ps
+
+-- a step on lists agrees with a step of the set: the same answer, and the lists after it stand for the set after it
+pub record Agrees (s : Settings) (a : ListsStep) (b : Step) : Type 0 where
+  pub answers : a .answer ≡ b .answer
+  pub stands : Stands s (a .after) (b .after)
+
+module _ (s : Settings) (legal : Legal s) (T : List (List ℕ)) (ps : List Pair) (w : Stands s T ps) where
+  -- the length rule: set and lists count the same slots and the same blocks
+  length-same : (i : ℕ) → i < lists s → listLength s ps i ≡ length (getD T i [])
+  length-same i h = sym (w .pairs (λ p. eqb (listNumber s (p .key)) i)) ∙ count-list s T (w .long) (w .fit) legal i h
+
+  used-same : sumBelow (lists s) (λ i. blocksUsed s (listLength s ps i)) ≡ usedBy (layoutOf s) T
+  unfolding blocksUsed blocksFor layoutOf
+  used-same =
+      sumBelow-ext (lists s) (λ i. blocksUsed s (listLength s ps i)) (λ i. blocksUsed s (length (getD T i [])))
+      (λ i h. ap (blocksUsed s) (length-same i h))
+
+  -- a legal key
+  module _ (k : ℕ) (ok : k < 2 ^ s .w) where
+    in-lists : listNumber s k < length T
+    in-lists = omega (arith, w .long, number-below s legal k ok)
+
+    -- the pair of a slot with the key's entry
+    pair-there : (x : ℕ) → entryOf (layoutOf s) x ≡ entry s k → pairOf s (listNumber s k) x ≡ pair k (labelOf (layoutOf s) x)
+    pair-there x e = ap (λ (n : ℕ). pair n (labelOf (layoutOf s) x)) (key-of-entry s legal k x ok e)
+
+    -- the pair at the place of the key's entry
+    pair-held : holdsKey s T k ≡ true
+        → pairOf s (listNumber s k) (getD (rowOf s T k) (position (layoutOf s) (entry s k) (rowOf s T k)) 0) ≡ pair k (labelIn s T k)
+    pair-held e =
+        pair-there (getD (rowOf s T k) (position (layoutOf s) (entry s k) (rowOf s T k)) 0)
+        (eqb-true _ _ (position-held (layoutOf s) (entry s k) (rowOf s T k) 0 (ltb-true _ _ e)))
+
+    lookup-held : holdsKey s T k ≡ true → lookup k ps ≡ some (labelIn s T k)
+    lookup-held e =
+        let q : Pair = pair k (labelIn s T k) in
+        let p : ℕ = position (layoutOf s) (entry s k) (rowOf s T k) in
+        let self : isPair q q ≡ true = rw (eq-eqb k k refl, eq-eqb (labelIn s T k) (labelIn s T k) refl) in
+        let at : isPair q (pairOf s (listNumber s k) (getD (rowOf s T k) p 0)) ≡ true = ap (isPair q) (pair-held e) ∙ self in
+        let found = count-at (λ x. isPair q (pairOf s (listNumber s k) x)) (rowOf s T k) p 0 (ltb-true _ _ e) at in
+        lookup-some k (labelIn s T k) ps (w .once k)
+        (omega (arith, w .pairs (isPair q), count-at-row s (isPair q) T (listNumber s k) in-lists))
+
+    none-there : holdsKey s T k ≡ false → count (hasKey k) ps ≡ 0
+    none-there e =
+        sym (w .pairs (hasKey k)) ∙ count-key s T (w .long) (w .fit) legal k ok
+        ∙ position-none (layoutOf s) (entry s k) (rowOf s T k) (ltb-false _ _ e)
+
+    lookup-free : holdsKey s T k ≡ false → lookup k ps ≡ none
+    lookup-free e = lookup-none k ps (none-there e)
+
+    -- "if its list has no vacant slot and all lists together use nob blocks"
+    full-same : noVacantSlot s (listLength s ps (listNumber s k)) && allBlocksUsed s ps ≡ isFull s T k
+    unfolding blocksUsed blocksFor layoutOf
+    full-same = rw (length-same (listNumber s k) (number-below s legal k ok), used-same)
+
+    stands-add : (l : ℕ) → l < 2 ^ s .val → holdsKey s T k ≡ false → Stands s (addTo s T k l) (pair k l ∷ ps)
+    stands-add l high e =
+        record {
+          long = simp length-set (w .long);
+          fit = fit-put s T (listNumber s k) (rowOf s T k ++ x ∷ []) in-lists (w .fit)
+              (all-append (w .fit (listNumber s k) (number-below s legal k ok)) (all-cons (slot-fits s k l high) all-nil));
+          pairs = λ f.
+              omega (
+                arith,
+                count-put s f T (listNumber s k) (rowOf s T k ++ x ∷ []) in-lists,
+                count-append (λ y. f (pairOf s (listNumber s k) y)) (rowOf s T k) (x ∷ []),
+                w .pairs f,
+                ap (λ (p : Pair). one (f p)) new,
+              );
+          once = λ j.
+              cases (eqb k j)
+              (λ q. omega (arith, ap one q, ap (λ (n : ℕ). count (hasKey n) ps) (eqb-true k j q), none-there e))
+              (λ q. omega (arith, ap one q, w .once j));
+        }
+      where
+        x : ℕ
+        x = slotOf (layoutOf s) (entry s k) l
+
+        new : pairOf s (listNumber s k) x ≡ pair k l
+        new = pair-there x (slot-entry s k l high) ∙ ap (pair k) (slot-label s k l high)
+
+    stands-delete : holdsKey s T k ≡ true → Stands s (takeFrom s T k) (erase k ps)
+    stands-delete e =
+        record {
+          long = simp length-set (w .long);
+          fit = fit-put s T (listNumber s k) (swapOut es p) in-lists (w .fit)
+              (all-swap p (ltb-true _ _ e) (w .fit (listNumber s k) (number-below s legal k ok)));
+          pairs = λ f.
+              omega (
+                arith,
+                count-put s f T (listNumber s k) (swapOut es p) in-lists,
+                count-swap (λ y. f (pairOf s (listNumber s k) y)) es p (ltb-true _ _ e),
+                count-erase f k (labelIn s T k) ps (lookup-held e),
+                ap (λ (q : Pair). one (f q)) (pair-held e),
+                w .pairs f,
+              );
+          once = λ j. omega (arith, count-erase (hasKey j) k (labelIn s T k) ps (lookup-held e), w .once j);
+        }
+      where
+        es : List ℕ
+        es = rowOf s T k
+
+        p : ℕ
+        p = position (layoutOf s) (entry s k) es
+
+  -- One call with legal inputs: the same answer, and the lists still stand for the set -------------------------------------
+
+  -- n is the lent table's length
+  pub step-ok : (n : ℕ) → tableBytes s ≤ n → (c : KeyCall) → LegalCall s c → Agrees s (listsStep s T c) (setStep s n ps (callOf c))
+  unfolding listsStep setStep
+  step-ok n h (findKey k) ok =
+      rw (goes-on s legal n h, lt-ltb k (2 ^ s .w) ok)
+      (cases (holdsKey s T k)
+      (λ e. rw (e, lookup-held k ok e) record { answers = refl; stands = w })
+      (λ e. rw (e, lookup-free k ok e) record { answers = refl; stands = w }))
+  step-ok n h (addKey k l) ok =
+      rw (goes-on s legal n h, lt-ltb k (2 ^ s .w) (ok .0), lt-ltb l (2 ^ s .val) (ok .1))
+      (cases (holdsKey s T k)
+      (λ e. rw (e, lookup-held k (ok .0) e) record { answers = refl; stands = w })
+      (λ e.
+      rw (e, lookup-free k (ok .0) e, full-same k (ok .0))
+      (cases (isFull s T k)
+      (λ q. rw q record { answers = refl; stands = w })
+      (λ q. rw q record { answers = refl; stands = stands-add k (ok .0) l (ok .1) e }))))
+  step-ok n h (deleteKey k) ok =
+      rw (goes-on s legal n h, lt-ltb k (2 ^ s .w) ok)
+      (cases (holdsKey s T k)
+      (λ e. rw (e, lookup-held k ok e) record { answers = refl; stands = stands-delete k ok e })
+      (λ e. rw (e, lookup-free k ok e) record { answers = refl; stands = w }))

@@ -1,0 +1,249 @@
+-- What each change of the last block does to a list's overflow part. The blocks after it, us, are known by what stands at each block number.
+use mathlib.Core.Path.{_≡_, refl, sym, ap, _∙_}
+use mathlib.Core.Logic.{_≢_}
+use mathlib.Core.List.{List, [], _∷_, _++_}
+use Prim.Native.Nat.{ℕ, suc, _+_, _-_, _≤_, _<_}
+use native.Mathlib.Omega.{arith}
+use lib.ListN.{length, set, take, drop, length-drop, length-set, drop-of-length-le}
+use lib.Seq.{length-take-le, drop-append-le, drop-set-lt}
+use lib.Dec.{eqb, ltb}
+use borrow.Author.Tests.{lt-ltb, ltb-true, ltb-false}
+use Rattle.settings.specs.declared.layout.Layout.{Layout}
+use Rattle.settings.specs.Proper.{Proper}
+use Rattle.settings.specs.theory.Cases.{cases}
+use Rattle.table.specs.Arrays.{padded}
+use Rattle.table.specs.State.{Overflow, mkOverflow, overflowAt}
+use Rattle.table.specs.Follow.{lastOf, prevOf}
+use Rattle.table.specs.Take.{occurs}
+use Rattle.table.specs.Delete.{pokeOverflow}
+use Rattle.plain_set.specs.theory.Count.{one}
+use Rattle.plain_set.specs.theory.Blocks.{occurs-head}
+use Rattle.plain_set.specs.theory.Pad.{padded-append, padded-append-le, padded-set, padded-set-out, padded-init, padded-init-out, length-snoc, drop-take, drop-set-ge}
+use Rattle.plain_set.specs.theory.Rep.{Tail}
+use Rattle.plain_set.specs.theory.Follow.{tail-last}
+use Rattle.plain_set.specs.theory.Update.{set-here, set-there, tail-frame}
+
+-- Block numbers: none twice ----------------------------------------------------------------------------------------------
+
+pub occurs-last : (b : ℕ) (bs : List ℕ) → 0 < occurs (lastOf b bs) (b ∷ bs)
+occurs-last b [] = occurs-head b []
+occurs-last b (c ∷ cs) = omega (arith, occurs-last c cs)
+
+-- the first block is not the last of the others
+not-last : (b c : ℕ) (cs : List ℕ) → ((j : ℕ) → occurs j (b ∷ c ∷ cs) ≤ 1) → b ≢ lastOf c cs
+not-last b c cs dis e =
+    let z : occurs b (c ∷ cs) ≡ occurs (lastOf c cs) (c ∷ cs) = ap (λ (n : ℕ). occurs n (c ∷ cs)) e in
+    omega (arith, dis b, occurs-head b [], occurs-last c cs)
+
+pub not-in : (b j : ℕ) (bs : List ℕ) → ((n : ℕ) → occurs n (b ∷ bs) ≤ 1) → 0 < occurs j bs → j ≢ b
+not-in b j bs dis l e =
+    let z : occurs j bs ≡ occurs b bs = ap (λ (n : ℕ). occurs n bs) e in
+    omega (arith, dis b, occurs-head b [])
+
+pub absent : (b f : ℕ) (bs : List ℕ) → occurs f (b ∷ bs) ≡ 0 → b ≢ f
+absent b f bs z e = omega (arith, z, occurs-head f [], ap (λ (n : ℕ). occurs f (n ∷ [])) e)
+
+-- a number that stands in a list is none that does not
+pub apart : (j l : ℕ) (bs : List ℕ) → occurs j bs ≡ 0 → 0 < occurs l bs → j ≢ l
+apart j l bs z m q = let e : occurs j bs ≡ occurs l bs = ap (λ (n : ℕ). occurs n bs) q in omega arith
+
+-- the blocks c, cs but the last
+abbrev pub butLast : ℕ → List ℕ → List ℕ
+butLast c [] = []
+butLast c (d ∷ ds) = c ∷ butLast d ds
+
+pub occurs-butLast : (j c : ℕ) (cs : List ℕ) → occurs j (c ∷ cs) ≡ occurs j (butLast c cs) + one (eqb j (lastOf c cs))
+occurs-butLast j c [] = omega arith
+occurs-butLast j c (d ∷ ds) = omega (arith, occurs-butLast j d ds)
+
+pub occurs-prev : (b c : ℕ) (cs : List ℕ) → 0 < occurs (prevOf b c cs) (b ∷ butLast c cs)
+occurs-prev b c [] = occurs-head b []
+occurs-prev b c (d ∷ ds) = omega (arith, occurs-prev c d ds)
+
+not-prev : (b c d : ℕ) (ds : List ℕ) → ((j : ℕ) → occurs j (b ∷ c ∷ d ∷ ds) ≤ 1) → b ≢ prevOf c d ds
+not-prev b c d ds dis e =
+    let z : occurs b (c ∷ butLast d ds) ≡ occurs (prevOf c d ds) (c ∷ butLast d ds) = ap (λ (n : ℕ). occurs n (c ∷ butLast d ds)) e in
+    omega (arith, dis b, occurs-head b [], occurs-prev c d ds, occurs-butLast b d ds)
+
+-- Blocks after a change --------------------------------------------------------------------------------------------------
+
+abbrev pub lastBlock : List Overflow → ℕ → List ℕ → Overflow
+lastBlock os b bs = overflowAt os (lastOf b bs)
+
+-- a block with the slot x more, and with its last slot less
+abbrev pub more : Overflow → ℕ → Overflow
+more o x = mkOverflow (suc (o .counter)) (o .link) (set (o .slots) (suc (o .counter)) x)
+
+abbrev pub less : Overflow → Overflow
+less o = mkOverflow (o .counter - 1) (o .link) (set (o .slots) (o .counter) 0)
+
+-- a block with the slot x at place q
+abbrev pub poked : Overflow → ℕ → ℕ → Overflow
+poked o q x = mkOverflow (o .counter) (o .link) (set (o .slots) q x)
+
+module _ (g : Layout) where
+  -- one slot more in the last block
+  pub tail-append : (os us : List Overflow) (b : ℕ) (bs es : List ℕ) (d x : ℕ) → Tail g os b bs es d
+      → ((j : ℕ) → occurs j (b ∷ bs) ≤ 1)
+      → suc (lastBlock os b bs .counter) < g .sio
+      → lastBlock us b bs ≡ more (lastBlock os b bs) x
+      → ((j : ℕ) → j ≢ lastOf b bs → overflowAt us j ≡ overflowAt os j)
+      → Tail g us b bs (es ++ x ∷ []) d
+  tail-append os us b [] es d x h dis room e rest =
+      let n : suc (overflowAt os b .counter) ≡ length es = omega (arith, ap (λ (o : Overflow). o .counter) (h .2)) in
+      let l : length (es ++ x ∷ []) - 1 ≡ length es = omega (arith, length-snoc es x) in (
+        omega (arith, length-snoc es x),
+        omega (arith, length-snoc es x),
+        e ∙ rw (n, h .2, l, padded-append (g .sio) es x (omega arith)),
+      )
+  tail-append os us b (c ∷ cs) es d x h dis room e rest = (
+    omega (arith, length-snoc es x),
+    rest b (not-last b c cs dis) ∙ h .1 ∙ ap (mkOverflow (g .sio) c) (sym (padded-append-le (g .sio) es (x ∷ []) (omega arith))),
+    rw (drop-append-le (g .sio) es (x ∷ []) (omega arith))
+        (tail-append os us c cs (drop (g .sio) es) d x (h .2) (λ j. omega (arith, dis j)) room e rest),
+  )
+
+  -- other bits v in the last block's link
+  pub tail-relink : (os us : List Overflow) (b : ℕ) (bs es : List ℕ) (d v : ℕ) → Tail g os b bs es d
+      → ((j : ℕ) → occurs j (b ∷ bs) ≤ 1)
+      → lastBlock us b bs ≡ mkOverflow (lastBlock os b bs .counter) v (lastBlock os b bs .slots)
+      → ((j : ℕ) → j ≢ lastOf b bs → overflowAt us j ≡ overflowAt os j)
+      → Tail g us b bs es v
+  tail-relink os us b [] es d v h dis e rest = (h .0, h .1, e ∙ rw (h .2))
+  tail-relink os us b (c ∷ cs) es d v h dis e rest = (
+    h .0,
+    rest b (not-last b c cs dis) ∙ h .1,
+    tail-relink os us c cs (drop (g .sio) es) d v (h .2) (λ j. omega (arith, dis j)) e rest,
+  )
+
+  -- one slot less in a last block that keeps some
+  pub tail-shrink : (os us : List Overflow) (b : ℕ) (bs es : List ℕ) (d m : ℕ) → Tail g os b bs es d
+      → ((j : ℕ) → occurs j (b ∷ bs) ≤ 1)
+      → 0 < lastBlock os b bs .counter
+      → length es ≡ suc m
+      → lastBlock us b bs ≡ less (lastBlock os b bs)
+      → ((j : ℕ) → j ≢ lastOf b bs → overflowAt us j ≡ overflowAt os j)
+      → Tail g us b bs (take m es) d
+  tail-shrink os us b [] es d m h dis some-left l e rest =
+      let n : overflowAt os b .counter ≡ m = omega (arith, ap (λ (o : Overflow). o .counter) (h .2)) in
+      let t : length (take m es) ≡ m = length-take-le m es (omega arith) in (
+        omega arith,
+        omega arith,
+        e ∙ rw (n, h .2, t, padded-init (g .sio) es m l (omega arith)),
+      )
+  tail-shrink os us b (c ∷ cs) es d m h dis some-left l e rest =
+      let t : length (take m es) ≡ m = length-take-le m es (omega arith) in
+      let k : length (drop (g .sio) es) ≡ suc (m - g .sio) = omega (arith, length-drop (g .sio) es) in
+      let long = tail-last g os c cs (drop (g .sio) es) d (h .2) in (
+        omega arith,
+        rest b (not-last b c cs dis) ∙ h .1 ∙ ap (mkOverflow (g .sio) c) (sym (padded-init-out (g .sio) es m (omega arith))),
+        rw (drop-take (g .sio) m es)
+            (tail-shrink os us c cs (drop (g .sio) es) d (m - g .sio) (h .2) (λ j. omega (arith, dis j)) some-left k e rest),
+      )
+
+module _ {g : Layout} (F : Proper g) where
+  -- a new block f behind a last block that is full: it takes the link
+  pub tail-extend : (os us : List Overflow) (b : ℕ) (bs es : List ℕ) (d x f : ℕ) → Tail g os b bs es d
+      → ((j : ℕ) → occurs j (b ∷ bs) ≤ 1)
+      → suc (lastBlock os b bs .counter) ≡ g .sio
+      → occurs f (b ∷ bs) ≡ 0
+      → lastBlock us b bs ≡ mkOverflow (g .sio) f (lastBlock os b bs .slots)
+      → overflowAt us f ≡ mkOverflow 0 (lastBlock os b bs .link) (padded (g .sio) (x ∷ []))
+      → ((j : ℕ) → j ≢ lastOf b bs → j ≢ f → overflowAt us j ≡ overflowAt os j)
+      → Tail g us b (bs ++ f ∷ []) (es ++ x ∷ []) d
+  tail-extend os us b [] es d x f h dis full new e k rest =
+      let n : length es ≡ g .sio = omega (arith, ap (λ (o : Overflow). o .counter) (h .2)) in (
+        omega (arith, length-snoc es x),
+        e ∙ rw (h .2, padded-append-le (g .sio) es (x ∷ []) (omega arith)),
+        rw (drop-append-le (g .sio) es (x ∷ []) (omega arith), drop-of-length-le es {i = g .sio} (omega arith))
+            (omega arith, omega (arith, F .sio-low), k ∙ rw (h .2)),
+      )
+  tail-extend os us b (c ∷ cs) es d x f h dis full new e k rest = (
+    omega (arith, length-snoc es x),
+    rest b (not-last b c cs dis) (absent b f (c ∷ cs) new)
+        ∙ h .1
+        ∙ ap (mkOverflow (g .sio) c) (sym (padded-append-le (g .sio) es (x ∷ []) (omega arith))),
+    rw (drop-append-le (g .sio) es (x ∷ []) (omega arith))
+        (tail-extend os us c cs (drop (g .sio) es) d x f (h .2) (λ j. omega (arith, dis j)) full (omega arith) e k rest),
+  )
+
+  -- the last of several blocks, with its one slot, off: the one before it takes its link
+  pub tail-drop : (os us : List Overflow) (b c : ℕ) (cs es : List ℕ) (d m : ℕ) → Tail g os b (c ∷ cs) es d
+      → ((j : ℕ) → occurs j (b ∷ c ∷ cs) ≤ 1)
+      → lastBlock os c cs .counter ≡ 0
+      → length es ≡ suc m
+      → overflowAt us (prevOf b c cs) ≡ mkOverflow (g .sio - 1) (lastBlock os c cs .link) (overflowAt os (prevOf b c cs) .slots)
+      → ((j : ℕ) → j ≢ prevOf b c cs → j ≢ lastOf c cs → overflowAt us j ≡ overflowAt os j)
+      → Tail g us b (butLast c cs) (take m es) d
+  tail-drop os us b c [] es d m h dis single l e rest =
+      let n : overflowAt os c .counter ≡ length (drop (g .sio) es) - 1 = ap (λ (o : Overflow). o .counter) (h .2 .2) in
+      let k : overflowAt os c .link ≡ d = ap (λ (o : Overflow). o .link) (h .2 .2) in
+      let t : length (take m es) ≡ m = length-take-le m es (omega arith) in
+      let w : m ≡ g .sio = omega (arith, h .2 .0, length-drop (g .sio) es) in (
+        omega (arith, F .sio-low),
+        omega arith,
+        e ∙ rw (k, h .1, t, padded-init-out (g .sio) es m (omega arith), w),
+      )
+  tail-drop os us b c (c₂ ∷ cs) es d m h dis single l e rest =
+      let t : length (take m es) ≡ m = length-take-le m es (omega arith) in
+      let k : length (drop (g .sio) es) ≡ suc (m - g .sio) = omega (arith, length-drop (g .sio) es) in (
+        omega (arith, h .2 .0, length-drop (g .sio) es),
+        rest b (not-prev b c c₂ cs dis) (not-last b c (c₂ ∷ cs) dis)
+            ∙ h .1
+            ∙ ap (mkOverflow (g .sio) c) (sym (padded-init-out (g .sio) es m (omega arith))),
+        rw (drop-take (g .sio) m es)
+            (tail-drop os us c c₂ cs (drop (g .sio) es) d (m - g .sio) (h .2) (λ j. omega (arith, dis j)) single k e rest),
+      )
+
+-- A slot of the overflow part overwritten --------------------------------------------------------------------------------
+
+module _ (g : Layout) where
+  pub poke-else : (os : List Overflow) (bs : List ℕ) (q x j : ℕ) → occurs j bs ≡ 0
+      → overflowAt (pokeOverflow g os bs q x) j ≡ overflowAt os j
+  unfolding pokeOverflow
+  poke-else os [] q x j z = refl
+  poke-else os (b ∷ bs) q x j z =
+      cases (ltb q (g .sio))
+      (λ e. rw e (set-there os b (poked (overflowAt os b) q x) j (λ p. absent b j bs z (sym p))))
+      (λ e. rw e (poke-else os bs (q - g .sio) x j (omega arith)))
+
+  pub poke-length : (os : List Overflow) (bs : List ℕ) (q x : ℕ) → length (pokeOverflow g os bs q x) ≡ length os
+  unfolding pokeOverflow
+  poke-length os [] q x = refl
+  poke-length os (b ∷ bs) q x =
+      cases (ltb q (g .sio)) (λ e. rw e (simp length-set)) (λ e. rw e (poke-length os bs (q - g .sio) x))
+
+  pub tail-poke : (os : List Overflow) (b : ℕ) (bs es : List ℕ) (d q x : ℕ) → Tail g os b bs es d
+      → ((j : ℕ) → occurs j (b ∷ bs) ≤ 1)
+      → ((j : ℕ) → 0 < occurs j (b ∷ bs) → j < length os)
+      → q < length es
+      → Tail g (pokeOverflow g os (b ∷ bs) q x) b bs (set es q x) d
+  unfolding pokeOverflow
+  tail-poke os b [] es d q x h dis low l =
+      rw (lt-ltb q (g .sio) (omega arith)) (
+        omega (arith, length-set es q x),
+        omega (arith, length-set es q x),
+        set-here os b (poked (overflowAt os b) q x) (low b (occurs-head b []))
+            ∙ rw (h .2, length-set es q x, padded-set (g .sio) es q x l (omega arith)),
+      )
+  tail-poke os b (c ∷ cs) es d q x h dis low l =
+      cases (ltb q (g .sio))
+      (λ e.
+      let v : Overflow = poked (overflowAt os b) q x in
+      rw e (
+        omega (arith, length-set es q x),
+        set-here os b v (low b (occurs-head b (c ∷ cs))) ∙ rw (h .1, padded-set (g .sio) es q x l (ltb-true q (g .sio) e)),
+        rw (drop-set-lt (g .sio) es q x (ltb-true q (g .sio) e))
+            (tail-frame g os (set os b v) c cs (drop (g .sio) es) d (λ j m. set-there os b v j (not-in b j (c ∷ cs) dis m)) (h .2)),
+      ))
+      (λ e.
+      let m : g .sio ≤ q = ltb-false q (g .sio) e in
+      rw e (
+        omega (arith, length-set es q x),
+        poke-else os (c ∷ cs) (q - g .sio) x b (omega (arith, dis b, occurs-head b []))
+            ∙ h .1
+            ∙ ap (mkOverflow (g .sio) c) (sym (padded-set-out (g .sio) es q x m)),
+        rw (drop-set-ge (g .sio) es q x m)
+            (tail-poke os c cs (drop (g .sio) es) d (q - g .sio) x (h .2) (λ j. omega (arith, dis j)) (λ j i. low j (omega arith))
+            (omega (arith, length-drop (g .sio) es))),
+      ))

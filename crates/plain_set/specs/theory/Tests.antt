@@ -1,0 +1,104 @@
+-- The parts of check's test: what holds of each element, "no entry twice" by counting, and the blocks and slots of all lists.
+use mathlib.Core.Path.{_≡_, refl, sym, ap, subst}
+use mathlib.Core.Bool.{Bool, true, false}
+use mathlib.Core.List.{List, [], _∷_}
+use mathlib.Core.Option.{Option}
+use Prim.Native.Nat.{ℕ, zero, suc, _<_}
+use native.Mathlib.Omega.{arith}
+use lib.ListN.{length, getD}
+use lib.Dec.{eqb}
+use borrow.Author.Tests.{eq-eqb, eqb-true}
+use Rattle.settings.specs.declared.layout.Layout.{Layout}
+use Rattle.settings.specs.theory.Cases.{cases, both-true}
+use Rattle.table.specs.State.{Basic, Overflow, basicAt, entryOf}
+use Rattle.table.specs.Follow.{Seen, contentOf}
+use Rattle.table.specs.Take.{occurs}
+use Rattle.table.specs.Rebuilt.{slotsOf}
+use Rattle.table.specs.Check.{everyBelow, blocksOf, hasEntry, noEntryTwice, listSound, listsSound, occursInLists}
+use Rattle.plain_set.specs.theory.Count.{never, and-both, one, sum}
+use Rattle.plain_set.specs.theory.Rep.{entries, Single}
+
+pub everyBelow-at : (n : ℕ) (f : ℕ → Bool) (j : ℕ) → everyBelow n f ≡ true → j < n → f j ≡ true
+everyBelow-at zero f j h l = absurd (omega arith)
+everyBelow-at (suc n) f zero h l = both-true (f 0) (everyBelow n (λ i. f (suc i))) h .0
+everyBelow-at (suc n) f (suc j) h l = everyBelow-at n (λ i. f (suc i)) j (both-true (f 0) (everyBelow n (λ i. f (suc i))) h .1) (omega arith)
+
+pub everyBelow-all : (n : ℕ) (f : ℕ → Bool) → ((j : ℕ) → j < n → f j ≡ true) → everyBelow n f ≡ true
+everyBelow-all zero f h = refl
+everyBelow-all (suc n) f h =
+    and-both (f 0) (everyBelow n (λ i. f (suc i))) (h 0 (omega arith)) (everyBelow-all n (λ i. f (suc i)) (λ j l. h (suc j) (omega arith)))
+
+module _ (g : Layout) where
+  hasEntry-none : (e : ℕ) (es : List ℕ) → hasEntry g e es ≡ false → entries g e es ≡ 0
+  hasEntry-none e [] = λ h. refl
+  hasEntry-none e (x ∷ es) =
+      cases (eqb (entryOf g x) e)
+      (λ q. rw q (λ h. never (sym h)))
+      (λ q. rw q (λ h. omega (arith, hasEntry-none e es h)))
+
+  none-hasEntry : (e : ℕ) (es : List ℕ) → entries g e es ≡ 0 → hasEntry g e es ≡ false
+  none-hasEntry e [] = λ h. refl
+  none-hasEntry e (x ∷ es) =
+      cases (eqb (entryOf g x) e)
+      (λ q. rw q (λ h. absurd (omega arith)))
+      (λ q. rw q (λ h. none-hasEntry e es (omega arith)))
+
+  -- "no entry twice in a list": the test, and every entry at most once
+  pub once-single : (es : List ℕ) → noEntryTwice g es ≡ true → Single g es
+  once-single [] = λ h e. omega arith
+  once-single (x ∷ es) =
+      cases (hasEntry g (entryOf g x) es)
+      (λ q. rw q (λ h. never h))
+      (λ q. rw q (λ h e.
+      cases (eqb (entryOf g x) e)
+      (λ p.
+      let z : entries g e es ≡ 0 = subst (λ (n : ℕ). entries g n es ≡ 0) (eqb-true (entryOf g x) e p) (hasEntry-none (entryOf g x) es q) in
+      omega (arith, ap one p))
+      (λ p. omega (arith, ap one p, once-single es h e))))
+
+  pub single-once : (es : List ℕ) → Single g es → noEntryTwice g es ≡ true
+  single-once [] h = refl
+  single-once (x ∷ es) h =
+      let z : entries g (entryOf g x) es ≡ 0 = omega (arith, h (entryOf g x), ap one (eq-eqb (entryOf g x) (entryOf g x) refl)) in
+      rw (none-hasEntry (entryOf g x) es z) (single-once es (λ e. omega (arith, h e)))
+
+  -- each list, followed to its end: what f makes of it
+  abbrev pub eachList : {A : Type 0} → (Option Seen → A) → List Basic → List Overflow → List A
+  eachList f [] os = []
+  eachList f (b ∷ bs) os = f (contentOf g b os) ∷ eachList f bs os
+
+  pub getD-each : {A : Type 0} (f : Option Seen → A) (bs : List Basic) (os : List Overflow) (i : ℕ) (d : A) → i < length bs
+      → getD (eachList f bs os) i d ≡ f (contentOf g (basicAt bs i) os)
+  getD-each f [] os i d h = absurd (omega arith)
+  getD-each f (b ∷ bs) os zero d h = refl
+  getD-each f (b ∷ bs) os (suc i) d h = getD-each f bs os i d (omega arith)
+
+  pub length-each : {A : Type 0} (f : Option Seen → A) (bs : List Basic) (os : List Overflow) → length (eachList f bs os) ≡ length bs
+  length-each f [] os = refl
+  length-each f (b ∷ bs) os = ap suc (length-each f bs os)
+
+  -- the overflow blocks and the slots of all lists
+  abbrev pub allBlocks : List Basic → List Overflow → List (List ℕ)
+  allBlocks = eachList blocksOf
+
+  abbrev pub allSlots : List Basic → List Overflow → List (List ℕ)
+  allSlots = eachList slotsOf
+
+  pub occursInLists-sum : (j : ℕ) (bs : List Basic) (os : List Overflow) → occursInLists g j bs os ≡ sum (occurs j) (allBlocks bs os)
+  occursInLists-sum j [] os = refl
+  occursInLists-sum j (b ∷ bs) os = omega (arith, occursInLists-sum j bs os)
+
+  -- every list passes its test
+  pub listsSound-at : (bs : List Basic) (os : List Overflow) (i : ℕ) → listsSound g bs os ≡ true → i < length bs
+      → listSound g (basicAt bs i) os (contentOf g (basicAt bs i) os) ≡ true
+  listsSound-at [] os i h l = absurd (omega arith)
+  listsSound-at (b ∷ bs) os zero h l = both-true (listSound g b os (contentOf g b os)) (listsSound g bs os) h .0
+  listsSound-at (b ∷ bs) os (suc i) h l =
+      listsSound-at bs os i (both-true (listSound g b os (contentOf g b os)) (listsSound g bs os) h .1) (omega arith)
+
+  pub listsSound-all : (bs : List Basic) (os : List Overflow)
+      → ((i : ℕ) → i < length bs → listSound g (basicAt bs i) os (contentOf g (basicAt bs i) os) ≡ true) → listsSound g bs os ≡ true
+  listsSound-all [] os h = refl
+  listsSound-all (b ∷ bs) os h =
+      and-both (listSound g b os (contentOf g b os)) (listsSound g bs os) (h 0 (omega arith))
+      (listsSound-all bs os (λ i l. h (suc i) (omega arith)))

@@ -1,0 +1,36 @@
+-- How long the parts of an answer are.
+use mathlib.Core.Path.{_≡_, refl}
+use Prim.Native.Nat.{ℕ, _^_, _≤_, _<_}
+use mathlib.Core.List.{[], _∷_, _++_}
+use native.Mathlib.Omega.{arith}
+use lib.ListN.{length, length-append}
+use lib.Dec.{lit≤}
+use Rattle.text_calls.specs.Ascii.{ascii}
+use Rattle.program_answers.specs.Answer.{wordText, numbersText}
+use Rattle.program_answers.specs.Decimal.{decimalText}
+use Rattle.program_answers.specs.Steps.{Change}
+use Rattle.program_answers.proofs.Decimal.{decimal-short}
+use Rattle.program_answers.specs.declared.outcome.Word.{Word}
+use Rattle.program_answers.specs.declared.outcome.Word.the-variants as word
+
+pub word-short : (w : Word) → length (wordText w) ≤ 7
+unfolding wordText ascii
+word-short word.Added = lit≤ tt
+word-short word.Held = lit≤ tt
+word-short word.Gone = lit≤ tt
+word-short word.None = lit≤ tt
+
+-- of the words of a change, what is not "added" is "gone"
+pub gone-text : (w : Word) → Change w → (w ≡ word.Added → ⊥) → wordText w ≡ ascii " gone "
+unfolding wordText
+gone-text word.Added h n = absurd (n refl)
+gone-text word.Held h n = absurd (h .0 refl)
+gone-text word.Gone h n = refl
+gone-text word.None h n = absurd (h .1 refl)
+
+pub numbers-short : (label compared : ℕ) → label < 2 ^ 32 → compared < 2 ^ 32 → length (numbersText label compared) ≤ 22
+unfolding numbersText
+numbers-short label compared l c =
+    let x = length-append (decimalText label ++ 32 ∷ decimalText compared) (10 ∷ []) in
+    let y = length-append (decimalText label) (32 ∷ decimalText compared) in
+    omega (arith, x, y, decimal-short label l, decimal-short compared c)

@@ -1,0 +1,61 @@
+-- The outcome is written, whichever it is.
+use mathlib.Core.Path.{sym, _∙_}
+use Rattle.program_answers.proofs.Puts.{wrote-said, wrote-refused}
+use borrow.Author.Needs.{needs}
+use Rattle.program_answers.proofs.answer.answer_key.Statement.{statement}
+use Rattle.program_answers.proofs.answer.answer_key.Tie as tie
+
+apply-requires : tie.Need-apply-requires
+apply-requires c κs = search needs
+
+enum-known-word : tie.Need-enum-known-word
+enum-known-word c = search needs
+
+say-requires : tie.Need-say-requires
+say-requires c κs = search needs
+
+enum-known-why : tie.Need-enum-known-why
+enum-known-why c = search needs
+
+refuse-requires : tie.Need-refuse-requires
+refuse-requires c κs = search needs
+
+same-length : tie.Need-same-length
+same-length c = search needs
+
+same-length-2 : tie.Need-same-length-2
+same-length-2 c = search needs
+
+returns : tie.Need-returns
+returns c =
+    let w = c .before .before .before .before .before in
+    let x = w .before .before .before .before in
+    record { text = wrote-said _ _ (sym (x .apply .ensures .outcome) ∙ w .word .given .1) (c .before .before .say .ensures); bytes = x .apply .ensures .bytes }
+
+same-length-3 : tie.Need-same-length-3
+same-length-3 c = search needs
+
+same-length-4 : tie.Need-same-length-4
+same-length-4 c = search needs
+
+returns-2 : tie.Need-returns-2
+returns-2 c =
+    let w = c .before .before .before .before .before in
+    let x = w .before .before .before .before in
+    record { text = wrote-refused _ _ (sym (x .apply .ensures .outcome) ∙ w .why .given .1) (c .before .before .refuse .ensures); bytes = x .apply .ensures .bytes }
+
+pub answer-key-spec : {M : Type 1} → statement M
+answer-key-spec =
+    tie.close
+    (tie.spec
+    apply-requires
+    enum-known-word
+    say-requires
+    enum-known-why
+    refuse-requires
+    same-length
+    same-length-2
+    returns
+    same-length-3
+    same-length-4
+    returns-2)

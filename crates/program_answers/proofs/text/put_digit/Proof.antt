@@ -1,0 +1,27 @@
+-- The digit 0 is the byte 48.
+use borrow.Author.Needs.{needs}
+use native.Mathlib.Omega.{arith}
+use Rattle.program_answers.proofs.Puts.{put-byte}
+use Rattle.program_answers.proofs.text.put_digit.Statement.{statement}
+use Rattle.program_answers.proofs.text.put_digit.Tie as tie
+
+cast-out : tie.Need-cast-out
+cast-out c = search needs
+
+add-out : tie.Need-add-out
+add-out c = search needs
+
+slice-write-out : tie.Need-slice-write-out
+slice-write-out c = search needs
+
+add-result : tie.Need-add-result
+add-result c = search needs
+
+same-length : tie.Need-same-length
+same-length c = search needs
+
+returns : tie.Need-returns
+returns c = put-byte _ _ _ (omega arith)
+
+pub put-digit-spec : {M : Type 1} → statement M
+put-digit-spec = tie.close (tie.spec cast-out add-out slice-write-out add-result same-length returns)

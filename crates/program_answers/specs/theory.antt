@@ -1,0 +1,3 @@
+pub mod Program
+pub mod Applies
+pub mod Lines

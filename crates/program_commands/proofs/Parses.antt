@@ -1,0 +1,255 @@
+-- The command in a line, by what its parser has found.
+use mathlib.Core.Path.{_≡_, refl, ap, _∙_}
+use mathlib.Core.Bool.{Bool, true, false, true≢false, cond, _||_}
+use mathlib.Core.List.{List, [], _∷_, _++_}
+use mathlib.Core.Option.{Option, none, some}
+use Prim.Native.Nat.{ℕ, suc, _+_, _-_, _≤_, _<_}
+use native.Mathlib.Omega.{arith}
+use lib.ListN.{length, getD, take, drop, length-drop}
+use lib.Seq.{take-all}
+use lib.Dec.{eqb, leb, ltb}
+use borrow.Author.Tests.{ltb-true, ltb-false, le-leb, eq-eqb, ne-eqb, eqb-true, eqb-false}
+use Rattle.settings.specs.theory.Cases.{cases}
+use Rattle.program_lines.specs.Ends.{before, firstFrom}
+use Rattle.program_lines.specs.theory.Ends.{first-after, first-le}
+use Rattle.program_commands.specs.Fields.{space, fields}
+use Rattle.program_commands.specs.Command.{Command, mkCommand, opOf, labelOf, addressed, asked, spelled, commandOf}
+use Rattle.program_commands.specs.Steps.{labelNumber, labelRoom, Begins, spaceless, addressIn, requested, Asks}
+use Rattle.program_commands.specs.declared.command.Op.{Op}
+use Rattle.program_commands.specs.declared.command.Op.the-variants as op
+use Rattle.program_commands.specs.declared.command.Request.{Request}
+use Rattle.program_commands.specs.declared.command.Asked.the-variants as answer
+use Rattle.program_commands.specs.theory.Fields.{Some, fields-some, fields-one, fields-join, cut-first, has-space, Several, fields-more}
+use Rattle.program_commands.proofs.Places.{first-at, first-same, address-length, parted, Room, room}
+use Rattle.program_commands.proofs.Labels.{label-means, label-long, number-none, number-some}
+use Rattle.program_commands.specs.theory.Long.{long-none}
+use Rattle.program_commands.specs.theory.Spaces.{digits-spaceless}
+
+-- one of two tests holds
+either : {A : Type 0} (t u : Bool) → (t || u) ≡ true → (t ≡ true → A) → (u ≡ true → A) → A
+either true u e f g = f refl
+either false u e f g = g e
+
+neither : (t u : Bool) → (t || u) ≡ false → (t ≡ false) × (u ≡ false)
+neither true u e = absurd (true≢false e)
+neither false u e = (refl, e)
+
+-- What fields ask for --------------------------------------------------------------------------------------------------
+
+addressed-none : (x : List ℕ) → addressed x none ≡ none
+addressed-none [] = refl
+addressed-none (b ∷ x) = refl
+
+addressed-some : (x : List ℕ) (c : Option Command) → 1 ≤ length x → addressed x c ≡ c
+addressed-some [] c h = absurd (omega arith)
+addressed-some (b ∷ x) c h = refl
+
+module _ (c : ℕ) where
+  -- with three fields or more there is none
+  many : (fs gs : List (List ℕ)) → Several fs → Some gs → asked c (fs ++ gs) ≡ none
+  many fs gs s t = rw (s .is, t .is) (go (s .others))
+    where
+      go : (os : List (List ℕ)) → asked c (s .first ∷ s .second ∷ (os ++ t .first ∷ t .others)) ≡ none
+      go [] = unfold asked in refl
+      go (o ∷ os) = unfold asked in refl
+
+  -- with an empty address there is none
+  no-address : (fs : List (List ℕ)) → asked c ([] ∷ fs) ≡ none
+  no-address [] = unfold asked in refl
+  no-address (f ∷ []) = unfold asked in refl
+  no-address (f ∷ g ∷ fs) = unfold asked in refl
+
+  -- with one field there is a command, with more there is not
+  alone : (o : Op) (s : List ℕ) → opOf c ≡ some o → 1 ≤ length s → (spaceless s ≡ false → asked c (fields s) ≡ none)
+      → asked c (fields s) ≡ cond (spaceless s) (some (mkCommand o s 0)) none
+  alone o s p h f =
+      cases (spaceless s) (λ t. rw (t, fields-one s t) (unfold asked in rw p (addressed-some s (some (mkCommand o s 0)) h)))
+      (λ t. rw (t, f t))
+
+  -- only '+' has a second field
+  no-second : eqb c 43 ≡ false → (fs : List (List ℕ)) → Several fs → asked c fs ≡ none
+  no-second e fs s = rw (s .is) (go (s .others))
+    where
+      go : (os : List (List ℕ)) → asked c (s .first ∷ s .second ∷ os) ≡ none
+      go [] = unfold asked in rw e (addressed-none (s .first))
+      go (o ∷ os) = unfold asked in refl
+
+  -- no command begins with c
+  no-op : opOf c ≡ none → eqb c 43 ≡ false → (fs : List (List ℕ)) → asked c fs ≡ none
+  no-op p e [] = unfold asked in refl
+  no-op p e (x ∷ []) = unfold asked in rw p (addressed-none x)
+  no-op p e (x ∷ y ∷ fs) = no-second e (x ∷ y ∷ fs) (record { first = x; second = y; others = fs; is = refl })
+
+module _ (x y : List ℕ) where
+  -- what a second field y of '+' asks for
+  second : labelOf y ≡ none → asked 43 (fields (x ++ space ∷ y)) ≡ none
+  second e =
+      rw (fields-join x y)
+      (cases (spaceless x) (λ t. rw (fields-one x t) (cases (spaceless y)
+      (λ u. rw (fields-one y u) (unfold asked in rw e (addressed-none x)))
+      (λ u. let s = fields-more y u in rw (s .is) (unfold asked in refl))))
+      (λ t. many 43 (fields x) (fields y) (fields-more x t) (fields-some y)))
+
+  labelled : (v : ℕ) → labelOf y ≡ some v → 1 ≤ length x
+      → asked 43 (fields (x ++ space ∷ y)) ≡ cond (spaceless x) (some (mkCommand op.Add x v)) none
+  labelled v e h =
+      rw (fields-join x y)
+      (cases (spaceless x)
+      (λ t. rw (t, fields-one x t, fields-one y (digits-spaceless y (label-means y v e .ten))) (unfold asked in rw e (addressed-some x (some (mkCommand op.Add x v)) h)))
+      (λ t. rw t (many 43 (fields x) (fields y) (fields-more x t) (fields-some y))))
+
+-- The lines that are no command, by their first bytes ------------------------------------------------------------------
+
+module _ {A : Type 0} (a b : A) where
+  same-arms : (t : Bool) → a ≡ b → cond t a b ≡ b
+  same-arms true e = e
+  same-arms false e = refl
+
+not-spelled : (l : List ℕ) → spelled l ≡ none → commandOf l ≡ none
+unfolding commandOf
+not-spelled l e = same-arms (spelled l) none (leb (length l) 64) e
+
+pub malformed : (l : List ℕ) → commandOf l ≡ none → Asks l answer.Malformed
+malformed l e = record { is = e ∙ (unfold requested in refl); bounded = tt }
+
+short-line : (l : List ℕ) → length l < 3 → commandOf l ≡ none
+short-line l h = not-spelled l (go l h)
+  where
+    go : (l : List ℕ) → length l < 3 → spelled l ≡ none
+    go [] h = unfold spelled in refl
+    go (c ∷ []) h = unfold spelled in refl
+    go (c ∷ d ∷ []) h = unfold spelled fields in same-arms (asked c ([] ∷ [])) none (eqb d space) (no-address c [])
+    go (c ∷ d ∷ e ∷ l) h = absurd (omega arith)
+
+module _ (l : List ℕ) where
+  -- by the test of the length
+  pub size-malformed : (ltb (length l) 3 || ltb 64 (length l)) ≡ true → Asks l answer.Malformed
+  size-malformed e =
+      malformed l
+      (either (ltb (length l) 3) (ltb 64 (length l)) e (λ t. short-line l (ltb-true (length l) 3 t)) (λ t. long-none l (ltb-true 64 (length l) t)))
+
+  pub size-fits : (ltb (length l) 3 || ltb 64 (length l)) ≡ false → (3 ≤ length l) × (length l ≤ 64)
+  size-fits e =
+      let p = neither (ltb (length l) 3) (ltb 64 (length l)) e in
+      (ltb-false (length l) 3 (p .0), ltb-false 64 (length l) (p .1))
+
+pub unspaced-line : (l : List ℕ) → (getD l 1 0 ≡ space → ⊥) → commandOf l ≡ none
+unspaced-line l n = not-spelled l (go l n)
+  where
+    go : (l : List ℕ) → (getD l 1 0 ≡ space → ⊥) → spelled l ≡ none
+    go [] n = unfold spelled in refl
+    go (c ∷ []) n = unfold spelled in refl
+    go (c ∷ d ∷ l) n = unfold spelled in rw (ne-eqb d space n)
+
+-- The lines that begin well --------------------------------------------------------------------------------------------
+
+begun : (l : List ℕ) (c : ℕ) → Begins l c → commandOf l ≡ asked c (fields (drop 2 l))
+begun l c b = go l (b .low) (b .high) (b .first) (b .second)
+  where
+    go : (l : List ℕ) → 3 ≤ length l → length l ≤ 64 → getD l 0 0 ≡ c → getD l 1 0 ≡ space → commandOf l ≡ asked c (fields (drop 2 l))
+    go [] low high first second = absurd (omega arith)
+    go (x ∷ []) low high first second = absurd (omega arith)
+    go (x ∷ y ∷ s) low high first second =
+        unfold commandOf spelled in rw (le-leb (length (x ∷ y ∷ s)) 64 high, first, eq-eqb y space second)
+
+-- the address that goes to the end of the line
+whole : (l : List ℕ) (e : ℕ) → e ≡ length l → addressIn l e ≡ drop 2 l
+whole l e h = take-all (e - 2) (drop 2 l) (omega (arith, length-drop 2 l))
+
+abbrev pub asks-for : Op → ℕ → ℕ → Request
+asks-for o e v = record { op = o; end = e; label = v }
+
+module _ (l : List ℕ) (c : ℕ) (b : Begins l c) where
+  -- none of the three commands
+  pub unknown-line : (c ≡ 43 → ⊥) → (c ≡ 45 → ⊥) → (c ≡ 63 → ⊥) → commandOf l ≡ none
+  unknown-line f g h =
+      let p : opOf c ≡ none = unfold opOf in rw (ne-eqb c 43 f, ne-eqb c 45 g, ne-eqb c 63 h) in
+      begun l c b ∙ no-op c p (ne-eqb c 43 f) (fields (drop 2 l))
+
+  -- an address that goes to the end of the line
+  alone-asks : (o : Op) (e : ℕ) → opOf c ≡ some o → e ≡ length l → (spaceless (drop 2 l) ≡ false → asked c (fields (drop 2 l)) ≡ none)
+      → Asks l (answer.Request (asks-for o e 0))
+  alone-asks o e p h f = record {
+    is = begun l c b ∙ alone c o (drop 2 l) p (omega (arith, length-drop 2 l, b .low)) f ∙ (unfold requested in rw (whole l e h));
+    bounded = (omega (arith, b .low), omega arith);
+  }
+
+  -- without a label
+  address-asks : (o : Op) → opOf c ≡ some o → eqb c 43 ≡ false → Asks l (answer.Request (asks-for o (length l) 0))
+  address-asks o p n = alone-asks o (length l) p refl (λ t. no-second c n (fields (drop 2 l)) (fields-more (drop 2 l) t))
+
+module _ (l : List ℕ) where
+  pub delete-asks : Begins l 45 → Asks l (answer.Request (asks-for op.Delete (length l) 0))
+  unfolding opOf
+  delete-asks b = address-asks l 45 b op.Delete refl refl
+
+  pub find-asks : Begins l 63 → Asks l (answer.Request (asks-for op.Find (length l) 0))
+  unfolding opOf
+  find-asks b = address-asks l 63 b op.Find refl refl
+
+-- "+ " -----------------------------------------------------------------------------------------------------------------
+
+module _ (l : List ℕ) (b : Begins l 43) (k e : ℕ) (r : k ≡ labelRoom (length l)) (f : e ≡ firstFrom space l k) where
+  roomed : Room (length l) k
+  roomed = rw r (room (length l) (b .low))
+
+  after : k ≤ e
+  after = rw f (first-after space l k)
+
+  within : e ≤ length l
+  within = rw f (first-le space l k (roomed .high))
+
+  -- with no space where a label's could stand, what follows the first space is too long for a label
+  too-long : e ≡ length l → spaceless (drop 2 l) ≡ false → asked 43 (fields (drop 2 l)) ≡ none
+  unfolding firstFrom
+  too-long h t =
+      let s = drop 2 l in
+      let j = before space s in
+      let p = has-space s t in
+      let q : 2 + j < k = cases (ltb (2 + j) k) (ltb-true (2 + j) k)
+      (λ u. let m = ltb-false (2 + j) k u in absurd (omega (arith, first-same space l 2 k (roomed .low) m, length-drop 2 l))) in
+      let n = roomed .far (omega (arith, q)) in
+      ap (asked 43) (ap fields (cut-first s p .is))
+      ∙ second (take j s) (drop (suc j) s) (label-long (drop (suc j) s) (omega (arith, length-drop (suc j) s, length-drop 2 l)))
+
+  pub add-alone : e ≡ length l → Asks l (answer.Request (asks-for op.Add e 0))
+  add-alone h = alone-asks l 43 b op.Add e (unfold opOf in refl) h (too-long h)
+
+  module _ (n : e ≡ length l → ⊥) where
+    below : e < length l
+    below = omega (arith, within)
+
+    two : 2 ≤ e
+    two = omega (arith, roomed .low, after)
+
+    spaced : drop 2 l ≡ addressIn l e ++ space ∷ drop (e + 1) l
+    spaced = parted l e two below (rw f (first-at space l k (rw (← f) below)))
+
+    pub label-fits : (e + 1 ≤ length l) × (length l ≤ e + 1 + 3)
+    label-fits = (omega (arith, below), omega (arith, after, roomed .near))
+
+    add-labelled : (v : ℕ) → labelOf (drop (e + 1) l) ≡ some v → (e ≡ 2 → ⊥) → Asks l (answer.Request (asks-for op.Add e v))
+    add-labelled v p m = record {
+      is =
+          begun l 43 b ∙ ap (asked 43) (ap fields spaced)
+          ∙ (unfold requested in labelled (addressIn l e) (drop (e + 1) l) v p (omega (arith, two, address-length l e two within)));
+      bounded = (two, within);
+    }
+
+    no-label : labelOf (drop (e + 1) l) ≡ none → commandOf l ≡ none
+    no-label p = begun l 43 b ∙ ap (asked 43) (ap fields spaced) ∙ second (addressIn l e) (drop (e + 1) l) p
+
+    unaddressed : e ≡ 2 → commandOf l ≡ none
+    unaddressed p = begun l 43 b ∙ ap (asked 43) (ap fields spaced) ∙ rw p (unfold fields in no-address 43 (fields (drop (2 + 1) l)))
+
+    -- by the test of the label and the address
+    module _ (v : ℕ) (m : v ≡ labelNumber (labelOf (drop (e + 1) l))) where
+      pub add-malformed : (eqb v 1000 || eqb e 2) ≡ true → Asks l answer.Malformed
+      add-malformed t =
+          malformed l
+          (either (eqb v 1000) (eqb e 2) t (λ u. no-label (number-none (drop (e + 1) l) v m (eqb-true v 1000 u))) (λ u. unaddressed (eqb-true e 2 u)))
+
+      pub add-asks : (eqb v 1000 || eqb e 2) ≡ false → Asks l (answer.Request (asks-for op.Add e v))
+      add-asks t =
+          let p = neither (eqb v 1000) (eqb e 2) t in
+          add-labelled v (number-some (drop (e + 1) l) v m (eqb-false v 1000 (p .0))) (eqb-false e 2 (p .1))

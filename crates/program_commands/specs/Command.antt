@@ -1,0 +1,56 @@
+-- Document 01, "The program": ""+ ADDRESS LABEL", "- ADDRESS", "? ADDRESS" for add, delete, find; one space between fields."
+use Prim.Native.Nat.{ℕ}
+use mathlib.Core.Bool.{cond, _&&_}
+use mathlib.Core.List.{List, [], _∷_}
+use mathlib.Core.Option.{Option, none, some}
+use lib.ListN.{length}
+use lib.Dec.{eqb, leb}
+use Rattle.text_read.specs.Numerals.{digits, number, noLeadingZero}
+use Rattle.program_commands.specs.Fields.{space, fields}
+use Rattle.program_commands.specs.declared.command.Op.{Op}
+use Rattle.program_commands.specs.declared.command.Op.the-variants as op
+
+pub record Command : Type 0 where
+  pub op : Op
+  pub address : List ℕ
+  pub label : ℕ
+
+abbrev pub mkCommand : Op → List ℕ → ℕ → Command
+mkCommand o x n = record { op = o; address = x; label = n }
+
+-- '+' is 43, '-' is 45, '?' is 63
+unfoldable pub opOf : ℕ → Option Op
+opOf c = cond (eqb c 43) (some op.Add) (cond (eqb c 45) (some op.Delete) (cond (eqb c 63) (some op.Find) none))
+
+-- "LABEL is 1 to 3 decimal digits without leading zero, 0 itself allowed"
+unfoldable pub labelOf : List ℕ → Option ℕ
+labelOf y = cond (digits 10 y && leb 1 (length y) && leb (length y) 3 && noLeadingZero y) (some (number 10 0 y)) none
+
+-- "ADDRESS is one or more bytes, none a space."
+abbrev pub addressed : List ℕ → Option Command → Option Command
+addressed [] c = none
+addressed (b ∷ x) c = c
+
+abbrev pub withOp : Option Op → List ℕ → ℕ → Option Command
+withOp none x n = none
+withOp (some o) x n = some (mkCommand o x n)
+
+abbrev pub withLabel : List ℕ → Option ℕ → Option Command
+withLabel x none = none
+withLabel x (some n) = some (mkCommand op.Add x n)
+
+-- the command of the byte c and the fields behind it; "if [LABEL] and its space are missing it is 0"
+unfoldable pub asked : ℕ → List (List ℕ) → Option Command
+asked c [] = none
+asked c (x ∷ []) = addressed x (withOp (opOf c) x 0)
+asked c (x ∷ y ∷ []) = addressed x (cond (eqb c 43) (withLabel x (labelOf y)) none)
+asked c (x ∷ y ∷ z ∷ f) = none
+
+unfoldable pub spelled : List ℕ → Option Command
+spelled [] = none
+spelled (c ∷ []) = none
+spelled (c ∷ d ∷ s) = cond (eqb d space) (asked c (fields s)) none
+
+-- "at most 64 bytes before the line feed"
+unfoldable pub commandOf : List ℕ → Option Command
+commandOf l = cond (leb (length l) 64) (spelled l) none

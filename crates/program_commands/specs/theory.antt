@@ -1,0 +1,4 @@
+-- Laws of the definitions.
+pub mod Fields
+pub mod Spaces
+pub mod Long

@@ -1,0 +1,33 @@
+-- Document 01, "The program": what is written for the bytes of standard input.
+use Prim.Native.Nat.{ℕ}
+use mathlib.Core.Bool.{cond}
+use mathlib.Core.List.{List, [], _∷_, _++_}
+use lib.Dec.{eqb}
+use lib.ListN.{replicate}
+use Rattle.text_read.specs.Reading.{onFirst}
+use Rattle.program_lines.specs.Ends.{lineFeed}
+use Rattle.table.specs.Calls.{makeBytes}
+use Rattle.program_answers.specs.Program.{program}
+use Rattle.program_answers.specs.Answer.{lineText, lineTable}
+
+-- "Lines of standard input, [..] before the line feed (the last may lack it)": nothing follows a final line feed
+unfoldable pub linesOf : List ℕ → List (List ℕ)
+linesOf [] = []
+linesOf (b ∷ s) = cond (eqb b lineFeed) ([] ∷ linesOf s) (onFirst b (linesOf s))
+
+-- "Output, a line for each"
+unfoldable pub answersTo : List ℕ → List (List ℕ) → List ℕ
+answersTo t [] = []
+answersTo t (l ∷ ls) = lineText t l ++ answersTo (lineTable t l) ls
+
+-- all that is written for all that is read, on the table t
+unfoldable pub outputOf : List ℕ → List ℕ → List ℕ
+outputOf t input = answersTo t (linesOf input)
+
+-- the table that the program starts with: a new one
+unfoldable pub newTable : List ℕ
+newTable = makeBytes program (replicate 19617 0)
+
+-- all that the program writes for all that it reads
+unfoldable pub programOutput : List ℕ → List ℕ
+programOutput = outputOf newTable

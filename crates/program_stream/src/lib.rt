@@ -1,0 +1,211 @@
+// From input bytes to output bytes: whole lines of a lent buffer are answered into a lent buffer.
+use program_answers::ANSWER_MAX;
+use program_commands::LINE_MAX;
+use program_lines::Span;
+use settings::Refusal;
+ghost use mathlib.Core.Path.{_≡_};
+ghost use mathlib.Core.List.{List, _++_};
+ghost use Prim.Native.Nat.{ℕ, _+_, _-_, _≤_};
+ghost use lib.ListN.{length, take, drop};
+ghost use Rattle.text_read.specs.ReaderSteps.{Classes};
+ghost use Rattle.program_lines.specs.Ends.{spanAt};
+ghost use Rattle.program_lines.specs.declared.Span.the-variants as span;
+ghost use Rattle.settings.specs.declared.refusal.Refusal.the-variants as refusal;
+ghost use Rattle.program_answers.specs.Answer.{refusedText, lineText, lineTable};
+ghost use Rattle.program_stream.specs.Steps.{Turned, Consumed, Finished};
+
+// How far a turn has come in the input and in the output, whether the input begins inside a line that has
+// been answered, and whether there may be more lines.
+pub struct Turn {
+    pub at: usize,
+    pub made: usize,
+    pub skip: bool,
+    pub more: bool,
+}
+
+// Answers the line input[at..e] into out from `made` on.
+fn answer_part(
+    classes: &[u8; 256],
+    input: &[u8],
+    at: usize,
+    e: usize,
+    t: &mut [u8],
+    out: &mut [u8],
+    made: usize,
+) -> usize
+    requires { ⌜ (at ≤ e) × (e ≤ length (now input)) ⌝ }
+    requires { ⌜ Classes (now classes) × (19617 ≤ length (now t)) × (made + 80 ≤ length (now out)) ⌝ }
+    ensures { λ r. ⌜ r ≤ made + 80 ⌝ }
+    ensures { λ _. ⌜ now (t .exit) ≡ lineTable (now (t .entry)) (take (e - at) (drop at (now (input .entry)))) ⌝ }
+    ensures { λ r. ⌜ take r (now (out .exit)) ≡ take made (now (out .entry)) ++ lineText (now (t .entry)) (take (e - at) (drop at (now (input .entry)))) ⌝ }
+{
+    made + program_answers::answer_line(classes, &input[at..e], t, &mut out[made..])
+}
+
+// Refuses a line into out from `made` on.
+fn refuse_part(out: &mut [u8], made: usize) -> usize
+    requires { ⌜ made + 80 ≤ length (now out) ⌝ }
+    ensures { λ r. ⌜ r ≤ made + 80 ⌝ }
+    ensures { λ r. ⌜ take r (now (out .exit)) ≡ take made (now (out .entry)) ++ refusedText refusal.Line ⌝ }
+{
+    made + program_answers::refuse(Refusal::Line, &mut out[made..])
+}
+
+// The line that ends at e, unless it has been answered.
+fn line_turn(
+    classes: &[u8; 256],
+    input: &[u8],
+    at: usize,
+    e: usize,
+    skip: bool,
+    t: &mut [u8],
+    out: &mut [u8],
+    made: usize,
+) -> Turn
+    requires { ⌜ (at ≤ length (now input)) × (spanAt (now input) at ≡ span.Line e) ⌝ }
+    requires { ⌜ Classes (now classes) × (19617 ≤ length (now t)) × (made + 80 ≤ length (now out)) ⌝ }
+    ensures { λ r. ⌜ Turned (now (input .entry)) at skip (now (t .entry)) (now (out .entry)) made r (now (t .exit)) (now (out .exit)) ⌝ }
+{
+    if skip {
+        return Turn {
+            at: e + 1,
+            made: made,
+            skip: false,
+            more: true,
+        };
+    }
+    let n = answer_part(classes, input, at, e, t, out, made);
+    Turn {
+        at: e + 1,
+        made: n,
+        skip: false,
+        more: true,
+    }
+}
+
+// What no line feed ends yet: it waits for more, unless it is too long already, or has been answered.
+fn rest_turn(input: &[u8], at: usize, skip: bool, out: &mut [u8], made: usize) -> Turn
+    requires { ⌜ (at ≤ length (now input)) × (spanAt (now input) at ≡ span.Rest) × (made + 80 ≤ length (now out)) ⌝ }
+    ensures { λ r. ⌜ ((t : List ℕ) → Turned (now (input .entry)) at skip t (now (out .entry)) made r t (now (out .exit))) ⌝ }
+{
+    if skip {
+        return Turn {
+            at: input.len(),
+            made: made,
+            skip: true,
+            more: false,
+        };
+    }
+    if LINE_MAX < input.len() - at {
+        let n = refuse_part(out, made);
+        return Turn {
+            at: input.len(),
+            made: n,
+            skip: true,
+            more: false,
+        };
+    }
+    Turn {
+        at: at,
+        made: made,
+        skip: false,
+        more: false,
+    }
+}
+
+// One line, or the start of one that is too long.
+fn one_turn(
+    classes: &[u8; 256],
+    input: &[u8],
+    at: usize,
+    skip: bool,
+    t: &mut [u8],
+    out: &mut [u8],
+    made: usize,
+) -> Turn
+    requires { ⌜ at ≤ length (now input) ⌝ }
+    requires { ⌜ Classes (now classes) × (19617 ≤ length (now t)) ⌝ }
+    requires { ⌜ made + 80 ≤ length (now out) ⌝ }
+    ensures { λ r. ⌜ Turned (now (input .entry)) at skip (now (t .entry)) (now (out .entry)) made r (now (t .exit)) (now (out .exit)) ⌝ }
+{
+    match program_lines::next_in(input, at) {
+        Span::Line(e) => line_turn(classes, input, at, e, skip, t, out, made),
+        Span::Rest => rest_turn(input, at, skip, out, made),
+    }
+}
+
+// How far a run of turns has come, and whether it stopped because the output is full.
+pub struct Step {
+    pub at: usize,
+    pub made: usize,
+    pub skip: bool,
+    pub full: bool,
+}
+
+// All whole lines from `at` on, until the output has no room for one more answer.
+pub fn consume(
+    classes: &[u8; 256],
+    input: &[u8],
+    at: usize,
+    skip: bool,
+    t: &mut [u8],
+    out: &mut [u8],
+) -> Step
+    requires { ⌜ at ≤ length (now input) ⌝ }
+    requires { ⌜ Classes (now classes) × (19617 ≤ length (now t)) ⌝ }
+    ensures { λ r. ⌜ Consumed (now (input .entry)) at skip (now (t .entry)) r (now (t .exit)) (now (out .exit)) ⌝ }
+{
+    let mut i = at;
+    let mut made: usize = 0;
+    let mut past = skip;
+    while ANSWER_MAX <= out.len() - made {
+        let turn = one_turn(classes, input, i, past, t, out, made);
+        i = turn.at;
+        made = turn.made;
+        past = turn.skip;
+        if !turn.more {
+            return Step {
+                at: i,
+                made: made,
+                skip: past,
+                full: false,
+            };
+        }
+    }
+    Step {
+        at: i,
+        made: made,
+        skip: past,
+        full: true,
+    }
+}
+
+// The end of the input: a last line that lacks its line feed.
+pub fn finish(classes: &[u8; 256], input: &[u8], skip: bool, t: &mut [u8], out: &mut [u8]) -> usize
+    requires { ⌜ Classes (now classes) × (19617 ≤ length (now t)) × (80 ≤ length (now out)) ⌝ }
+    ensures { λ r. ⌜ Finished (now (input .entry)) skip (now (t .entry)) (now (out .exit)) r ⌝ }
+{
+    if skip {
+        return 0;
+    }
+    if input.len() == 0 {
+        return 0;
+    }
+    program_answers::answer_line(classes, input, t, out)
+}
+
+// Moves buf[at..end] to the start of buf, and answers how many bytes that is.
+pub fn keep(buf: &mut [u8], at: usize, end: usize) -> usize
+    requires { ⌜ (at ≤ end) × (end ≤ length (now buf)) ⌝ }
+    ensures { λ r. ⌜ r ≡ end - at ⌝ }
+    ensures { λ r. ⌜ take r (now (buf .exit)) ≡ take (end - at) (drop at (now (buf .entry))) ⌝ }
+{
+    let mut i = at;
+    let mut j: usize = 0;
+    while i < end {
+        buf[j] = buf[i];
+        i += 1;
+        j += 1;
+    }
+    j
+}

@@ -1,4 +1,0 @@
--- Words of contracts.
-pub mod DeleteSteps
--- Laws of them.
-pub mod theory

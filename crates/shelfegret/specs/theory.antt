@@ -1,3 +1,0 @@
--- Theorems about the definitions.
-pub mod TextReply
-pub mod Placed

@@ -1,4 +1,0 @@
--- Words of contracts.
-pub mod Stores
--- Laws of them.
-pub mod theory

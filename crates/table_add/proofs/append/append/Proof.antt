@@ -1,0 +1,114 @@
+-- By the number of the list's entries.
+use mathlib.Core.Path.{_≡_, sym, _∙_}
+use Prim.Native.Nat.{_≤_, _<_}
+use native.Mathlib.Omega.{arith}
+use denote.Ref.{now}
+use borrow.Author.Needs.{needs}
+use Rattle.table.specs.State.{basicAt, overflowAt}
+use Rattle.table.specs.Decode.{decode}
+use Rattle.table_read.specs.theory.Reads.{sized}
+use Rattle.table_add.specs.Adds.{EndsIn}
+use Rattle.table_add.proofs.FreeLaws.{few, last-reached, ends-in}
+use Rattle.table_add.proofs.AppendLaws.{counter-small}
+use Rattle.table_add.proofs.append.append.Statement.{statement}
+use Rattle.table_add.proofs.append.append.Tie as tie
+
+-- the basic block's counter, where it has all the entries
+counter-is : (s : tie.Start) → let a = s .args in a .v .compared ≤ a .g .sib → a .v .compared ≡ basicAt (decode (a .g) (now (a .t)) .basic) (a .i .0) .counter
+counter-is s h =
+    let a = s .args in
+    few (a .g) (decode (a .g) (now (a .t))) (a .i .0) (a .v .compared) (s .pre .1) (sized (a .g) (now (a .t)) (s .pre .0 .table)) h
+
+-- the list overflows
+many : (c : tie.Else2) → let a = c .before .before .before .before .before .before .args in a .g .sib < a .v .compared
+many c = omega (arith, c .before .before .if1 .left, c .if2 .left)
+
+cast-c : tie.Need-cast-c
+cast-c c = search needs
+
+append-room-requires : tie.Need-append-room-requires
+append-room-requires c κs =
+    let s = c .before .before .before .before .before in
+    (s .pre .0, c .before .if1 .taken, counter-is s (omega (arith, c .before .if1 .taken)))
+
+same-length : tie.Need-same-length
+same-length c = search needs
+
+returns : tie.Need-returns
+returns c = search needs
+
+append-first-requires : tie.Need-append-first-requires
+append-first-requires c κs =
+    let s = c .before .before .before .before .before .before .before in
+    (s .pre .0, sym (counter-is s (omega (arith, c .before .if2 .taken))) ∙ c .before .if2 .taken)
+
+same-length-2 : tie.Need-same-length-2
+same-length-2 c = search needs
+
+returns-2 : tie.Need-returns-2
+returns-2 c = search needs
+
+basic-head-requires : tie.Need-basic-head-requires
+basic-head-requires c κs = search needs
+
+sub-spot-of : tie.Need-sub-spot-of
+sub-spot-of c = omega (arith, many (c .before .before .before .before))
+
+spot-of-requires : tie.Need-spot-of-requires
+spot-of-requires c κs =
+    let s = c .before .before .before .before .before .before .before .before .before .before in
+    let a = s .args in
+    let T = s .pre .0 .table in (
+      T,
+      last-reached (a .g) (decode (a .g) (now (a .t))) (a .i .0) (a .v .compared) (s .pre .1) (sized (a .g) (now (a .t)) T)
+          (many (c .before .before .before .before)) (c .before .before .basic-head .result) (c .before .before .basic-head .ensures),
+    )
+
+-- the last entry stands at the list's end
+end-is : (c : tie.After-spot-of)
+    → let a = c .before .before .before .before .before .before .before .before .before .before .before .args in let st = decode (a .g) (now (a .t)) in
+    EndsIn (a .g) st (a .i .0) (c .before .before .before .basic-head .result) (c .spot-of .result .block .0)
+    × (c .spot-of .result .slot .0 ≡ overflowAt (st .overflow) (c .spot-of .result .block .0) .counter)
+end-is c =
+    let s = c .before .before .before .before .before .before .before .before .before .before .before in
+    let a = s .args in
+    ends-in (a .g) (decode (a .g) (now (a .t))) (a .i .0) (a .v .compared) (s .pre .1) (sized (a .g) (now (a .t)) (s .pre .0 .table))
+    (many (c .before .before .before .before .before)) (c .before .before .before .basic-head .result) (c .before .before .before .basic-head .ensures)
+    (c .spot-of .result) (c .spot-of .ensures)
+
+add-append-overflow : tie.Need-add-append-overflow
+add-append-overflow c =
+    let s = c .before .before .before .before .before .before .before .before .before .before .before .before .before in
+    let e = end-is (c .before .before) in
+    omega (arith, e .1, counter-small (s .args .g) (now (s .args .t)) (s .pre .0 .table) (c .before .before .spot-of .result .block .0) (e .0 .low))
+
+append-overflow-requires : tie.Need-append-overflow-requires
+append-overflow-requires c κs =
+    let s = c .before .before .before .before .before .before .before .before .before .before .before .before .before in
+    let e = end-is (c .before .before) in
+    (s .pre .0, e .0, omega (arith, e .1))
+
+same-length-3 : tie.Need-same-length-3
+same-length-3 c = search needs
+
+returns-3 : tie.Need-returns-3
+returns-3 c = search needs
+
+pub append-spec : {M : Type 1} → statement M
+append-spec =
+    tie.close
+    (tie.spec
+    cast-c
+    append-room-requires
+    same-length
+    returns
+    append-first-requires
+    same-length-2
+    returns-2
+    basic-head-requires
+    sub-spot-of
+    spot-of-requires
+    add-append-overflow
+    append-overflow-requires
+    same-length-3
+    returns-3)

@@ -1,0 +1,96 @@
+-- The answer of the free chain decides.
+use mathlib.Core.Path.{sym, _∙_}
+use native.Mathlib.Omega.{arith}
+use denote.Ref.{now}
+use borrow.Author.Needs.{needs}
+use Rattle.keys.specs.Key.{keyNumber}
+use Rattle.table.specs.Decode.{decode}
+use Rattle.table_read.specs.theory.Reads.{head-lt}
+use Rattle.table_store.specs.theory.StoreLaws.{slot-lt}
+use Rattle.table_add.proofs.FreeLaws.{Takes, takes}
+use Rattle.table_add.proofs.AppendLaws.{first-refused, append-first}
+use Rattle.table_add.proofs.append.append_first.Statement.{statement}
+use Rattle.table_add.proofs.append.append_first.Tie as tie
+
+took : (c : tie.After-number) → let s = c .before .before .before .before .before in Takes (s .args .g) (decode (s .args .g) (now (s .args .t))) (c .number .given .0 .0 .0) (c .number .given .0 .1 .0 .0)
+took c = takes _ _ _ _ (sym (c .before .before .free-block .ensures) ∙ c .number .given .1)
+
+free-block-requires : tie.Need-free-block-requires
+free-block-requires c κs = c .before .before .pre .0 .table
+
+enum-known-number : tie.Need-enum-known-number
+enum-known-number c = search needs
+
+basic-head-requires : tie.Need-basic-head-requires
+basic-head-requires c κs = let s = c .before .before .before .before .before .before .before in (s .pre .0 .table, s .pre .0 .list)
+
+link-basic-requires : tie.Need-link-basic-requires
+link-basic-requires c κs =
+    let s = c .before .before .before .before .before .before .before .before .before in
+    (s .pre .0 .table, s .pre .0 .list, took (c .before .before .before .before) .low)
+
+take-requires : tie.Need-take-requires
+take-requires c κs =
+    let s = c .before .before .before .before .before .before .before .before .before .before .before .before .before in
+    let k = took (c .before .before .before .before .before .before .before .before) in (
+      c .before .before .before .link-basic .ensures .table,
+      k .low,
+      rw (c .before .before .before .before .before .basic-head .ensures) (head-lt (s .args .g) (now (s .args .t)) (s .pre .0 .table) (s .args .i .0) (s .pre .0 .list)),
+      k .next-low,
+      s .pre .0 .slotted,
+    )
+
+added-requires : tie.Need-added-requires
+added-requires c κs = search needs
+
+enum-known-why : tie.Need-enum-known-why
+enum-known-why c = search needs
+
+same-length : tie.Need-same-length
+same-length c = search needs
+
+returns : tie.Need-returns
+returns c =
+    let s = c .before .before .before .before .before .before .before .before .before .before .before .before .before .before .before .before .before in
+    let a = c .before .before .before .before .before .before .before .before .before .before .before .before .before .before .before .before in
+    let g = s .args .g in
+    let T = s .pre .0 .table in
+    let v = s .args .v in
+    append-first g (now (s .args .t)) T (λ j. omega (arith, a .slice-known .given j)) (s .args .i .0) v (s .pre .0 .list)
+    (slot-lt g (T .proper) (keyNumber (v .entry)) (v .label) (s .pre .0 .slotted)) (s .pre .1) _ _ _
+    (took (c .before .before .before .before .before .before .before .before .before .before .before .before))
+    (c .before .before .before .before .before .before .before .before .before .basic-head .ensures) _ _ _
+    (c .before .before .before .before .before .before .before .link-basic .ensures)
+    (c .before .before .before .take .ensures)
+    (c .added .ensures)
+
+same-length-2 : tie.Need-same-length-2
+same-length-2 c = search needs
+
+returns-2 : tie.Need-returns-2
+returns-2 c =
+    let k = c .before in
+    let s = k .before .before .before .before .before in
+    let a = k .before .before .before .before in
+    let g = s .args .g in
+    let T = s .pre .0 .table in
+    let v = s .args .v in
+    first-refused g (now (s .args .t)) T (λ j. omega (arith, a .slice-known .given j)) (s .args .i .0) v (s .pre .0 .list)
+    (slot-lt g (T .proper) (keyNumber (v .entry)) (v .label) (s .pre .0 .slotted)) (s .pre .1) _
+    (sym (k .before .before .free-block .ensures) ∙ k .why .given .1)
+
+pub append-first-spec : {M : Type 1} → statement M
+append-first-spec =
+    tie.close
+    (tie.spec
+    free-block-requires
+    enum-known-number
+    basic-head-requires
+    link-basic-requires
+    take-requires
+    added-requires
+    enum-known-why
+    same-length
+    returns
+    same-length-2
+    returns-2)

@@ -1,0 +1,123 @@
+-- The answer of the free chain decides, and whether its block is one of the list's.
+use mathlib.Core.Path.{sym, _∙_}
+use native.Mathlib.Omega.{arith}
+use denote.Ref.{now}
+use borrow.Author.Needs.{needs}
+use Rattle.keys.specs.Key.{keyNumber}
+use Rattle.table.specs.Decode.{decode}
+use Rattle.table_read.specs.theory.Reads.{link-lt}
+use Rattle.table_read.specs.theory.Walks.{followed}
+use Rattle.table_store.specs.theory.StoreLaws.{slot-lt}
+use Rattle.table_add.proofs.FreeLaws.{Takes, takes}
+use Rattle.table_add.proofs.AppendLaws.{more-refused, more-met, append-more}
+use Rattle.table_add.proofs.append.append_more.Statement.{statement}
+use Rattle.table_add.proofs.append.append_more.Tie as tie
+
+took : (c : tie.After-number) → let s = c .before .before .before .before .before in Takes (s .args .g) (decode (s .args .g) (now (s .args .t))) (c .number .given .0 .0 .0) (c .number .given .0 .1 .0 .0)
+took c = takes _ _ _ _ (sym (c .before .before .free-block .ensures) ∙ c .number .given .1)
+
+free-block-requires : tie.Need-free-block-requires
+free-block-requires c κs = c .before .before .pre .0 .table
+
+enum-known-number : tie.Need-enum-known-number
+enum-known-number c = search needs
+
+meets-requires : tie.Need-meets-requires
+meets-requires c κs =
+    let s = c .before .before .before .before .before .before .before in (
+      s .pre .0 .table,
+      followed (s .args .g) (decode (s .args .g) (now (s .args .t)) .overflow) (s .args .g .nob) (s .args .h .0) (omega (arith, s .pre .1 .last, s .pre .1 .low)),
+    )
+
+same-length : tie.Need-same-length
+same-length c = search needs
+
+returns : tie.Need-returns
+returns c =
+    let s = c .before .before .before .before .before .before .before .before .before in
+    let a = c .before .before .before .before .before .before .before .before in
+    let g = s .args .g in
+    let T = s .pre .0 .table in
+    let v = s .args .v in
+    more-met g (now (s .args .t)) T (λ j. omega (arith, a .slice-known .given j)) (s .args .i .0) v (s .pre .0 .list)
+    (slot-lt g (T .proper) (keyNumber (v .entry)) (v .label) (s .pre .0 .slotted)) (s .args .h .0) (s .args .j .0) (s .pre .1) (s .pre .2) _ _
+    (took (c .before .before .before .before))
+    (sym (c .if1 .taken) ∙ c .before .meets .ensures)
+
+overflow-link-requires : tie.Need-overflow-link-requires
+overflow-link-requires c κs = let s = c .before .before .before .before .before .before .before .before .before .before in (s .pre .0 .table, s .pre .1 .low)
+
+link-overflow-requires : tie.Need-link-overflow-requires
+link-overflow-requires c κs =
+    let s = c .before .before .before .before .before .before .before .before .before .before .before .before in
+    (s .pre .0 .table, s .pre .1 .low, took (c .before .before .before .before .before .before .before) .low)
+
+take-requires : tie.Need-take-requires
+take-requires c κs =
+    let s = c .before .before .before .before .before .before .before .before .before .before .before .before .before .before .before .before in
+    let k = took (c .before .before .before .before .before .before .before .before .before .before .before) in (
+      c .before .before .before .link-overflow .ensures .table,
+      k .low,
+      rw (c .before .before .before .before .before .overflow-link .ensures) (link-lt (s .args .g) (now (s .args .t)) (s .pre .0 .table) (s .args .j .0) (s .pre .1 .low)),
+      k .next-low,
+      s .pre .0 .slotted,
+    )
+
+added-requires : tie.Need-added-requires
+added-requires c κs = search needs
+
+enum-known-why : tie.Need-enum-known-why
+enum-known-why c = search needs
+
+same-length-2 : tie.Need-same-length-2
+same-length-2 c = search needs
+
+returns-2 : tie.Need-returns-2
+returns-2 c =
+    let s = c .before .before .before .before .before .before .before .before .before .before .before .before .before .before .before .before .before .before .before .before in
+    let a = c .before .before .before .before .before .before .before .before .before .before .before .before .before .before .before .before .before .before .before in
+    let g = s .args .g in
+    let T = s .pre .0 .table in
+    let v = s .args .v in
+    append-more g (now (s .args .t)) T (λ j. omega (arith, a .slice-known .given j)) (s .args .i .0) v (s .pre .0 .list)
+    (slot-lt g (T .proper) (keyNumber (v .entry)) (v .label) (s .pre .0 .slotted)) (s .args .h .0) (s .args .j .0) (s .pre .1) (s .pre .2) _ _ _
+    (took (c .before .before .before .before .before .before .before .before .before .before .before .before .before .before .before))
+    (sym (c .before .before .before .before .before .before .before .before .before .before .before .if1 .left) ∙ c .before .before .before .before .before .before .before .before .before .before .before .before .meets .ensures)
+    (c .before .before .before .before .before .before .before .before .before .overflow-link .ensures) _ _ _
+    (c .before .before .before .before .before .before .before .link-overflow .ensures)
+    (c .before .before .before .take .ensures)
+    (c .added .ensures)
+
+same-length-3 : tie.Need-same-length-3
+same-length-3 c = search needs
+
+returns-3 : tie.Need-returns-3
+returns-3 c =
+    let k = c .before in
+    let s = k .before .before .before .before .before in
+    let a = k .before .before .before .before in
+    let g = s .args .g in
+    let T = s .pre .0 .table in
+    let v = s .args .v in
+    more-refused g (now (s .args .t)) T (λ j. omega (arith, a .slice-known .given j)) (s .args .i .0) v (s .pre .0 .list)
+    (slot-lt g (T .proper) (keyNumber (v .entry)) (v .label) (s .pre .0 .slotted)) (s .args .h .0) (s .args .j .0) (s .pre .1) (s .pre .2) _
+    (sym (k .before .before .free-block .ensures) ∙ k .why .given .1)
+
+pub append-more-spec : {M : Type 1} → statement M
+append-more-spec =
+    tie.close
+    (tie.spec
+    free-block-requires
+    enum-known-number
+    meets-requires
+    same-length
+    returns
+    overflow-link-requires
+    link-overflow-requires
+    take-requires
+    added-requires
+    enum-known-why
+    same-length-2
+    returns-2
+    same-length-3
+    returns-3)

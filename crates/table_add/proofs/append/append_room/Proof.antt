@@ -1,0 +1,65 @@
+-- The slot and the counter, in a row.
+use native.Mathlib.Omega.{arith}
+use denote.Ref.{now}
+use borrow.Author.Needs.{needs}
+use Rattle.keys.specs.Key.{keyNumber}
+use Rattle.table_store.specs.theory.StoreLaws.{table-kept, slot-asks, slot-put, slot-lt, basic-slot-ends}
+use Rattle.table_add.proofs.AppendLaws.{append-room}
+use Rattle.table_add.proofs.append.append_room.Statement.{statement}
+use Rattle.table_add.proofs.append.append_room.Tie as tie
+
+basic-slot-requires : tie.Need-basic-slot-requires
+basic-slot-requires c κs =
+    let s = c .before .before .before in
+    (s .pre .0 .table .proper, s .pre .0 .list, s .pre .1)
+
+put-slot-requires : tie.Need-put-slot-requires
+unfolding keyNumber
+put-slot-requires c κs =
+    let s = c .before .before .before .before in
+    slot-asks (s .args .g) (now (s .args .t)) (s .pre .0 .table) (c .basic-slot .result) _ _
+    (omega (arith, c .basic-slot .ensures, basic-slot-ends (s .args .g) (s .pre .0 .table .proper) (s .args .i .0) (s .pre .0 .list) (s .args .c) (s .pre .1)))
+    (s .pre .0 .slotted)
+
+add-put-basic-counter : tie.Need-add-put-basic-counter
+add-put-basic-counter c =
+    let s = c .before .before .before .before .before .before .before .before in
+    omega (arith, s .pre .1, s .pre .0 .table .proper .sib-high)
+
+put-basic-counter-requires : tie.Need-put-basic-counter-requires
+put-basic-counter-requires c κs =
+    let s = c .before .before .before .before .before .before .before .before in
+    (table-kept _ (c .before .before .before .put-slot .kept .0) (s .pre .0 .table), s .pre .0 .list, omega (arith, s .pre .1, s .pre .0 .table .proper .basic-holds))
+
+added-requires : tie.Need-added-requires
+added-requires c κs = search needs
+
+same-length : tie.Need-same-length
+same-length c = search needs
+
+returns : tie.Need-returns
+unfolding keyNumber
+returns c =
+    let s = c .before .before .before .before .before .before .before .before .before .before .before .before in
+    let k = c .before .before .before .before .before .before .before .before .before .before .before in
+    let g = s .args .g in
+    let T = s .pre .0 .table in
+    let v = s .args .v in
+    append-room g (now (s .args .t)) T (λ j. omega (arith, k .slice-known .given j)) (s .args .i .0) v (s .pre .0 .list)
+    (slot-lt g (T .proper) (keyNumber (v .entry)) (v .label) (s .pre .0 .slotted)) (s .args .c) (s .pre .1) (s .pre .2) _ _ _ _
+    (c .before .before .before .before .before .before .before .before .basic-slot .ensures)
+    (slot-put g (T .proper) _ _ _ _ (c .before .before .before .before .before .before .before .put-slot .ensures))
+    (c .before .before .before .put-basic-counter .ensures)
+    (c .added .ensures)
+
+pub append-room-spec : {M : Type 1} → statement M
+append-room-spec =
+    tie.close
+    (tie.spec
+    basic-slot-requires
+    put-slot-requires
+    add-put-basic-counter
+    put-basic-counter-requires
+    added-requires
+    same-length
+    returns)

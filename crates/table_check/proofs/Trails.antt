@@ -1,0 +1,79 @@
+-- The trail of a list is `follow` with its unused slots tested; that of the free chain is the chain with its zeros tested.
+use mathlib.Core.Path.{_≡_, refl, sym, ap, _∙_}
+use mathlib.Core.Bool.{Bool, true, false, cond}
+use mathlib.Core.List.{List}
+use mathlib.Core.Option.{Option, none, some}
+use Prim.Native.Nat.{ℕ, zero, suc, _<_}
+use native.Mathlib.Omega.{arith}
+use lib.ListN.{length, drop-of-length-le}
+use lib.Dec.{eqb, ltb}
+use borrow.Author.Tests.{eqb-true, ltb-true}
+use Rattle.settings.specs.theory.Cases.{cases}
+use Rattle.settings.specs.declared.layout.Layout.{Layout}
+use Rattle.table.specs.State.{Overflow, overflowAt}
+use Rattle.table.specs.Follow.{cons?, follow}
+use Rattle.table.specs.Check.{every, allZero, overflowUnused, freeZero, chainFrom}
+use Rattle.table_check.specs.Walk.{listStep, chainStep, stepOf}
+use Rattle.table_check.proofs.Tests.{no-some}
+use Rattle.table_check.proofs.Marks.{trail}
+
+-- the blocks, if each passes the test
+abbrev pub keep : (ℕ → Bool) → Option (List ℕ) → Option (List ℕ)
+keep f none = none
+keep f (some bs) = cond (every f bs) (some bs) none
+
+keep-cons : (f : ℕ → Bool) (b : ℕ) → f b ≡ true → (o : Option (List ℕ)) → cons? b (keep f o) ≡ keep f (cons? b o)
+keep-cons f b p none = refl
+keep-cons f b p (some bs) = cases (every f bs) (λ q. rw (p, q)) (λ q. rw (p, q))
+
+keep-not : (f : ℕ → Bool) (b : ℕ) → f b ≡ false → (o : Option (List ℕ)) → none ≡ keep f (cons? b o)
+keep-not f b p none = refl
+keep-not f b p (some bs) = rw p
+
+-- a trail that is kept is one, and passes
+pub record Kept (f : ℕ → Bool) (bs : List ℕ) (o : Option (List ℕ)) : Type 0 where
+  pub is : o ≡ some bs
+  pub pass : every f bs ≡ true
+
+pub kept : (f : ℕ → Bool) (bs : List ℕ) (o : Option (List ℕ)) → keep f o ≡ some bs → Kept f bs o
+kept f bs none = λ e. no-some e
+kept f bs (some cs) =
+    cases (every f cs)
+    (λ q. rw q (λ e. let r : cs ≡ bs = cc in record { is = e; pass = ap (every f) (sym r) ∙ q }))
+    (λ q. rw q (λ e. no-some e))
+
+pub keeps : (f : ℕ → Bool) (bs : List ℕ) → every f bs ≡ true → keep f (some bs) ≡ some bs
+keeps f bs q = rw q
+
+module _ (g : Layout) (os : List Overflow) where
+  unused-full : (b : ℕ) → length (overflowAt os b .slots) ≡ g .sio → overflowAt os b .counter ≡ g .sio → overflowUnused g os b ≡ true
+  unused-full b h e = ap allZero (drop-of-length-le (overflowAt os b .slots) {i = suc (overflowAt os b .counter)} (omega arith))
+
+  pub list-trail : ((b : ℕ) → b < g .nob → length (overflowAt os b .slots) ≡ g .sio) → (n b : ℕ)
+      → trail g (stepOf g os false) n b ≡ keep (overflowUnused g os) (follow g n os b)
+  unfolding trail stepOf listStep
+  list-trail full zero b = refl
+  list-trail full (suc n) b =
+      cases (ltb b (g .nob))
+      (λ p. cases (ltb (overflowAt os b .counter) (g .sio))
+      (λ q. cases (overflowUnused g os b) (λ u. rw (p, q, u)) (λ u. rw (p, q, u)))
+      (λ q. cases (eqb (overflowAt os b .counter) (g .sio))
+      (λ r. rw (p, q, r)
+      (ap (cons? b) (list-trail full n (overflowAt os b .link))
+      ∙ keep-cons (overflowUnused g os) b (unused-full b (full b (ltb-true b (g .nob) p)) (eqb-true (overflowAt os b .counter) (g .sio) r)) (follow g n os (overflowAt os b .link))))
+      (λ r. rw (p, q, r))))
+      (λ p. rw p)
+
+  pub chain-trail : (n b : ℕ) → trail g (stepOf g os true) n b ≡ keep (freeZero g os) (chainFrom g n os b)
+  unfolding trail stepOf chainStep
+  chain-trail zero b = refl
+  chain-trail (suc n) b =
+      cases (ltb b (g .nob))
+      (λ p. cases (freeZero g os b)
+      (λ z. cases (eqb (overflowAt os b .link) b)
+      (λ q. rw (p, q, z))
+      (λ q. rw (p, z, q) (ap (cons? b) (chain-trail n (overflowAt os b .link)) ∙ keep-cons (freeZero g os) b z (chainFrom g n os (overflowAt os b .link)))))
+      (λ z. cases (eqb (overflowAt os b .link) b)
+      (λ q. rw (p, q, z))
+      (λ q. rw (p, z, q) (keep-not (freeZero g os) b z (chainFrom g n os (overflowAt os b .link))))))
+      (λ p. rw p)

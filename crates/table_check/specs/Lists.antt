@@ -1,0 +1,57 @@
+-- The lists one by one, and the free chain, with the marks m before them: the marks afterwards, or none where the table is not sound.
+use Prim.Native.Nat.{ℕ, suc}
+use mathlib.Core.Bool.{Bool, true, false, cond, _&&_}
+use mathlib.Core.List.{List, [], _∷_, _++_}
+use mathlib.Core.Option.{Option, none, some}
+use lib.ListN.{take}
+use lib.Dec.{eqb, ltb}
+use Rattle.bits.specs.Field.{field}
+use Rattle.settings.specs.declared.layout.Layout.{Layout}
+use Rattle.table.specs.State.{Basic, Overflow, State, overflowAt, unpack}
+use Rattle.table.specs.Check.{basicUnused, noEntryTwice, everyBelow}
+use Rattle.table_read.specs.Steps.{lastFrom}
+use Rattle.table_check.specs.Walk.{found, stepOf, walk}
+use Rattle.table_check.specs.Entries.{slotsFrom}
+
+-- the marks, if there are any and the test passes
+abbrev pub provided : Bool → Option (List ℕ) → Option (List ℕ)
+provided q none = none
+provided q (some m) = found q m
+
+abbrev pub andThen : Option (List ℕ) → (List ℕ → Option (List ℕ)) → Option (List ℕ)
+andThen none f = none
+andThen (some m) f = f m
+
+module _ (g : Layout) where
+  -- a list without overflow blocks
+  unfoldable pub shortSound : Basic → Bool
+  shortSound b = basicUnused g b [] && noEntryTwice g (take (b .counter) (unpack g (b .head) (b .rest)))
+
+  -- "no entry twice" in a list that overflows, whose last block is l
+  abbrev pub longFrom : List Overflow → Basic → ℕ → Bool
+  longFrom os b l =
+      cond (ltb l (g .nob)) (noEntryTwice g (unpack g (overflowAt os l .link) (b .rest) ++ slotsFrom g (g .nob) os (b .head))) false
+
+  unfoldable pub longApart : List Overflow → Basic → Bool
+  longApart os b = longFrom os b (lastFrom g (g .nob) os (b .head))
+
+  unfoldable pub listWalk : List Overflow → Basic → List ℕ → Option (List ℕ)
+  listWalk os b m =
+      cond (ltb (b .counter) (suc (g .sib)))
+      (found (shortSound b) m)
+      (cond (eqb (b .counter) (suc (g .sib))) (provided (longApart os b) (walk g (stepOf g os false) (g .nob) (b .head) m)) none)
+
+  unfoldable pub listsWalk : List Overflow → List Basic → List ℕ → Option (List ℕ)
+  listsWalk os [] m = some m
+  listsWalk os (b ∷ bs) m = andThen (listWalk os b m) (listsWalk os bs)
+
+  unfoldable pub chainWalk : State → List ℕ → Option (List ℕ)
+  chainWalk st m = cond (eqb (st .free) (g .nob)) (some m) (walk g (stepOf g (st .overflow) true) (g .nob) (st .free) m)
+
+  -- "every overflow block exactly once": every block has a mark
+  abbrev pub allMarked : Option (List ℕ) → Bool
+  allMarked none = false
+  allMarked (some m) = everyBelow (g .nob) (λ j. eqb (field m j 1) 1)
+
+  unfoldable pub soundWalk : State → List ℕ → Bool
+  soundWalk st m = allMarked (andThen (listsWalk (st .overflow) (st .basic) m) (chainWalk st))

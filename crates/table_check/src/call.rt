@@ -1,0 +1,75 @@
+// The call check.
+use crate::bytes::all_marked;
+use crate::bytes::clear;
+use crate::bytes::zeros;
+use crate::lists::chain_sound;
+use crate::lists::lists_sound;
+use settings::Laid;
+use settings::Layout;
+use settings::Refusal;
+use settings::Settings;
+use table::CheckAnswer;
+ghost use mathlib.Core.Path.{_≡_};
+ghost use Prim.Native.Nat.{_*_, _≤_};
+ghost use lib.ListN.{length};
+ghost use Rattle.settings.specs.Proper.{Proper};
+ghost use Rattle.table.specs.Check.{tableSound};
+ghost use Rattle.table.specs.Calls.{checkAnswer, checkMarks};
+ghost use Rattle.table_check.specs.Answers.{Clear, Audited, checkedAnswer, checkedMarks};
+
+// Whether the table is sound; the marks are zero before.
+fn sound(t: &[u8], g: Layout, marks: &mut [u8]) -> bool
+    requires { ⌜ Proper g × (g .bytes ≤ length (now t)) × (g .nob ≤ 8 * length (now marks)) × Clear (now marks) ⌝ }
+    ensures { λ r. ⌜ r ≡ tableSound g (now (t .entry)) ⌝ }
+{
+    if !lists_sound(t, g, marks) {
+        return false;
+    }
+    if !chain_sound(t, g, marks) {
+        return false;
+    }
+    if !all_marked(marks, g.nob) {
+        return false;
+    }
+    let fill = 8 * g.bytes - g.bits;
+    zeros(t, g.bits, fill)
+}
+
+// The same with marks of any content, which are zero afterwards.
+fn audited(t: &[u8], g: Layout, marks: &mut [u8]) -> bool
+    requires { ⌜ Proper g × (g .bytes ≤ length (now t)) × (g .nob ≤ 8 * length (now marks)) ⌝ }
+    ensures { λ r. ⌜ Audited g (now (t .entry)) (now (marks .entry)) (now (marks .exit)) r ⌝ }
+{
+    clear(marks);
+    let answer = sound(t, g, marks);
+    clear(marks);
+    answer
+}
+
+fn checked(t: &[u8], g: Layout, marks: &mut [u8]) -> CheckAnswer
+    requires { ⌜ Proper g ⌝ }
+    ensures { λ r. ⌜ (r ≡ checkedAnswer g (now (t .entry)) (now (marks .entry))) × (now (marks .exit) ≡ checkedMarks g (now (t .entry)) (now (marks .entry))) ⌝ }
+{
+    if t.len() < g.bytes {
+        return CheckAnswer::Refused(Refusal::Short);
+    }
+    let need = (g.nob + 7) / 8;
+    if marks.len() < need {
+        return CheckAnswer::Refused(Refusal::Marks);
+    }
+    if audited(t, g, &mut marks[..need]) {
+        return CheckAnswer::Sound;
+    }
+    CheckAnswer::Unsound
+}
+
+// Whether the table is sound. "Its lent marks, ⌈nob / 8⌉ bytes, are zero afterwards; lent bytes beyond
+// them are untouched."
+pub fn check(s: Settings, t: &[u8], marks: &mut [u8]) -> CheckAnswer
+    ensures { λ r. ⌜ (r ≡ checkAnswer s (now (t .entry)) (now (marks .entry))) × (now (marks .exit) ≡ checkMarks s (now (t .entry)) (now (marks .entry))) ⌝ }
+{
+    match s.layout() {
+        Laid::Layout(g) => checked(t, g, marks),
+        Laid::Refused(why) => CheckAnswer::Refused(why),
+    }
+}

@@ -1,0 +1,24 @@
+-- A block with more than one slot is not freed; else the free start decides.
+use mathlib.Core.Path.{ap}
+use lib.Dec.{ltb}
+use borrow.Author.Needs.{needs}
+use borrow.Author.Tests.{lt-ltb, le-ltb}
+use Rattle.table_delete.specs.DeleteSteps.{stuckWith}
+use Rattle.table_delete.proofs.shrink.stuck.Statement.{statement}
+use Rattle.table_delete.proofs.shrink.stuck.Tie as tie
+
+returns : tie.Need-returns
+unfolding stuckWith
+returns c = rw (lt-ltb 0 (c .before .before .args .n) (c .if1 .taken))
+
+free-start-requires : tie.Need-free-start-requires
+free-start-requires c κs = search needs
+
+returns-2 : tie.Need-returns-2
+unfolding stuckWith
+returns-2 c =
+    let a = c .before .before .before .before .before .args in
+    rw (le-ltb 0 (a .n) (c .before .before .before .if1 .left)) (ap (ltb (a .g .nob)) (c .before .before .free-start .ensures))
+
+pub stuck-spec : {M : Type 1} → statement M
+stuck-spec = tie.close (tie.spec returns free-start-requires returns-2)

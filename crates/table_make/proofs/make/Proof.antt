@@ -1,0 +1,103 @@
+-- The layout's answer and the length decide the call's; zeroed and linked bytes are the new table's (`new-bytes`).
+use mathlib.Core.Path.{_≡_, sym, ap, _∙_}
+use mathlib.Core.Bool.{true}
+use Prim.Native.Nat.{_≤_}
+use native.Mathlib.Omega.{arith}
+use denote.Ref.{now}
+use lib.ListN.{length}
+use borrow.Author.Needs.{needs}
+use Rattle.settings.specs.Legal.{legal}
+use Rattle.settings.specs.Layout.{layoutOf}
+use Rattle.settings.specs.theory.Legal.{laid-layout, laid-refused}
+use Rattle.settings.specs.declared.layout.Layout.{Layout}
+use Rattle.table.specs.New.{newBytes}
+use Rattle.table_make.specs.NewSteps.{linked}
+use Rattle.table.specs.Calls.{makeAnswer, makeBytes}
+use Rattle.table_make.proofs.New.{new-bytes}
+use Rattle.table.specs.theory.Opened.{opened-illegal, opened-short, opened-on, opened-table}
+use Rattle.table.specs.declared.answers.MakeAnswer.the-variants as making
+use Rattle.table_make.proofs.make.Statement.{statement}
+use Rattle.table_make.proofs.make.Tie as tie
+
+-- the settings are legal, and the layout is theirs
+laid : (c : tie.After-g) → let a = c .before .before .before .before .args in (legal (a .s) ≡ true) × (layoutOf (a .s) ≡ c .g .given .0 .0)
+laid c = laid-layout (c .before .before .before .before .args .s) (c .g .given .0 .0) (sym (c .before .before .layout .ensures) ∙ c .g .given .1)
+
+layout-requires : tie.Need-layout-requires
+layout-requires c κs = search needs
+
+enum-known-g : tie.Need-enum-known-g
+enum-known-g c = search needs
+
+returns : tie.Need-returns
+unfolding makeAnswer makeBytes
+returns c =
+    let k = c .before .before .before in
+    let a = k .before .before .before .before .args in
+    let g = k .g .given .0 .0 in
+    let t = now (a .t) in (
+      sym (opened-short making.Refused (a .s) t making.Made g (laid k .0) (laid k .1) (c .if1 .taken)),
+      sym (opened-short (λ r. t) (a .s) t (newBytes (layoutOf (a .s)) t) g (laid k .0) (laid k .1) (c .if1 .taken)),
+    )
+
+zero-requires : tie.Need-zero-requires
+zero-requires c κs = search needs
+
+link-free-requires : tie.Need-link-free-requires
+link-free-requires c κs =
+    let z = c .before .before .before in
+    let e = z .before .before in
+    let k = e .before .before .before in
+    let a = k .before .before .before .before .args in
+    opened-table (a .s) (k .g .given .0 .0) (laid k .0) (laid k .1) (z .zero .last .0) (omega (arith, z .zero .kept .0, e .if1 .left))
+
+enum-known-why : tie.Need-enum-known-why
+enum-known-why c = search needs
+
+same-length : tie.Need-same-length
+same-length c = search needs
+
+returns-2 : tie.Need-returns-2
+unfolding makeAnswer makeBytes
+returns-2 c =
+    let f = c .before .before in
+    let z = f .before .before .before .before in
+    let e = z .before .before in
+    let k = e .before .before .before in
+    let b = k .before .before .before in
+    let a = b .before .args in
+    let g = k .g .given .0 .0 in
+    let t = now (a .t) in
+    let l : g .bytes ≤ length t = e .if1 .left in (
+      sym (opened-on making.Refused (a .s) t making.Made g (laid k .0) (laid k .1) l),
+      f .link-free .ensures
+          ∙ ap (linked g (g .nob)) (z .zero .ensures)
+          ∙ new-bytes g (opened-table (a .s) g (laid k .0) (laid k .1) t l .proper) t l (λ j. omega (arith, b .slice-known .given j))
+          ∙ ap (λ (x : Layout). newBytes x t) (sym (laid k .1))
+          ∙ sym (opened-on (λ r. t) (a .s) t (newBytes (layoutOf (a .s)) t) g (laid k .0) (laid k .1) l),
+    )
+
+returns-3 : tie.Need-returns-3
+unfolding makeAnswer makeBytes
+returns-3 c =
+    let k = c .before in
+    let a = k .before .before .before .before .args in
+    let t = now (a .t) in
+    let e = laid-refused (a .s) _ (sym (k .before .before .layout .ensures) ∙ k .why .given .1) in (
+      ap making.Refused (sym (e .1)) ∙ sym (opened-illegal making.Refused (a .s) t making.Made (e .0)),
+      sym (opened-illegal (λ r. t) (a .s) t (newBytes (layoutOf (a .s)) t) (e .0)),
+    )
+
+pub make-spec : {M : Type 1} → statement M
+make-spec =
+    tie.close
+    (tie.spec
+    layout-requires
+    enum-known-g
+    returns
+    zero-requires
+    link-free-requires
+    enum-known-why
+    same-length
+    returns-2
+    returns-3)

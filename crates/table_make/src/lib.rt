@@ -1,0 +1,79 @@
+// A new table in lent bytes: zeros, and the free blocks in one chain.
+use keys::BlockNumber;
+use settings::Laid;
+use settings::Layout;
+use settings::Refusal;
+use settings::Settings;
+use table::MakeAnswer;
+use table_read::blocks::link_at;
+ghost use mathlib.Core.Path.{_≡_};
+ghost use mathlib.Core.List.{_++_};
+ghost use Prim.Native.Nat.{_^_, _≤_, _<_};
+ghost use lib.ListN.{length, drop, replicate};
+ghost use Rattle.bits.specs.Put.{putField};
+ghost use Rattle.table.specs.Decode.{linkAt};
+ghost use Rattle.table.specs.Table.{Table};
+ghost use Rattle.table.specs.New.{newOverflow};
+ghost use Rattle.table_make.specs.NewSteps.{linked};
+ghost use Rattle.table.specs.Calls.{makeAnswer, makeBytes};
+
+// The table in the lent bytes becomes a new one; bytes beyond its size stay.
+pub fn make(s: Settings, t: &mut [u8]) -> MakeAnswer
+    ensures { λ r. ⌜ (r ≡ makeAnswer s (now (t .entry))) × (now (t .exit) ≡ makeBytes s (now (t .entry))) ⌝ }
+{
+    match s.layout() {
+        Laid::Layout(g) => {
+            if t.len() < g.bytes {
+                return MakeAnswer::Refused(Refusal::Short);
+            }
+            zero(t, g.bytes);
+            link_free(t, g);
+            MakeAnswer::Made
+        }
+        Laid::Refused(why) => MakeAnswer::Refused(why),
+    }
+}
+
+// The first n bytes become zero.
+fn zero(t: &mut [u8], n: usize)
+    requires { ⌜ n ≤ length (now t) ⌝ }
+    ensures { λ _. ⌜ now (t .exit) ≡ replicate n 0 ++ drop n (now (t .entry)) ⌝ }
+{
+    let mut i: usize = 0;
+    while i < n {
+        t[i] = 0;
+        i += 1;
+    }
+}
+
+// Every overflow block becomes a link of the free chain 0, 1, .. nob - 1.
+fn link_free(t: &mut [u8], g: Layout)
+    requires { ⌜ Table g (now t) ⌝ }
+    ensures { λ _. ⌜ now (t .exit) ≡ linked g (g .nob) (now (t .entry)) ⌝ }
+{
+    let mut j: usize = 0;
+    while j < g.nob {
+        put_link(t, g, BlockNumber(j), free_link(g, BlockNumber(j)));
+        j += 1;
+    }
+}
+
+// The link of block j in the chain: "The last free block links to itself."
+fn free_link(g: Layout, j: BlockNumber) -> BlockNumber
+    requires { ⌜ j .0 < g .nob ⌝ }
+    ensures { λ r. ⌜ r .0 ≡ newOverflow g (j .0) .link ⌝ }
+{
+    let next = j.0 + 1;
+    if next == g.nob {
+        return j;
+    }
+    BlockNumber(next)
+}
+
+// The link of overflow block j becomes v.
+pub fn put_link(t: &mut [u8], g: Layout, j: BlockNumber, v: BlockNumber)
+    requires { ⌜ Table g (now t) × (j .0 < g .nob) × (v .0 < 2 ^ g .link) ⌝ }
+    ensures { λ _. ⌜ now (t .exit) ≡ putField (now (t .entry)) (linkAt g (j .0)) (g .link) (v .0) ⌝ }
+{
+    bits::put(t, link_at(g, j), g.link, v.0 as u64);
+}

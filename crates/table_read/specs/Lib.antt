@@ -1,0 +1,6 @@
+-- Words of contracts between functions.
+pub mod Steps
+pub mod Spots
+pub mod Rows
+-- What is proved of them.
+pub mod theory

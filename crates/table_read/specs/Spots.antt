@@ -1,0 +1,36 @@
+-- Where an entry stands among a list's overflow blocks. Only contracts of functions cite these; the calls' own do not.
+use Prim.Native.Nat.{ℕ, _-_, _<_}
+use mathlib.Core.Bool.{cond}
+use mathlib.Core.List.{List, [], _∷_}
+use mathlib.Core.Option.{Option, none, some}
+use lib.ListN.{length}
+use lib.Dec.{ltb}
+use Rattle.settings.specs.declared.layout.Layout.{Layout}
+use Rattle.table.specs.State.{Overflow}
+use Rattle.table.specs.Follow.{follow, gather}
+use Rattle.table_read.specs.Steps.{Followed}
+use Rattle.table_read.specs.declared.lists.Spot.{Spot}
+
+-- the blocks that were followed; none where there is damage
+abbrev pub blocksIn : Option (List ℕ) → List ℕ
+blocksIn none = []
+blocksIn (some bs) = bs
+
+-- slot q of block b
+abbrev pub spot : ℕ → ℕ → Spot
+spot b q = record { block = record { 0 = b }; slot = record { 0 = q } }
+
+module _ (g : Layout) where
+  -- the list's overflow blocks from block b on
+  unfoldable pub blocksFrom : List Overflow → ℕ → List ℕ
+  blocksFrom os b = blocksIn (follow g (g .nob) os b)
+
+  -- place q of the blocks, counted through them
+  abbrev pub spotIn : List ℕ → ℕ → Spot
+  spotIn [] q = spot (g .nob) q
+  spotIn (b ∷ bs) q = cond (ltb q (g .sio)) (spot b q) (spotIn bs (q - g .sio))
+
+  -- the list that goes on at block b has an end, and place q is in it
+  pub record Reaches (os : List Overflow) (b q : ℕ) : Type 0 where
+    pub ends : Followed g (g .nob) os b
+    pub within : q < length (gather g os (blocksFrom os b))

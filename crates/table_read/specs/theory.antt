@@ -1,0 +1,7 @@
+pub mod Reads
+pub mod Rows
+pub mod Walks
+pub mod Lasts
+pub mod Spots
+pub mod Finds
+pub mod Scans

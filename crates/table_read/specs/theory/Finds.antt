@@ -1,0 +1,211 @@
+-- Laws of looking an entry up: where it stands, in one row of slots and in two.
+use mathlib.Core.Path.{_≡_, refl, sym, ap, ap₂, _∙_}
+use mathlib.Core.Bool.{true, false}
+use mathlib.Core.List.{List, [], _∷_, _++_}
+use mathlib.Core.Option.{none, some}
+use Prim.Native.Nat.{ℕ, zero, suc, _+_, _-_, _≤_, _<_}
+use native.Mathlib.Omega.{arith}
+use native.Mathlib.Nat.{zero-add}
+use native.Mathlib.Decide.{decLe}
+use lib.ListN.{length, getD, take, length-append, List·getD-append}
+use lib.Seq.{getD-append-add}
+use lib.Dec.{eqb}
+use borrow.Author.Tests.{lt-ltb, le-ltb}
+use Rattle.settings.specs.theory.Cases.{cases}
+use Rattle.settings.specs.declared.layout.Layout.{Layout}
+use Rattle.settings.specs.declared.refusal.Refusal.the-variants as refusal
+use Rattle.table.specs.State.{State, basicAt, overflowAt, unpack, entryOf, labelOf}
+use Rattle.table.specs.Decode.{decode}
+use Rattle.table.specs.Table.{Table}
+use Rattle.table.specs.Follow.{Seen, content}
+use Rattle.table.specs.Find.{position, isHeld, findSeen, findIn}
+use Rattle.table_read.specs.Steps.{slotsIn, basicRun, displacedRun, overflowRun, lastFrom, Overflows, gatherFrom, findFrom}
+use Rattle.table_read.specs.theory.Reads.{slots-length, basic-slots-in, displaced-slots-in, overflow-slots-in, link-lt}
+use Rattle.table_read.specs.theory.Walks.{Turn, followed, content-short, content-high, content-bad, content-long}
+use Rattle.table_read.specs.declared.slots.Slots.{Slots}
+use Rattle.table.specs.declared.answers.FindAnswer.the-variants as found
+
+module _ (g : Layout) (e : ℕ) where
+  pub position-le : (es : List ℕ) → position g e es ≤ length es
+  unfolding position
+  position-le [] = omega arith
+  position-le (x ∷ xs) =
+      cases (eqb (entryOf g x) e)
+      (λ p. rw p (omega arith))
+      (λ p. rw p (omega (arith, position-le xs)))
+
+  -- the first j slots do not hold the entry, and the next one does, if there is one
+  pub position-is : (es : List ℕ) (j : ℕ) → j ≤ length es → ((k : ℕ) → k < j → eqb (entryOf g (getD es k 0)) e ≡ false)
+      → (j < length es → eqb (entryOf g (getD es j 0)) e ≡ true) → position g e es ≡ j
+  unfolding position
+  position-is [] j h p q = omega arith
+  position-is (x ∷ xs) zero h p q = rw (q (omega arith))
+  position-is (x ∷ xs) (suc j) h p q =
+      rw (p 0 (omega arith)) (ap suc (position-is xs j (omega arith) (λ k l. p (suc k) (omega arith)) (λ l. q (omega arith))))
+
+  position-left : (xs ys : List ℕ) → position g e xs < length xs → position g e (xs ++ ys) ≡ position g e xs
+  unfolding position
+  position-left [] ys = λ h. absurd (omega arith)
+  position-left (x ∷ xs) ys =
+      cases (eqb (entryOf g x) e)
+      (λ p. rw p (λ h. refl))
+      (λ p. rw p (λ h. ap suc (position-left xs ys (omega arith))))
+
+  position-right : (xs ys : List ℕ) → length xs ≤ position g e xs → position g e (xs ++ ys) ≡ length xs + position g e ys
+  unfolding position
+  position-right [] ys = λ h. sym (zero-add (position g e ys))
+  position-right (x ∷ xs) ys =
+      cases (eqb (entryOf g x) e)
+      (λ p. rw p (λ h. absurd (omega arith)))
+      (λ p. rw p (λ h. let q = position-right xs ys (omega arith) in omega arith))
+
+  -- ---- what is answered
+
+  pub find-held : (es : List ℕ) (k j : ℕ) → j ≡ position g e es → j < length es → findFrom g e es k ≡ found.Held (labelOf g (getD es j 0)) (k + suc j)
+  unfolding findFrom
+  find-held es k j p h = let l : position g e es < length es = omega arith in rw (lt-ltb (position g e es) (length es) l, p)
+
+  pub find-none : (es : List ℕ) (k j : ℕ) → j ≡ position g e es → length es ≤ j → findFrom g e es k ≡ found.None (k + length es)
+  unfolding findFrom
+  find-none es k j p h = let l : length es ≤ position g e es = omega arith in rw (le-ltb (position g e es) (length es) l)
+
+  pub find-left : (xs ys : List ℕ) (k : ℕ) → position g e xs < length xs → findFrom g e (xs ++ ys) k ≡ findFrom g e xs k
+  find-left xs ys k h =
+      let p = position-left xs ys h in
+      let l = length-append xs ys in
+      find-held (xs ++ ys) k (position g e (xs ++ ys)) refl (omega arith)
+      ∙ ap (λ (n : ℕ). found.Held (labelOf g (getD (xs ++ ys) n 0)) (k + suc n)) p
+      ∙ ap (λ (x : ℕ). found.Held (labelOf g x) (k + suc (position g e xs))) (List·getD-append xs ys 0 (position g e xs) h)
+      ∙ sym (find-held xs k (position g e xs) refl h)
+
+  pub find-right : (xs ys : List ℕ) (k : ℕ) → length xs ≤ position g e xs → findFrom g e (xs ++ ys) k ≡ findFrom g e ys (k + length xs)
+  find-right xs ys k h = pick (decLe (length ys) (position g e ys))
+    where
+      pick : Dec (length ys ≤ position g e ys) → findFrom g e (xs ++ ys) k ≡ findFrom g e ys (k + length xs)
+      pick (yes m) =
+          let p = position-right xs ys h in
+          let l = length-append xs ys in
+          let z : k + length (xs ++ ys) ≡ k + length xs + length ys = omega arith in
+          find-none (xs ++ ys) k (position g e (xs ++ ys)) refl (omega arith) ∙ ap found.None z ∙ sym (find-none ys (k + length xs) (position g e ys) refl m)
+      pick (no m) =
+          let p = position-right xs ys h in
+          let l = length-append xs ys in
+          let z : k + suc (length xs + position g e ys) ≡ k + length xs + suc (position g e ys) = omega arith in
+          find-held (xs ++ ys) k (position g e (xs ++ ys)) refl (omega arith)
+          ∙ ap (λ (n : ℕ). found.Held (labelOf g (getD (xs ++ ys) n 0)) (k + suc n)) p
+          ∙ ap₂ (λ (x n : ℕ). found.Held (labelOf g x) n) (getD-append-add xs ys (position g e ys) 0) z
+          ∙ sym (find-held ys (k + length xs) (position g e ys) refl (omega arith))
+
+  pub find-all : (v : Seen) → findSeen g e (some v) ≡ findFrom g e (v .slots) 0
+  unfolding findSeen findFrom
+  find-all v =
+      cases (isHeld g e (v .slots))
+      (λ p. rw (p, zero-add (suc (position g e (v .slots)))))
+      (λ p. rw (p, zero-add (length (v .slots))))
+
+-- ---- an overflow block: found in it, not found in the last one, and not found in one that goes on
+
+module _ (g : Layout) (t : List ℕ) (T : Table g t) (e n f b c j : ℕ) (r : Slots) (S : Turn g (decode g t .overflow) f b)
+    (ec : c ≡ overflowAt (decode g t .overflow) b .counter) (er : r ≡ overflowRun g b c) (ej : j ≡ position g e (slotsIn g t r)) where
+  block-slots : take (suc (overflowAt (decode g t .overflow) b .counter)) (overflowAt (decode g t .overflow) b .slots) ≡ slotsIn g t r
+  block-slots = sym (ap (slotsIn g t) (er ∙ ap (overflowRun g b) ec) ∙ overflow-slots-in g t T b (overflowAt (decode g t .overflow) b .counter) (S .low))
+
+  block-last : c < g .sio → gatherFrom g f (decode g t .overflow) b ≡ slotsIn g t r
+  block-last l = S .last (omega (arith, ec)) ∙ block-slots
+
+  block-more : c ≡ g .sio
+      → gatherFrom g f (decode g t .overflow) b ≡ slotsIn g t r ++ gatherFrom g (f - 1) (decode g t .overflow) (overflowAt (decode g t .overflow) b .link)
+  block-more l = S .more (sym ec ∙ l) ∙ ap (λ (xs : List ℕ). xs ++ gatherFrom g (f - 1) (decode g t .overflow) (overflowAt (decode g t .overflow) b .link)) block-slots
+
+  pub block-held : j < r .count → found.Held (labelOf g (getD (slotsIn g t r) j 0)) (n + suc j) ≡ findFrom g e (gatherFrom g f (decode g t .overflow) b) n
+  block-held h = pick (decLe (g .sio) c)
+    where
+      low : j < length (slotsIn g t r)
+      low = omega (arith, slots-length g t r, h)
+
+      here : found.Held (labelOf g (getD (slotsIn g t r) j 0)) (n + suc j) ≡ findFrom g e (slotsIn g t r) n
+      here = sym (find-held g e (slotsIn g t r) n j ej low)
+
+      pick : Dec (g .sio ≤ c) → found.Held (labelOf g (getD (slotsIn g t r) j 0)) (n + suc j) ≡ findFrom g e (gatherFrom g f (decode g t .overflow) b) n
+      pick (yes l) =
+          here
+          ∙ sym
+          (ap (λ (xs : List ℕ). findFrom g e xs n) (block-more (omega (arith, ec, S .count)))
+          ∙ find-left g e (slotsIn g t r) (gatherFrom g (f - 1) (decode g t .overflow) (overflowAt (decode g t .overflow) b .link)) n (omega (arith, low, ej)))
+      pick (no l) = here ∙ sym (ap (λ (xs : List ℕ). findFrom g e xs n) (block-last (omega arith)))
+
+  pub block-none : r .count ≤ j → c < g .sio → found.None (n + r .count) ≡ findFrom g e (gatherFrom g f (decode g t .overflow) b) n
+  block-none h l =
+      ap (λ (m : ℕ). found.None (n + m)) (sym (slots-length g t r))
+      ∙ sym (find-none g e (slotsIn g t r) n j ej (omega (arith, slots-length g t r)))
+      ∙ sym (ap (λ (xs : List ℕ). findFrom g e xs n) (block-last l))
+
+  pub block-on : r .count ≤ j → c ≡ g .sio
+      → findFrom g e (gatherFrom g (f - 1) (decode g t .overflow) (overflowAt (decode g t .overflow) b .link)) (n + r .count)
+      ≡ findFrom g e (gatherFrom g f (decode g t .overflow) b) n
+  block-on h l =
+      ap (λ (m : ℕ). findFrom g e (gatherFrom g (f - 1) (decode g t .overflow) (overflowAt (decode g t .overflow) b .link)) (n + m)) (sym (slots-length g t r))
+      ∙ sym (find-right g e (slotsIn g t r) (gatherFrom g (f - 1) (decode g t .overflow) (overflowAt (decode g t .overflow) b .link)) n (omega (arith, slots-length g t r, ej)))
+      ∙ sym (ap (λ (xs : List ℕ). findFrom g e xs n) (block-more l))
+
+-- ---- a list, by its basic block's counter
+
+module _ (g : Layout) (st : State) (i e : ℕ) where
+  find-damaged : content g st i ≡ none → found.Refused refusal.Damage ≡ findIn g st i e
+  unfolding findIn findSeen
+  find-damaged q = rw q
+
+  find-whole : (v : Seen) → content g st i ≡ some v → findIn g st i e ≡ findFrom g e (v .slots) 0
+  unfolding findIn
+  find-whole v q = ap (findSeen g e) q ∙ find-all g e v
+
+module _ (g : Layout) (t : List ℕ) (T : Table g t) (i e : ℕ) (il : i < g .lists) where
+  pub find-counted : (c : ℕ) (r : Slots) → c ≡ basicAt (decode g t .basic) i .counter → c ≤ g .sib → r ≡ basicRun g i c
+      → findFrom g e (slotsIn g t r) 0 ≡ findIn g (decode g t) i e
+  find-counted c r ec l er =
+      let k : basicAt (decode g t .basic) i .counter ≤ g .sib = omega arith in
+      ap (λ (s : Slots). findFrom g e (slotsIn g t s) 0) (er ∙ ap (basicRun g i) ec)
+      ∙ ap (λ (xs : List ℕ). findFrom g e xs 0) (basic-slots-in g t T i (basicAt (decode g t .basic) i .counter) il k)
+      ∙ sym (find-whole g (decode g t) i e _ (content-short g (decode g t) i k))
+
+  pub find-high : (c : ℕ) → c ≡ basicAt (decode g t .basic) i .counter → suc (g .sib) < c → found.Refused refusal.Damage ≡ findIn g (decode g t) i e
+  find-high c ec l = find-damaged g (decode g t) i e (content-high g (decode g t) i (omega (arith, ec)))
+
+  module _ (h last : ℕ) (O : Overflows g (decode g t) i h) (el : last ≡ lastFrom g (g .nob) (decode g t .overflow) h) where
+    end : last ≡ lastFrom g (g .nob) (decode g t .overflow) (basicAt (decode g t .basic) i .head)
+    end = el ∙ ap (lastFrom g (g .nob) (decode g t .overflow)) (O .head)
+
+    pub find-bad : g .nob ≤ last → found.Refused refusal.Damage ≡ findIn g (decode g t) i e
+    find-bad l = find-damaged g (decode g t) i e (content-bad g (decode g t) i (O .counter) (omega (arith, l, end)))
+
+    module _ (d j : ℕ) (r : Slots) (low : last < g .nob) (ed : d ≡ overflowAt (decode g t .overflow) last .link) (er : r ≡ displacedRun g i d)
+        (ej : j ≡ position g e (slotsIn g t r)) where
+      first-slots : slotsIn g t r ≡ unpack g (overflowAt (decode g t .overflow) last .link) (basicAt (decode g t .basic) i .rest)
+      first-slots =
+          ap (slotsIn g t) (er ∙ ap (displacedRun g i) ed)
+          ∙ displaced-slots-in g t T i (overflowAt (decode g t .overflow) last .link) il (link-lt g t T last low)
+
+      whole : findIn g (decode g t) i e ≡ findFrom g e (slotsIn g t r ++ gatherFrom g (g .nob) (decode g t .overflow) h) 0
+      whole =
+          find-whole g (decode g t) i e _
+          (content-long g (decode g t) i (O .counter) (followed g (decode g t .overflow) (g .nob) (basicAt (decode g t .basic) i .head) (omega (arith, low, end))))
+          ∙ ap (λ (x : ℕ). findFrom g e (unpack g (overflowAt (decode g t .overflow) x .link) (basicAt (decode g t .basic) i .rest) ++ gatherFrom g (g .nob) (decode g t .overflow) (basicAt (decode g t .basic) i .head)) 0) (sym end)
+          ∙ ap₂ (λ (xs : List ℕ) (x : ℕ). findFrom g e (xs ++ gatherFrom g (g .nob) (decode g t .overflow) x) 0) (sym first-slots) (sym (O .head))
+
+      count : length (slotsIn g t r) ≡ g .sib
+      unfolding displacedRun
+      count = slots-length g t r ∙ ap (λ (s : Slots). s .count) er
+
+      pub find-first : j < g .sib → found.Held (labelOf g (getD (slotsIn g t r) j 0)) (0 + suc j) ≡ findIn g (decode g t) i e
+      find-first l =
+          sym
+          (whole
+          ∙ find-left g e (slotsIn g t r) (gatherFrom g (g .nob) (decode g t .overflow) h) 0 (omega (arith, count, ej))
+          ∙ find-held g e (slotsIn g t r) 0 j ej (omega (arith, count)))
+
+      pub find-rest : g .sib ≤ j → findFrom g e (gatherFrom g (g .nob) (decode g t .overflow) h) (g .sib) ≡ findIn g (decode g t) i e
+      find-rest l =
+          sym
+          (whole
+          ∙ find-right g e (slotsIn g t r) (gatherFrom g (g .nob) (decode g t .overflow) h) 0 (omega (arith, count, ej))
+          ∙ ap (findFrom g e (gatherFrom g (g .nob) (decode g t .overflow) h)) (zero-add (length (slotsIn g t r)) ∙ count))

@@ -1,0 +1,276 @@
+-- What is read where the first bits of slots count as something else, and the slots of blocks as rows of fields.
+use mathlib.Core.Path.{_≡_, refl, sym, ap, ap₂, _∙_}
+use mathlib.Core.Logic.{inr}
+use mathlib.Core.List.{List, _∷_}
+use Prim.Native.Nat.{ℕ, zero, suc, _+_, _-_, _*_, _/_, _%_, _^_, _≤_, _<_, min}
+use native.Mathlib.Omega.{arith}
+use native.Mathlib.Nat.{sub-add-cancel, mul-le-mul-right, mod-eq-of-lt}
+use lib.ListN.{length, getD, take}
+use lib.Pow.{split, high, low, pow-mono}
+use mathlib.Core.Bool.{false}
+use lib.Dec.{eqb}
+use borrow.Author.Tests.{eq-eqb, ne-eqb, eqb-true, eqb-false}
+use Rattle.bits.specs.Field.{field}
+use Rattle.bits.specs.Put.{putField}
+use Rattle.bits.specs.theory.Fields.{field-lt, field-cat, first-field, last-field, sub-field}
+use Rattle.bits.specs.theory.Puts.{put-zero, put-same, put-own, put-out}
+use Rattle.settings.specs.Proper.{Proper}
+use Rattle.keys.specs.Key.{keyNumber}
+use Rattle.settings.specs.theory.Cases.{cases}
+use Rattle.keys.specs.declared.Key.{Key}
+use Rattle.settings.specs.declared.layout.Layout.{Layout}
+use Rattle.table.specs.Arrays.{tabulate, unpacked}
+use Rattle.table.specs.State.{Basic, Overflow, basicAt, overflowAt, restBits, unpack, entryOf, labelOf}
+use Rattle.table.specs.Decode.{basicSlots, linkAt, overflowSlots, readBasic, readOverflow, decode}
+use Rattle.table.specs.Table.{Table}
+use Rattle.table_read.specs.Steps.{shown, View, Run, slotsIn, basicRun, displacedRun, overflowRun}
+use Rattle.table.specs.theory.Arrays.{length-tab, getD-tab, tab-ext}
+use Rattle.table.specs.theory.Changes.{basic-ends, over-ends, start-high, bits-high, at-basic, at-over}
+use Rattle.table_read.specs.declared.slots.Slots.{Slots}
+
+-- ---- a field that lies behind the displaced bits, in them, or across their end
+
+module _ (t : List ℕ) (b : Slots) (at : ℕ) where
+  pub shown-out : (n : ℕ) → View t b at n → b .start + b .link ≤ at → field t at n ≡ field (shown t b) at n
+  unfolding shown
+  shown-out n v o = sym (put-out t (b .start) (b .link) (b .head) at n (v .block) (inr o))
+
+  pub shown-in : (n : ℕ) → View t b at n → at + n ≤ b .start + b .link
+      → b .head / 2 ^ (b .start + b .link - at - n) % 2 ^ n ≡ field (shown t b) at n
+  unfolding shown
+  shown-in n v o =
+      let e : at - b .start + n + (b .start + b .link - at - n) ≡ b .link = omega (arith, v .from) in
+      let f : b .start + (at - b .start) ≡ at = omega (arith, v .from) in
+      ap (λ (x : ℕ). x / 2 ^ (b .start + b .link - at - n) % 2 ^ n) (sym (put-same t (b .start) (b .link) (b .head) (v .block) (v .fits)))
+      ∙ sub-field (putField t (b .start) (b .link) (b .head)) (b .start) (b .link) (at - b .start) n (b .start + b .link - at - n) e
+      ∙ ap (λ (x : ℕ). field (putField t (b .start) (b .link) (b .head)) x n) f
+
+  pub shown-across : (n k m : ℕ) → View t b at n → at + k ≡ b .start + b .link → k + m ≡ n
+      → b .head / 2 ^ 0 % 2 ^ k * 2 ^ m + field t (b .start + b .link) m ≡ field (shown t b) at n
+  unfolding shown
+  shown-across n k m v e f =
+      let z : b .start + b .link - at - k ≡ 0 = omega arith in
+      let p : View t b at k =
+      record { from = v .from; ends = omega (arith, v .ends); near = omega (arith, v .near); block = v .block; link = v .link; fits = v .fits } in
+      ap₂ (λ (x y : ℕ). x * 2 ^ m + y)
+      (ap (λ (x : ℕ). b .head / 2 ^ x % 2 ^ k) (sym z) ∙ shown-in k p (omega arith))
+      (sym (put-out t (b .start) (b .link) (b .head) (b .start + b .link) m (v .block) (inr (omega arith)))
+      ∙ ap (λ (x : ℕ). field (putField t (b .start) (b .link) (b .head)) x m) (sym e))
+      ∙ sym (field-cat (putField t (b .start) (b .link) (b .head)) at k m)
+      ∙ ap (field (putField t (b .start) (b .link) (b .head)) at) f
+
+-- ---- a slot's entry and label
+
+module _ (g : Layout) (F : Proper g) (s : List ℕ) (at : ℕ) where
+  pub slot-entry : entryOf g (field s at (g .slot)) ≡ field s at (g .bie)
+  slot-entry = ap (λ (w : ℕ). field s at w / 2 ^ g .val) (F .slot-is) ∙ first-field s at (g .bie) (g .val)
+
+  pub slot-label : labelOf g (field s at (g .slot)) ≡ field s (at + g .bie) (g .val)
+  slot-label = ap (λ (w : ℕ). field s at w % 2 ^ g .val) (F .slot-is) ∙ last-field s at (g .bie) (g .val)
+
+-- an entry is compared with the bits of a field: all at once, or the last 64 and then the others
+pub entry-low : (k : Key) (n : ℕ) → n ≤ 64 → keyNumber k < 2 ^ n → keyNumber k ≡ k .low
+unfolding keyNumber
+entry-low k n h l = let m = pow-mono h in omega arith
+
+-- numbers whose last m bits are the same are the same if their other bits are
+same-above : (x e m : ℕ) → x % 2 ^ m ≡ e % 2 ^ m → eqb (x / 2 ^ m) (e / 2 ^ m) ≡ eqb x e
+same-above x e m q =
+    cases (eqb (x / 2 ^ m) (e / 2 ^ m))
+    (λ p. rw p (sym (eq-eqb x e (sym (split x m) ∙ ap₂ (λ (a b : ℕ). a * 2 ^ m + b) (eqb-true (x / 2 ^ m) (e / 2 ^ m) p) q ∙ split e m))))
+    (λ p. rw p (sym (ne-eqb x e (λ r. eqb-false (x / 2 ^ m) (e / 2 ^ m) p (ap (λ (y : ℕ). y / 2 ^ m) r)))))
+
+-- a field is compared by its last m bits and then by the others
+module _ (s : List ℕ) (at n m e : ℕ) (h : m ≤ n) where
+  last-bits : field s at n % 2 ^ m ≡ field s (at + (n - m)) m
+  last-bits = ap (λ (w : ℕ). field s at w % 2 ^ m) (sym (sub-add-cancel h)) ∙ last-field s at (n - m) m
+
+  first-bits : field s at n / 2 ^ m ≡ field s at (n - m)
+  first-bits = ap (λ (w : ℕ). field s at w / 2 ^ m) (sym (sub-add-cancel h)) ∙ first-field s at (n - m) m
+
+  pub last-differ : (field s (at + (n - m)) m ≡ e % 2 ^ m → ⊥) → eqb (field s at n) e ≡ false
+  last-differ d = ne-eqb (field s at n) e (λ q. d (sym last-bits ∙ ap (λ (x : ℕ). x % 2 ^ m) q))
+
+  pub last-same : field s (at + (n - m)) m ≡ e % 2 ^ m → eqb (field s at (n - m)) (e / 2 ^ m) ≡ eqb (field s at n) e
+  last-same q = ap (λ (x : ℕ). eqb x (e / 2 ^ m)) (sym first-bits) ∙ same-above (field s at n) e m (last-bits ∙ q)
+
+module _ (s : List ℕ) (at n : ℕ) (k : Key) (h : 64 ≤ n) (l : k .low < 2 ^ 64) where
+  pub entry-differs : (field s (at + (n - 64)) 64 ≡ k .low → ⊥) → eqb (field s at n) (keyNumber k) ≡ false
+  unfolding keyNumber
+  entry-differs d = last-differ s at n 64 (k .high * 2 ^ 64 + k .low) h (λ q. d (q ∙ low (k .high) 64 l))
+
+  pub entry-halves : field s (at + (n - 64)) 64 ≡ k .low → eqb (field s at (n - 64)) (k .high) ≡ eqb (field s at n) (keyNumber k)
+  unfolding keyNumber
+  entry-halves q =
+      ap (eqb (field s at (n - 64))) (sym (high (k .high) 64 l))
+      ∙ last-same s at n 64 (k .high * 2 ^ 64 + k .low) h (q ∙ sym (low (k .high) 64 l))
+
+module _ (g : Layout) (t : List ℕ) (b : Slots) where
+  pub slots-length : length (slotsIn g t b) ≡ b .count
+  unfolding slotsIn
+  slots-length = length-tab (b .count) _
+
+  pub slot-in : (k : ℕ) → k < b .count → getD (slotsIn g t b) k 0 ≡ field (shown t b) (b .start + k * g .slot) (g .slot)
+  unfolding slotsIn
+  slot-in k h = getD-tab (b .count) _ k 0 h
+
+  pub entry-in : Proper g → (k : ℕ) → k < b .count → entryOf g (getD (slotsIn g t b) k 0) ≡ field (shown t b) (b .start + k * g .slot) (g .bie)
+  entry-in F k h = ap (entryOf g) (slot-in k h) ∙ slot-entry g F (shown t b) (b .start + k * g .slot)
+
+  pub label-in : Proper g → (k : ℕ) → k < b .count
+      → labelOf g (getD (slotsIn g t b) k 0) ≡ field (shown t b) (b .start + k * g .slot + g .bie) (g .val)
+  label-in F k h = ap (labelOf g) (slot-in k h) ∙ slot-label g F (shown t b) (b .start + k * g .slot)
+
+  pub slot-inside : (k : ℕ) → k < b .count → b .start + k * g .slot + g .slot ≤ b .start + b .count * g .slot
+  slot-inside k h = omega (arith, mul-le-mul-right (g .slot) h)
+
+-- ---- rows of fields
+
+pub take-tab : {A : Type 0} (c n : ℕ) (f : ℕ → A) → take c (tabulate n f) ≡ tabulate (min c n) f
+take-tab zero n f = let z : min 0 n ≡ 0 = omega arith in rw z
+take-tab (suc c) zero f = let z : min (suc c) 0 ≡ 0 = omega arith in rw z
+take-tab (suc c) (suc n) f =
+    let z : min (suc c) (suc n) ≡ suc (min c n) = omega arith in
+    rw z (ap (f 0 ∷_) (take-tab c n (λ i. f (suc i))))
+
+pub unpacked-fields : (s : List ℕ) (w n at : ℕ) → unpacked w n (field s at (n * w)) ≡ tabulate n (λ k. field s (at + k * w) w)
+unpacked-fields s w zero at = refl
+unpacked-fields s w (suc n) at =
+    let e : suc n * w ≡ w + n * w = omega arith in
+    let z : at ≡ at + 0 * w = omega arith in
+    let l : field s (at + w) (n * w) < 2 ^ (n * w) = field-lt s (at + w) (n * w) in
+    let q : field s at (suc n * w) ≡ field s at w * 2 ^ (n * w) + field s (at + w) (n * w) = ap (field s at) e ∙ field-cat s at w (n * w) in
+    rw (q, high (field s at w) (n * w) l, low (field s at w) (n * w) l)
+    (ap₂ _∷_
+    (mod-eq-of-lt (field-lt s at w) ∙ ap (λ (x : ℕ). field s x w) z)
+    (unpacked-fields s w n (at + w)
+    ∙ tab-ext n (λ k. field s (at + suc k * w) w) (λ k. field s (at + w + k * w) w)
+    (λ j h. let d : at + w + j * w ≡ at + suc j * w = omega arith in ap (λ (x : ℕ). field s x w) d)))
+
+-- a basic block has sib slots
+unpacked-length : (w n v : ℕ) → length (unpacked w n v) ≡ n
+unpacked-length w zero v = refl
+unpacked-length w (suc n) v = ap suc (unpacked-length w n (v % 2 ^ (n * w)))
+
+pub unpack-length : (g : Layout) (h r : ℕ) → length (unpack g h r) ≡ g .sib
+unfolding unpack
+unpack-length g h r = unpacked-length (g .slot) (g .sib) (h * 2 ^ restBits g + r)
+
+-- ---- the slots of blocks
+
+module _ (g : Layout) (t : List ℕ) (T : Table g t) where
+  basic-room : (i : ℕ) → i < g .lists → basicSlots g i + g .sib * g .slot ≤ g .bits
+  unfolding basicSlots
+  basic-room i h = omega (arith, basic-ends g (T .proper) i h, start-high g (T .proper), T .proper .basic-is)
+
+  overflow-room : (j : ℕ) → j < g .nob → overflowSlots g j + g .sio * g .slot ≤ g .bits
+  unfolding overflowSlots
+  overflow-room j h = omega (arith, over-ends g (T .proper) j h, T .proper .overflow-is)
+
+  pub basic-run-within : (i n : ℕ) → i < g .lists → n ≤ g .sib → Run g t (basicRun g i n)
+  unfolding basicRun
+  basic-run-within i n l k =
+      let F = T .proper in
+      let m : n * g .slot ≤ g .sib * g .slot = mul-le-mul-right (g .slot) k in
+      let r = basic-room i l in
+      let q = bits-high g F in
+      record {
+        ends = omega (arith, T .room);
+        near = omega arith;
+        block = omega (arith, T .room);
+        link = omega arith;
+        fits = omega arith;
+        few = omega (arith, F .sib-high);
+      }
+
+  pub displaced-run-within : (i h : ℕ) → i < g .lists → h < 2 ^ g .link → Run g t (displacedRun g i h)
+  unfolding displacedRun
+  displaced-run-within i h l f =
+      let F = T .proper in
+      let r = basic-room i l in
+      let q = bits-high g F in
+      record {
+        ends = omega (arith, T .room);
+        near = omega arith;
+        block = omega (arith, F .link-fits, T .room);
+        link = F .link-high;
+        fits = f;
+        few = F .sib-high;
+      }
+
+  pub overflow-run-within : (j c : ℕ) → j < g .nob → Run g t (overflowRun g j c)
+  unfolding overflowRun
+  overflow-run-within j c l =
+      let F = T .proper in
+      let k : min (suc c) (g .sio) ≤ g .sio = omega arith in
+      let m : min (suc c) (g .sio) * g .slot ≤ g .sio * g .slot = mul-le-mul-right (g .slot) k in
+      let r = overflow-room j l in
+      let q = bits-high g F in
+      record {
+        ends = omega (arith, T .room);
+        near = omega arith;
+        block = omega (arith, T .room);
+        link = omega arith;
+        fits = omega arith;
+        few = omega (arith, F .sio-high);
+      }
+
+  -- what stands in a field fits it
+  pub head-lt : (i : ℕ) → i < g .lists → basicAt (decode g t .basic) i .head < 2 ^ g .link
+  unfolding readBasic
+  head-lt i h = rw (ap (λ (b : Basic). b .head) (at-basic g (T .proper) t i h)) (field-lt t (basicSlots g i) (g .link))
+
+  pub link-lt : (j : ℕ) → j < g .nob → overflowAt (decode g t .overflow) j .link < 2 ^ g .link
+  unfolding readOverflow
+  link-lt j h = rw (ap (λ (o : Overflow). o .link) (at-over g (T .proper) t j h)) (field-lt t (linkAt g j) (g .link))
+
+  -- a decoded block has sio slots
+  pub sized : (j : ℕ) → j < g .nob → length (overflowAt (decode g t .overflow) j .slots) ≡ g .sio
+  unfolding readOverflow
+  sized j h = ap (λ (o : Overflow). length (o .slots)) (at-over g (T .proper) t j h) ∙ length-tab (g .sio) _
+
+  -- the slots of a basic block, whose first L bits count as h
+  pub displaced-slots-in : (i h : ℕ) → i < g .lists → h < 2 ^ g .link → slotsIn g t (displacedRun g i h) ≡ unpack g h (basicAt (decode g t .basic) i .rest)
+  unfolding slotsIn shown displacedRun unpack readBasic
+  displaced-slots-in i h l f =
+      let F = T .proper in
+      let e : g .sib * g .slot ≡ g .link + restBits g = omega (arith, F .link-fits) in
+      let r : basicSlots g i + g .link ≤ 8 * length t = omega (arith, basic-room i l, F .link-fits, T .room) in
+      let u : List ℕ = putField t (basicSlots g i) (g .link) h in
+      sym
+      (ap (λ (b : Basic). unpacked (g .slot) (g .sib) (h * 2 ^ restBits g + b .rest)) (at-basic g F t i l)
+      ∙ ap (unpacked (g .slot) (g .sib))
+      (sym
+      (ap (field u (basicSlots g i)) e
+      ∙ field-cat u (basicSlots g i) (g .link) (restBits g)
+      ∙ ap₂ (λ (x y : ℕ). x * 2 ^ restBits g + y)
+      (put-same t (basicSlots g i) (g .link) h r f)
+      (put-out t (basicSlots g i) (g .link) h (basicSlots g i + g .link) (restBits g) r (inr (omega arith)))))
+      ∙ unpacked-fields u (g .slot) (g .sib) (basicSlots g i))
+
+  -- the first n of them, as they stand
+  own-head : (i : ℕ) → i < g .lists → putField t (basicSlots g i) (g .link) (basicAt (decode g t .basic) i .head) ≡ t
+  unfolding readBasic
+  own-head i l =
+      ap (λ (b : Basic). putField t (basicSlots g i) (g .link) (b .head)) (at-basic g (T .proper) t i l) ∙ put-own t (basicSlots g i) (g .link)
+
+  standing : (i n : ℕ) → i < g .lists → n ≤ g .sib
+      → slotsIn g t (basicRun g i n) ≡ take n (slotsIn g t (displacedRun g i (basicAt (decode g t .basic) i .head)))
+  unfolding slotsIn shown basicRun displacedRun
+  standing i n l k =
+      let z : n ≡ min n (g .sib) = omega arith in
+      ap₂ (λ (s : List ℕ) (m : ℕ). tabulate m (λ q. field s (basicSlots g i + q * g .slot) (g .slot))) (put-zero t (basicSlots g i) 0 ∙ sym (own-head i l)) z
+      ∙ sym (take-tab n (g .sib) (λ q. field (putField t (basicSlots g i) (g .link) (basicAt (decode g t .basic) i .head)) (basicSlots g i + q * g .slot) (g .slot)))
+
+  pub basic-slots-in : (i n : ℕ) → i < g .lists → n ≤ g .sib
+      → slotsIn g t (basicRun g i n) ≡ take n (unpack g (basicAt (decode g t .basic) i .head) (basicAt (decode g t .basic) i .rest))
+  basic-slots-in i n l k = standing i n l k ∙ ap (take n) (displaced-slots-in i (basicAt (decode g t .basic) i .head) l (head-lt i l))
+
+  -- the slots in use of an overflow block
+  pub overflow-slots-in : (j c : ℕ) → j < g .nob → slotsIn g t (overflowRun g j c) ≡ take (suc c) (overflowAt (decode g t .overflow) j .slots)
+  unfolding slotsIn shown overflowRun readOverflow
+  overflow-slots-in j c l =
+      ap (λ (s : List ℕ). tabulate (min (suc c) (g .sio)) (λ k. field s (overflowSlots g j + k * g .slot) (g .slot))) (put-zero t (overflowSlots g j) 0)
+      ∙ sym
+      (ap (λ (o : Overflow). take (suc c) (o .slots)) (at-over g (T .proper) t j l)
+      ∙ take-tab (suc c) (g .sio) (λ k. field t (overflowSlots g j + k * g .slot) (g .slot)))

@@ -1,0 +1,159 @@
+-- Laws of a list's overflow blocks: where its places are, and its last one.
+use mathlib.Core.Path.{_≡_, refl, sym, ap, _∙_}
+use mathlib.Core.List.{List, [], _∷_, _++_}
+use mathlib.Core.Option.{Option, none, some}
+use Prim.Native.Nat.{ℕ, suc, _+_, _-_, _≤_, _<_, min}
+use native.Mathlib.Omega.{arith}
+use native.Mathlib.Decide.{decLe}
+use lib.ListN.{length, take, length-append, length-take}
+use borrow.Author.Tests.{lt-ltb, le-ltb}
+use Rattle.settings.specs.declared.layout.Layout.{Layout}
+use Rattle.table.specs.State.{Overflow, State, basicAt, overflowAt, unpack}
+use Rattle.table.specs.Follow.{Seen, seen, lastOf, follow, gather, contentOver, content}
+use Rattle.table_read.specs.Steps.{lastFrom, Followed}
+use Rattle.table_read.specs.Spots.{blocksFrom, spot, spotIn, Reaches}
+use Rattle.table_read.specs.theory.Reads.{unpack-length}
+use Rattle.table_read.specs.theory.Walks.{Chain, ends, more, Walk, lost, ended, walk, followed, content-high, content-bad, content-over}
+
+module _ (g : Layout) (os : List Overflow) where
+  -- the blocks of a list that has an end
+  pub record Chained (b : ℕ) : Type 0 where
+    pub others : List ℕ
+    pub chain : Chain g os b others
+    pub few : length others < g .nob
+    pub found : follow g (g .nob) os b ≡ some (b ∷ others)
+    pub are : blocksFrom g os b ≡ b ∷ others
+
+  chained-as : (b : ℕ) (bs : List ℕ) {o : Option (List ℕ)} → Walk g os (g .nob) b o → follow g (g .nob) os b ≡ o → o ≡ some bs → Chained b
+  unfolding blocksFrom
+  chained-as b bs lost w e = absurd (let z : _≡_ {A = ℕ} 0 1 = cc in omega arith)
+  chained-as b bs (ended {cs} c l) w e = record { others = cs; chain = c; few = l; found = w; are = rw w }
+
+  pub chained : (b : ℕ) → Followed g (g .nob) os b → Chained b
+  chained b f = chained-as b (f .blocks) (walk g os (g .nob) b) refl (f .are)
+
+  pub chain-low : {b : ℕ} {cs : List ℕ} → Chain g os b cs → b < g .nob
+  chain-low (ends h l) = h
+  chain-low (more h e c) = h
+
+  pub last-few : {b : ℕ} {cs : List ℕ} → Chain g os b cs → overflowAt os (lastOf b cs) .counter < g .sio
+  last-few (ends h l) = l
+  last-few (more h e c) = last-few c
+
+  -- ---- to a place
+
+  pub record Going (first p b q : ℕ) : Type 0 where
+    pub others : List ℕ
+    pub chain : Chain g os b others
+    pub within : q < length (gather g os (b ∷ others))
+    pub same : spotIn g (b ∷ others) q ≡ spotIn g (blocksFrom g os first) p
+
+  pub going-first : (first p : ℕ) → Reaches g os first p → Going first p first p
+  going-first first p r =
+      let c = chained first (r .ends) in
+      record {
+        others = c .others;
+        chain = c .chain;
+        within = rw (c .are) at (r .within);
+        same = ap (λ (bs : List ℕ). spotIn g bs p) (sym (c .are));
+      }
+
+  pub going-here : (first p b q : ℕ) → Going first p b q → q < g .sio → spot b q ≡ spotIn g (blocksFrom g os first) p
+  going-here first p b q m l = rw (lt-ltb q (g .sio) l) at (m .same)
+
+  -- a decoded block has sio slots
+  module _ (sized : (j : ℕ) → j < g .nob → length (overflowAt os j .slots) ≡ g .sio) where
+    one-block : {b : ℕ} (ys : List ℕ) → b < g .nob
+        → length (take (suc (overflowAt os b .counter)) (overflowAt os b .slots) ++ ys) ≡ min (suc (overflowAt os b .counter)) (g .sio) + length ys
+    one-block {b} ys h =
+        omega (
+          arith,
+          sized b h,
+          length-append (take (suc (overflowAt os b .counter)) (overflowAt os b .slots)) ys,
+          length-take (suc (overflowAt os b .counter)) (overflowAt os b .slots),
+        )
+
+    pub one-more : {b q : ℕ} (ys : List ℕ) → b < g .nob → g .sio ≤ q → q < length (take (suc (overflowAt os b .counter)) (overflowAt os b .slots) ++ ys)
+        → q - g .sio < length ys
+    one-more {b} {q} ys h l m = omega (arith, one-block ys h)
+
+    pub last-one : {b q : ℕ} → b < g .nob → q < length (take (suc (overflowAt os b .counter)) (overflowAt os b .slots) ++ []) → q < g .sio
+    last-one {b} {q} h m = omega (arith, one-block [] h)
+
+    going-on-as : (first p b q : ℕ) {cs : List ℕ} → g .sio ≤ q → Chain g os b cs → q < length (gather g os (b ∷ cs))
+        → spotIn g (b ∷ cs) q ≡ spotIn g (blocksFrom g os first) p → Going first p (overflowAt os b .link) (q - g .sio)
+    going-on-as first p b q l (ends h k) m e = absurd (let z = last-one h m in omega arith)
+    going-on-as first p b q l (more {cs} h k c) m e =
+        record {
+          others = cs;
+          chain = c;
+          within = one-more (gather g os (overflowAt os b .link ∷ cs)) h l m;
+          same = rw (le-ltb q (g .sio) l) at e;
+        }
+
+    pub going-on : (first p b q : ℕ) → Going first p b q → g .sio ≤ q → Going first p (overflowAt os b .link) (q - g .sio)
+    going-on first p b q m l = going-on-as first p b q l (m .chain) (m .within) (m .same)
+
+    -- ---- the last place
+
+    pub gather-some : {b : ℕ} {cs : List ℕ} → Chain g os b cs → 0 < length (gather g os (b ∷ cs))
+    gather-some (ends h l) = omega (arith, one-block [] h)
+    gather-some (more {b} {cs} h e c) = omega (arith, one-block (gather g os (overflowAt os b .link ∷ cs)) h, gather-some c)
+
+    -- it is in the last block, and is the slot that the counter there names
+    pub last-spot : {b : ℕ} {cs : List ℕ} → Chain g os b cs
+        → spotIn g (b ∷ cs) (length (gather g os (b ∷ cs)) - 1) ≡ spot (lastOf b cs) (overflowAt os (lastOf b cs) .counter)
+    last-spot (ends {b} h l) =
+        let n = overflowAt os b .counter in
+        let e : length (gather g os (b ∷ [])) - 1 ≡ n = omega (arith, one-block [] h) in
+        rw (e, lt-ltb n (g .sio) l)
+    last-spot (more {b} {cs} h e c) =
+        let ys = gather g os (overflowAt os b .link ∷ cs) in
+        let q = length (gather g os (b ∷ overflowAt os b .link ∷ cs)) - 1 in
+        let f = one-block ys h in
+        let s = gather-some c in
+        let k : q - g .sio ≡ length ys - 1 = omega arith in
+        rw (le-ltb q (g .sio) (omega arith), k) (last-spot c)
+
+-- ---- a list that overflows
+
+module _ (g : Layout) (st : State) (i : ℕ) where
+  pub content-chained : basicAt (st .basic) i .counter ≡ suc (g .sib) → (c : Chained g (st .overflow) (basicAt (st .basic) i .head))
+      → content g st i
+      ≡ some
+      (seen (basicAt (st .basic) i .head ∷ c .others)
+      (unpack g (overflowAt (st .overflow) (lastOf (basicAt (st .basic) i .head) (c .others)) .link) (basicAt (st .basic) i .rest)
+      ++ gather g (st .overflow) (basicAt (st .basic) i .head ∷ c .others)))
+  content-chained h c = content-over g st i h ∙ ap (contentOver g (basicAt (st .basic) i) (st .overflow)) (c .found)
+
+  -- what is known of it where its content is known
+  module _ (v : Seen) (is : content g st i ≡ some v) (h : g .sib < basicAt (st .basic) i .counter) where
+    not-damaged : {X : Type 0} → content g st i ≡ none → X
+    not-damaged e = absurd (let z : _≡_ {A = ℕ} 0 1 = cc in omega arith)
+
+    pub long-full : basicAt (st .basic) i .counter ≡ suc (g .sib)
+    long-full = pick (decLe (basicAt (st .basic) i .counter) (suc (g .sib)))
+      where
+        pick : Dec (basicAt (st .basic) i .counter ≤ suc (g .sib)) → basicAt (st .basic) i .counter ≡ suc (g .sib)
+        pick (yes l) = omega arith
+        pick (no l) = not-damaged (content-high g st i (omega arith))
+
+    pub long-ends : Followed g (g .nob) (st .overflow) (basicAt (st .basic) i .head)
+    long-ends = pick (decLe (g .nob) (lastFrom g (g .nob) (st .overflow) (basicAt (st .basic) i .head)))
+      where
+        pick : Dec (g .nob ≤ lastFrom g (g .nob) (st .overflow) (basicAt (st .basic) i .head)) → Followed g (g .nob) (st .overflow) (basicAt (st .basic) i .head)
+        pick (yes l) = not-damaged (content-bad g st i long-full l)
+        pick (no l) = followed g (st .overflow) (g .nob) (basicAt (st .basic) i .head) (omega arith)
+
+    pub long-blocks : Chained g (st .overflow) (basicAt (st .basic) i .head)
+    long-blocks = chained g (st .overflow) (basicAt (st .basic) i .head) long-ends
+
+    pub long-length : length (v .slots) ≡ g .sib + length (gather g (st .overflow) (basicAt (st .basic) i .head ∷ long-blocks .others))
+    long-length =
+        let b = basicAt (st .basic) i in
+        let last = overflowAt (st .overflow) (lastOf (b .head) (long-blocks .others)) in
+        let body = unpack g (last .link) (b .rest) in
+        let tail = gather g (st .overflow) (b .head ∷ long-blocks .others) in
+        let e = content-chained long-full long-blocks in
+        let z : v ≡ seen (b .head ∷ long-blocks .others) (body ++ tail) = cc in
+        ap (λ (x : Seen). length (x .slots)) z ∙ length-append body tail ∙ ap (λ (n : ℕ). n + length tail) (unpack-length g (last .link) (b .rest))

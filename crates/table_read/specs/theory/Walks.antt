@@ -1,0 +1,223 @@
+-- Laws of following a list: its turns, its end, and what it finds.
+use mathlib.Core.Path.{_≡_, refl, _∙_}
+use mathlib.Core.Bool.{true, false}
+use mathlib.Core.List.{List, [], _∷_, _++_, append-nil}
+use mathlib.Core.Option.{Option, none, some}
+use Prim.Native.Nat.{ℕ, zero, suc, _+_, _-_, _≤_, _<_}
+use native.Mathlib.Omega.{arith}
+use lib.ListN.{length, take}
+use lib.Dec.{eqb, ltb}
+use borrow.Author.Tests.{eq-eqb, ne-eqb, eqb-true, lt-ltb, le-ltb, ltb-true}
+use Rattle.settings.specs.theory.Cases.{cases}
+use Rattle.settings.specs.declared.layout.Layout.{Layout}
+use Rattle.table.specs.State.{Overflow, State, basicAt, overflowAt, unpack}
+use Rattle.table.specs.Follow.{seen, lastOf, cons?, follow, contentOver, content}
+use Rattle.table_read.specs.Steps.{lastIn, lastFrom, Followed, gatherFrom}
+
+module _ (g : Layout) (os : List Overflow) where
+  -- ---- the turns
+
+  pub follow-high : (n b : ℕ) → g .nob ≤ b → follow g n os b ≡ none
+  follow-high zero b h = refl
+  follow-high (suc n) b h = rw (le-ltb b (g .nob) h)
+
+  pub follow-here : (n b : ℕ) → 0 < n → b < g .nob → overflowAt os b .counter < g .sio → follow g n os b ≡ some (b ∷ [])
+  follow-here zero b h l e = absurd (omega arith)
+  follow-here (suc n) b h l e = rw (lt-ltb b (g .nob) l, lt-ltb (overflowAt os b .counter) (g .sio) e)
+
+  pub follow-bad : (n b : ℕ) → g .sio < overflowAt os b .counter → follow g n os b ≡ none
+  follow-bad zero b e = refl
+  follow-bad (suc n) b e =
+      cases (ltb b (g .nob))
+      (λ p. rw (p, le-ltb (overflowAt os b .counter) (g .sio) (omega arith), ne-eqb (overflowAt os b .counter) (g .sio) (λ q. omega arith)))
+      (λ p. rw p)
+
+  pub follow-on : (n m b : ℕ) → n ≡ suc m → b < g .nob → overflowAt os b .counter ≡ g .sio
+      → follow g n os b ≡ cons? b (follow g m os (overflowAt os b .link))
+  follow-on n m b h l e =
+      rw h
+      (rw (
+        lt-ltb b (g .nob) l,
+        le-ltb (overflowAt os b .counter) (g .sio) (omega arith),
+        eq-eqb (overflowAt os b .counter) (g .sio) e,
+      ))
+
+  -- ---- what is found: nothing, or blocks from b on to the list's end
+
+  -- blocks b and then cs, each full but the last
+  pub data Chain : ℕ → List ℕ → Type 0 where
+    ends : {b : ℕ} → b < g .nob → overflowAt os b .counter < g .sio → Chain b []
+    more : {b : ℕ} {cs : List ℕ} → b < g .nob → overflowAt os b .counter ≡ g .sio → Chain (overflowAt os b .link) cs
+        → Chain b (overflowAt os b .link ∷ cs)
+
+  pub last-low : {b : ℕ} {cs : List ℕ} → Chain b cs → lastOf b cs < g .nob
+  last-low (ends h l) = h
+  last-low (more h e c) = last-low c
+
+  -- what following at most n blocks from b on comes to
+  pub data Walk (n b : ℕ) : Option (List ℕ) → Type 0 where
+    lost : Walk n b none
+    ended : {cs : List ℕ} → Chain b cs → length cs < n → Walk n b (some (b ∷ cs))
+
+  walk-on : {n b : ℕ} {o : Option (List ℕ)} → b < g .nob → overflowAt os b .counter ≡ g .sio → Walk n (overflowAt os b .link) o
+      → Walk (suc n) b (cons? b o)
+  walk-on h e lost = lost
+  walk-on h e (ended c l) = ended (more h e c) (omega arith)
+
+  pub walk : (n b : ℕ) → Walk n b (follow g n os b)
+  walk zero b = lost
+  walk (suc n) b =
+      cases (ltb b (g .nob))
+      (λ p. cases (ltb (overflowAt os b .counter) (g .sio))
+      (λ q. rw (p, q) (ended (ends (ltb-true b (g .nob) p) (ltb-true (overflowAt os b .counter) (g .sio) q)) (omega arith)))
+      (λ q. cases (eqb (overflowAt os b .counter) (g .sio))
+      (λ r. rw (p, q, r) (walk-on (ltb-true b (g .nob) p) (eqb-true (overflowAt os b .counter) (g .sio) r) (walk n (overflowAt os b .link))))
+      (λ r. rw (p, q, r) lost)))
+      (λ p. rw p lost)
+
+  last-on : (b : ℕ) {n c : ℕ} {o : Option (List ℕ)} → Walk n c o → lastIn g (cons? b o) ≡ lastIn g o
+  last-on b lost = refl
+  last-on b (ended c l) = refl
+
+  -- ---- the last block
+
+  pub last-high : (n b : ℕ) → g .nob ≤ b → lastFrom g n os b ≡ g .nob
+  unfolding lastFrom
+  last-high n b h = rw (follow-high n b h)
+
+  pub last-out : (n b : ℕ) → n ≡ 0 → lastFrom g n os b ≡ g .nob
+  unfolding lastFrom
+  last-out n b h = rw h
+
+  pub last-here : (n b : ℕ) → 0 < n → b < g .nob → overflowAt os b .counter < g .sio → lastFrom g n os b ≡ b
+  unfolding lastFrom
+  last-here n b h l e = rw (follow-here n b h l e)
+
+  pub last-bad : (n b : ℕ) → g .sio < overflowAt os b .counter → lastFrom g n os b ≡ g .nob
+  unfolding lastFrom
+  last-bad n b e = rw (follow-bad n b e)
+
+  pub last-further : (n m b : ℕ) → n ≡ suc m → b < g .nob → overflowAt os b .counter ≡ g .sio
+      → lastFrom g n os b ≡ lastFrom g m os (overflowAt os b .link)
+  unfolding lastFrom
+  last-further n m b h l e =
+      rw (follow-on n m b h l e)
+      (last-on b (walk m (overflowAt os b .link)))
+
+  followed-as : (n b : ℕ) {o : Option (List ℕ)} → Walk n b o → follow g n os b ≡ o → lastIn g o < g .nob → Followed g n os b
+  followed-as n b lost e h = absurd (omega arith)
+  followed-as n b (ended {cs} c l) e h = record { blocks = b ∷ cs; are = e }
+
+  -- a last block below nob is the end of a list without damage
+  pub followed : (n b : ℕ) → lastFrom g n os b < g .nob → Followed g n os b
+  unfolding lastFrom
+  followed n b h = followed-as n b (walk n b) refl h
+
+  damaged-as : {n b : ℕ} {o : Option (List ℕ)} → Walk n b o → g .nob ≤ lastIn g o → o ≡ none
+  damaged-as lost h = refl
+  damaged-as (ended c l) h = absurd (omega (arith, last-low c))
+
+  pub damaged : (n b : ℕ) → g .nob ≤ lastFrom g n os b → follow g n os b ≡ none
+  unfolding lastFrom
+  damaged n b h = damaged-as (walk n b) h
+
+  -- ---- one block of a list without damage
+
+  pub record Turn (n b : ℕ) : Type 0 where
+    pub fuel : 0 < n
+    pub low : b < g .nob
+    pub count : overflowAt os b .counter ≤ g .sio
+    pub last : overflowAt os b .counter < g .sio → gatherFrom g n os b ≡ take (suc (overflowAt os b .counter)) (overflowAt os b .slots)
+    pub on : overflowAt os b .counter ≡ g .sio → Followed g (n - 1) os (overflowAt os b .link)
+    pub more : overflowAt os b .counter ≡ g .sio
+        → gatherFrom g n os b ≡ take (suc (overflowAt os b .counter)) (overflowAt os b .slots) ++ gatherFrom g (n - 1) os (overflowAt os b .link)
+
+  no-blocks : {X : Type 0} (bs : List ℕ) → none ≡ some bs → X
+  no-blocks bs e = absurd (let z : _≡_ {A = ℕ} 0 1 = cc in omega arith)
+
+  turn-on : (n b : ℕ) (bs : List ℕ) → ltb b (g .nob) ≡ true → ltb (overflowAt os b .counter) (g .sio) ≡ false
+      → eqb (overflowAt os b .counter) (g .sio) ≡ true → (o : Option (List ℕ)) → follow g n os (overflowAt os b .link) ≡ o → cons? b o ≡ some bs → Turn (suc n) b
+  unfolding gatherFrom
+  turn-on n b bs p q r none w e = no-blocks bs e
+  turn-on n b bs p q r (some cs) w e =
+      let k : suc n - 1 ≡ n = omega arith in
+      let z : overflowAt os b .counter ≡ g .sio = eqb-true (overflowAt os b .counter) (g .sio) r in
+      record {
+        fuel = omega arith;
+        low = ltb-true b (g .nob) p;
+        count = omega arith;
+        last = λ x. absurd (omega arith);
+        on = λ x. rw k (record { blocks = cs; are = w });
+        more = λ x. rw (k, p, q, r, w);
+      }
+
+  turn-from : (n b : ℕ) (bs : List ℕ) → follow g n os b ≡ some bs → Turn n b
+  unfolding gatherFrom
+  turn-from zero b bs = λ e. no-blocks bs e
+  turn-from (suc n) b bs =
+      cases (ltb b (g .nob))
+      (λ p. cases (ltb (overflowAt os b .counter) (g .sio))
+      (λ q. rw (p, q) (λ e.
+      let l : overflowAt os b .counter < g .sio = ltb-true (overflowAt os b .counter) (g .sio) q in
+      record {
+        fuel = omega arith;
+        low = ltb-true b (g .nob) p;
+        count = omega arith;
+        last = λ _. rw (p, q) (append-nil (take (suc (overflowAt os b .counter)) (overflowAt os b .slots)));
+        on = λ z. absurd (omega arith);
+        more = λ z. absurd (omega arith);
+      }))
+      (λ q. cases (eqb (overflowAt os b .counter) (g .sio))
+      (λ r. rw (p, q, r) (turn-on n b bs p q r (follow g n os (overflowAt os b .link)) refl))
+      (λ r. rw (p, q, r) (λ e. no-blocks bs e))))
+      (λ p. rw p (λ e. no-blocks bs e))
+
+  pub turn : (n b : ℕ) → Followed g n os b → Turn n b
+  turn n b f = turn-from n b (f .blocks) (f .are)
+
+-- ---- a list's content, by its basic block's counter
+
+module _ (g : Layout) (st : State) (i : ℕ) where
+  pub content-short : basicAt (st .basic) i .counter ≤ g .sib
+      → content g st i ≡ some (seen [] (take (basicAt (st .basic) i .counter) (unpack g (basicAt (st .basic) i .head) (basicAt (st .basic) i .rest))))
+  unfolding content
+  content-short h = rw (lt-ltb (basicAt (st .basic) i .counter) (suc (g .sib)) (omega arith))
+
+  pub content-high : suc (g .sib) < basicAt (st .basic) i .counter → content g st i ≡ none
+  unfolding content
+  content-high h =
+      rw (
+        le-ltb (basicAt (st .basic) i .counter) (suc (g .sib)) (omega arith),
+        ne-eqb (basicAt (st .basic) i .counter) (suc (g .sib)) (λ q. omega arith),
+      )
+
+  pub content-over : basicAt (st .basic) i .counter ≡ suc (g .sib)
+      → content g st i ≡ contentOver g (basicAt (st .basic) i) (st .overflow) (follow g (g .nob) (st .overflow) (basicAt (st .basic) i .head))
+  unfolding content
+  content-over h =
+      rw (
+        le-ltb (basicAt (st .basic) i .counter) (suc (g .sib)) (omega arith),
+        eq-eqb (basicAt (st .basic) i .counter) (suc (g .sib)) h,
+      )
+
+  pub content-bad : basicAt (st .basic) i .counter ≡ suc (g .sib) → g .nob ≤ lastFrom g (g .nob) (st .overflow) (basicAt (st .basic) i .head)
+      → content g st i ≡ none
+  content-bad h l = content-over h ∙ rw (damaged g (st .overflow) (g .nob) (basicAt (st .basic) i .head) l)
+
+  long-as : (b : ℕ) {o : Option (List ℕ)} → Walk g (st .overflow) (g .nob) b o → (bs : List ℕ) → follow g (g .nob) (st .overflow) b ≡ o → o ≡ some bs
+      → contentOver g (basicAt (st .basic) i) (st .overflow) o
+      ≡ some (seen bs (unpack g (overflowAt (st .overflow) (lastFrom g (g .nob) (st .overflow) b) .link) (basicAt (st .basic) i .rest) ++ gatherFrom g (g .nob) (st .overflow) b))
+  unfolding lastFrom gatherFrom
+  long-as b lost bs e w = no-blocks g (st .overflow) bs w
+  long-as b (ended {cs} c l) bs e w = let z : b ∷ cs ≡ bs = cc in rw (e, ← z)
+
+  pub content-long : basicAt (st .basic) i .counter ≡ suc (g .sib) → (f : Followed g (g .nob) (st .overflow) (basicAt (st .basic) i .head))
+      → content g st i
+      ≡ some
+      (seen (f .blocks)
+      (unpack g (overflowAt (st .overflow) (lastFrom g (g .nob) (st .overflow) (basicAt (st .basic) i .head)) .link) (basicAt (st .basic) i .rest)
+      ++ gatherFrom g (g .nob) (st .overflow) (basicAt (st .basic) i .head)))
+  content-long h f =
+      content-over h
+      ∙ long-as (basicAt (st .basic) i .head)
+      (walk g (st .overflow) (g .nob) (basicAt (st .basic) i .head)) (f .blocks) refl (f .are)

@@ -1,0 +1,5 @@
+// Reading a table: blocks, slots and lists.
+pub mod blocks;
+pub mod lists;
+pub mod slots;
+pub mod windows;

@@ -1,0 +1,111 @@
+// A list's blocks: following them to the last, and the slots of each.
+use crate::blocks::basic_slots;
+use crate::blocks::overflow_front;
+use crate::blocks::overflow_link;
+use crate::blocks::overflow_slots;
+use crate::slots::Slots;
+use crate::slots::least;
+use keys::BlockNumber;
+use keys::ListNumber;
+use keys::SlotNumber;
+use settings::Layout;
+ghost use mathlib.Core.Path.{_≡_};
+ghost use Prim.Native.Nat.{_<_, _≤_};
+ghost use Rattle.settings.specs.Proper.{Proper};
+ghost use Rattle.table.specs.Decode.{decode};
+ghost use Rattle.table.specs.Table.{Table};
+ghost use Rattle.table_read.specs.Spots.{blocksFrom, spotIn, Reaches};
+ghost use Rattle.table_read.specs.Steps.{lastFrom, lastAs, basicRun, displacedRun, overflowRun};
+
+// Where a list ends: in its last overflow block, or nowhere, if there is damage.
+pub enum Last {
+    Block(BlockNumber),
+    Damage,
+}
+
+// The last block of the list whose overflow blocks start at `first`. At most nob blocks are followed, so
+// that it ends on any bytes.
+pub fn follow(t: &[u8], g: Layout, first: BlockNumber) -> Last
+    requires { ⌜ Table g (now t) ⌝ }
+    ensures { λ r. ⌜ r ≡ lastAs g (lastFrom g (g .nob) (decode g (now (t .entry)) .overflow) (first .0)) ⌝ }
+{
+    let mut b = first;
+    let mut k: usize = 0;
+    while k < g.nob {
+        if b.0 >= g.nob {
+            return Last::Damage;
+        }
+        let front = overflow_front(t, g, b);
+        if front.counter < g.sio {
+            return Last::Block(b);
+        }
+        if front.counter > g.sio {
+            return Last::Damage;
+        }
+        b = BlockNumber(front.link);
+        k += 1;
+    }
+    Last::Damage
+}
+
+// The first n slots of basic block i, as they stand: those of a list that has no overflow blocks.
+pub fn basic_run(g: Layout, i: ListNumber, n: usize) -> Slots
+    requires { ⌜ Proper g × (i .0 < g .lists) ⌝ }
+    ensures { λ r. ⌜ r ≡ basicRun g (i .0) n ⌝ }
+{
+    Slots {
+        start: basic_slots(g, i),
+        count: n,
+        link: 0,
+        head: 0,
+    }
+}
+
+// The slots of basic block i, whose first L bits count as h: those of a list that has overflow blocks.
+pub fn displaced_run(g: Layout, i: ListNumber, h: usize) -> Slots
+    requires { ⌜ Proper g × (i .0 < g .lists) ⌝ }
+    ensures { λ r. ⌜ r ≡ displacedRun g (i .0) h ⌝ }
+{
+    Slots {
+        start: basic_slots(g, i),
+        count: g.sib,
+        link: g.link,
+        head: h as u64,
+    }
+}
+
+// The slots in use of overflow block j, whose counter is c. "Counter c below sio means c + 1 entries".
+pub fn overflow_run(g: Layout, j: BlockNumber, c: usize) -> Slots
+    requires { ⌜ Proper g × (j .0 < g .nob) × (c ≤ g .sio) ⌝ }
+    ensures { λ r. ⌜ r ≡ overflowRun g (j .0) c ⌝ }
+{
+    Slots {
+        start: overflow_slots(g, j),
+        count: least(c + 1, g.sio),
+        link: 0,
+        head: 0,
+    }
+}
+
+// A place in an overflow block.
+pub struct Spot {
+    pub block: BlockNumber,
+    pub slot: SlotNumber,
+}
+
+// Place p of the overflow blocks from `first` on.
+pub fn spot_of(t: &[u8], g: Layout, first: BlockNumber, p: usize) -> Spot
+    requires { ⌜ Table g (now t) × Reaches g (decode g (now t) .overflow) (first .0) p ⌝ }
+    ensures { λ r. ⌜ r ≡ spotIn g (blocksFrom g (decode g (now (t .entry)) .overflow) (first .0)) p ⌝ }
+{
+    let mut b = first;
+    let mut q = p;
+    while q >= g.sio {
+        b = BlockNumber(overflow_link(t, g, b));
+        q -= g.sio;
+    }
+    Spot {
+        block: b,
+        slot: SlotNumber(q),
+    }
+}

@@ -1,0 +1,295 @@
+// Slots in a row, and what they hold.
+use crate::windows::FEW;
+use crate::windows::candidate;
+use bits::join;
+use bits::pow;
+use keys::Key;
+use keys::SlotNumber;
+use settings::Layout;
+ghost use mathlib.Core.Path.{_≡_};
+ghost use Prim.Native.Nat.{ℕ, _+_, _-_, _*_, _/_, _%_, _^_, _≤_, _<_, min};
+ghost use lib.ListN.{length, getD};
+ghost use lib.Dec.{eqb};
+ghost use Rattle.bits.specs.Field.{field};
+ghost use Rattle.bits.specs.Put.{putField};
+ghost use Rattle.settings.specs.Proper.{Proper};
+ghost use Rattle.keys.specs.Key.{keyNumber};
+ghost use Rattle.table.specs.State.{labelOf};
+ghost use Rattle.table_read.specs.Steps.{shown, View, First, Run, slotsIn};
+ghost use Rattle.table_read.specs.Rows.{Row};
+
+// Slots of a block: where the first begins, how many they are, and what their first `link` bits count
+// as. In a basic block that overflows those bits stand in the list's last link; elsewhere `link` is 0.
+pub struct Slots {
+    pub start: usize,
+    pub count: usize,
+    pub link: usize,
+    pub head: u64,
+}
+
+pub fn least(a: usize, b: usize) -> usize
+    ensures { λ r. ⌜ r ≡ min a b ⌝ }
+{
+    if a < b { a } else { b }
+}
+
+// The n bits of x above its k low ones.
+fn part(x: u64, k: usize, n: usize) -> u64
+    requires { ⌜ (k < 64) × (n < 64) ⌝ }
+    ensures { λ r. ⌜ r ≡ x / 2 ^ k % 2 ^ n ⌝ }
+{
+    x / pow(k) % pow(n)
+}
+
+// The field of n bits from bit `at` on, where the first bits of the slots are what they count as.
+pub fn seen(t: &[u8], b: Slots, at: usize, n: usize) -> u64
+    requires { ⌜ View (now t) b at n × (n ≤ 64) ⌝ }
+    ensures { λ r. ⌜ r ≡ field (shown (now (t .entry)) b) at n ⌝ }
+{
+    let end = b.start + b.link;
+    if at >= end {
+        return bits::get(t, at, n);
+    }
+    if at + n <= end {
+        return part(b.head, end - at - n, n);
+    }
+    let k = end - at;
+    join(part(b.head, 0, k), n - k, bits::get(t, end, n - k))
+}
+
+// Whether the field of n bits from bit `at` on is the entry. Of more than 64 bits the low ones are
+// compared first.
+fn same_entry(t: &[u8], b: Slots, at: usize, n: usize, entry: Key) -> bool
+    requires { ⌜ View (now t) b at n × (n ≤ 128) × (keyNumber entry < 2 ^ n) ⌝ }
+    ensures { λ r. ⌜ r ≡ eqb (field (shown (now (t .entry)) b) at n) (keyNumber entry) ⌝ }
+{
+    if n <= 64 {
+        return seen(t, b, at, n) == entry.low;
+    }
+    if seen(t, b, at + (n - 64), 64) != entry.low {
+        return false;
+    }
+    seen(t, b, at, n - 64) == entry.high
+}
+
+// Whether the n bits from bit `at` on are the number high * 2^64 + low. Of more than 64 bits the low ones are compared
+// first.
+fn holds(t: &[u8], at: usize, n: usize, high: u64, low: u64) -> bool
+    requires { ⌜ (at + n ≤ 8 * length (now t)) × (at + n ≤ 2 ^ 27) × (n ≤ 128) × (high * 2 ^ 64 + low < 2 ^ n) ⌝ }
+    ensures { λ r. ⌜ r ≡ eqb (field (now (t .entry)) at n) (high * 2 ^ 64 + low) ⌝ }
+{
+    if n <= 64 {
+        return bits::get(t, at, n) == low;
+    }
+    if bits::get(t, at + (n - 64), 64) != low {
+        return false;
+    }
+    bits::get(t, at, n - 64) == high
+}
+
+// The first slot from `from` on that holds the number, slot by slot; count if none does.
+fn scan_from(
+    t: &[u8],
+    start: usize,
+    from: SlotNumber,
+    count: usize,
+    slot: usize,
+    bie: usize,
+    high: u64,
+    low: u64,
+) -> SlotNumber
+    requires { ⌜ Row (now t) start slot bie count × (high * 2 ^ 64 + low < 2 ^ bie) × (from .0 < 2 ^ 16) ⌝ }
+    requires { ⌜ ((k : ℕ) → k < from .0 → k < count → field (now t) (start + k * slot) bie ≡ high * 2 ^ 64 + low → ⊥) ⌝ }
+    ensures { λ r. ⌜ First (now (t .entry)) start slot bie (high * 2 ^ 64 + low) count (r .0) ⌝ }
+{
+    let mut j = from.0;
+    while j < count {
+        if holds(t, start + j * slot, bie, high, low) {
+            return SlotNumber(j);
+        }
+        j += 1;
+    }
+    SlotNumber(count)
+}
+
+// How many slots are looked at for the first `count`: of a small block all, since a fixed number of turns can be foreseen.
+pub fn looked_at(count: usize, room: usize) -> usize
+    requires { ⌜ count ≤ room ⌝ }
+    ensures { λ r. ⌜ (count ≤ r) × (r ≤ room) ⌝ }
+{
+    if room <= FEW {
+        return room;
+    }
+    count
+}
+
+// The first slot that holds the number, where none before slot `from` does, and that slot most likely; count if none does.
+pub fn confirm(
+    t: &[u8],
+    start: usize,
+    from: SlotNumber,
+    count: usize,
+    slot: usize,
+    bie: usize,
+    high: u64,
+    low: u64,
+) -> SlotNumber
+    requires { ⌜ Row (now t) start slot bie count × (high * 2 ^ 64 + low < 2 ^ bie) × (from .0 < count) ⌝ }
+    requires { ⌜ ((k : ℕ) → k < from .0 → field (now t) (start + k * slot) bie ≡ high * 2 ^ 64 + low → ⊥) ⌝ }
+    ensures { λ r. ⌜ First (now (t .entry)) start slot bie (high * 2 ^ 64 + low) count (r .0) ⌝ }
+{
+    if holds(&t[..], start + from.0 * slot, bie, high, low) {
+        return from;
+    }
+    scan_from(
+        &t[..],
+        start,
+        SlotNumber(from.0 + 1),
+        count,
+        slot,
+        bie,
+        high,
+        low,
+    )
+}
+
+// The first of `count` slots that holds the number, from 0; count if none does. A window of each slot is looked at first.
+// The block has room for `room` slots.
+pub fn scan(
+    t: &[u8],
+    start: usize,
+    count: usize,
+    room: usize,
+    slot: usize,
+    bie: usize,
+    high: u64,
+    low: u64,
+) -> SlotNumber
+    requires { ⌜ Row (now t) start slot bie room × (count ≤ room) × (high * 2 ^ 64 + low < 2 ^ bie) ⌝ }
+    ensures { λ r. ⌜ First (now (t .entry)) start slot bie (high * 2 ^ 64 + low) count (r .0) ⌝ }
+{
+    let n = looked_at(count, room);
+    let from = SlotNumber(candidate(t, start, n, slot, bie, high, low));
+    if from.0 >= count {
+        return SlotNumber(count);
+    }
+    scan_from(t, start, from, count, slot, bie, high, low)
+}
+
+// The first of the slots that holds the entry, where their first bits are what they count as.
+fn scan_seen(t: &[u8], b: Slots, slot: usize, bie: usize, entry: Key) -> SlotNumber
+    requires { ⌜ Row (now t) (b .start) slot bie (b .count) × (b .start + b .link ≤ 8 * length (now t)) × (b .link ≤ 16) × (b .head < 2 ^ b .link) × (keyNumber entry < 2 ^ bie) ⌝ }
+    ensures { λ r. ⌜ First (shown (now (t .entry)) b) (b .start) slot bie (keyNumber entry) (b .count) (r .0) ⌝ }
+{
+    let mut at = b.start;
+    let mut j: usize = 0;
+    while j < b.count {
+        if same_entry(t, b, at, bie, entry) {
+            return SlotNumber(j);
+        }
+        at += slot;
+        j += 1;
+    }
+    SlotNumber(j)
+}
+
+// Whether slot 0, whose first `link` bits count as `head`, holds the number. Its last bits, which are not displaced, are
+// looked at first.
+fn first_holds(
+    t: &[u8],
+    start: usize,
+    link: usize,
+    head: u64,
+    bie: usize,
+    high: u64,
+    low: u64,
+) -> bool
+    requires { ⌜ (start + bie ≤ 8 * length (now t)) × (start + bie ≤ 2 ^ 27) × (bie ≤ 128) × (high * 2 ^ 64 + low < 2 ^ bie) ⌝ }
+    requires { ⌜ (link < bie) × (link ≤ 16) × (head < 2 ^ link) ⌝ }
+    ensures { λ r. ⌜ r ≡ eqb (field (putField (now (t .entry)) start link head) start bie) (high * 2 ^ 64 + low) ⌝ }
+{
+    let m = least(bie - link, 57);
+    if bits::get_short(t, start + (bie - m), m) != low % pow(m) {
+        return false;
+    }
+    let b = Slots {
+        start: start,
+        count: 1,
+        link: link,
+        head: head,
+    };
+    let number = Key {
+        high: high,
+        low: low,
+    };
+    same_entry(&t[..], b, start, bie, number)
+}
+
+// The same as `scan` of the slots of a basic block that overflows, whose first `link` bits count as `head`. Unless they
+// reach past the entry of slot 0, the other slots are read as they stand.
+pub fn scan_displaced(
+    t: &[u8],
+    start: usize,
+    count: usize,
+    room: usize,
+    link: usize,
+    head: u64,
+    slot: usize,
+    bie: usize,
+    high: u64,
+    low: u64,
+) -> SlotNumber
+    requires { ⌜ Row (now t) start slot bie room × (count ≤ room) × (high * 2 ^ 64 + low < 2 ^ bie) ⌝ }
+    requires { ⌜ (start + link ≤ 8 * length (now t)) × (link ≤ 16) × (head < 2 ^ link) ⌝ }
+    ensures { λ r. ⌜ First (putField (now (t .entry)) start link head) start slot bie (high * 2 ^ 64 + low) count (r .0) ⌝ }
+{
+    if count == 0 {
+        return SlotNumber(0);
+    }
+    if link >= bie {
+        let b = Slots {
+            start: start,
+            count: count,
+            link: link,
+            head: head,
+        };
+        let number = Key {
+            high: high,
+            low: low,
+        };
+        return scan_seen(&t[..], b, slot, bie, number);
+    }
+    if first_holds(t, start, link, head, bie, high, low) {
+        return SlotNumber(0);
+    }
+    let j = scan(
+        &t[..],
+        start + slot,
+        count - 1,
+        room - 1,
+        slot,
+        bie,
+        high,
+        low,
+    );
+    SlotNumber(1 + j.0)
+}
+
+// The label of val bits from bit `at` on, among the slots.
+pub fn label_at(t: &[u8], b: Slots, at: usize, val: usize) -> u32
+    requires { ⌜ View (now t) b at val × (val ≤ 32) ⌝ }
+    ensures { λ r. ⌜ r ≡ field (shown (now (t .entry)) b) at val ⌝ }
+{
+    if at >= b.start + b.link {
+        return bits::get(t, at, val) as u32;
+    }
+    seen(&t[..], b, at, val) as u32
+}
+
+// The label in slot j.
+pub fn label_in(t: &[u8], g: Layout, b: Slots, j: SlotNumber) -> u32
+    requires { ⌜ Proper g × Run g (now t) b × (j .0 < b .count) ⌝ }
+    ensures { λ r. ⌜ r ≡ labelOf g (getD (slotsIn g (now (t .entry)) b) (j .0) 0) ⌝ }
+{
+    seen(t, b, b.start + j.0 * g.slot + g.bie, g.val) as u32
+}

@@ -1,0 +1,264 @@
+-- Laws of counting records: slot n of slots in two rows, and record n of the lists from one on.
+use mathlib.Core.Path.{_≡_, refl, sym, ap, ap₂, _∙_}
+use mathlib.Core.List.{List, _∷_, _++_}
+use mathlib.Core.Option.{Option, none, some}
+use Prim.Native.Nat.{ℕ, suc, _+_, _-_, _*_, _^_, _≤_, _<_}
+use native.Mathlib.Omega.{arith}
+use native.Mathlib.Decide.{decLe}
+use lib.ListN.{length, getD, take, drop, length-append, List·getD-append, drop-of-length-le}
+use lib.Seq.{getD-append-add, drop-cons}
+use lib.Dec.{ltb}
+use borrow.Author.Tests.{lt-ltb, le-ltb, ltb-true, ltb-false}
+use Rattle.bits.specs.Field.{field}
+use Rattle.bits.specs.theory.Fields.{field-lt, field-fits, field-cat}
+use Rattle.settings.specs.Proper.{Proper}
+use Rattle.settings.specs.Sizes.{bie, lists}
+use Rattle.settings.specs.Layout.{layoutOf}
+use Rattle.keys.specs.Key.{keyNumber, keyOf, rebuilt}
+use Rattle.settings.specs.theory.Cases.{cases}
+use Rattle.keys.specs.theory.Keys.{number-key, key-from}
+use Rattle.settings.specs.declared.settings.Settings.{Settings}
+use Rattle.keys.specs.declared.Key.{Key}
+use Rattle.settings.specs.declared.layout.Layout.{Layout}
+use Rattle.settings.specs.declared.refusal.Refusal.the-variants as refusal
+use Rattle.table.specs.State.{Basic, Overflow, State, mkBasic, basicAt, overflowAt, unpack, entryOf}
+use Rattle.table.specs.Decode.{readBasic, decode}
+use Rattle.table.specs.Table.{Table}
+use Rattle.table.specs.Follow.{Seen, contentOf, content}
+use Rattle.table.specs.Record.{recordFrom, recordIn}
+use Rattle.table_read.specs.Steps.{shown, View, Run, slotsIn, basicRun, displacedRun, overflowRun, lastFrom, Followed, Overflows, gatherFrom}
+use Rattle.table_record.specs.RecordSteps.{slotNth, nthOf, nthIn, Bounded, recordsFrom}
+use Rattle.table.specs.theory.Arrays.{length-tab}
+use Rattle.table_read.specs.theory.Reads.{slots-length, slot-inside, entry-in, unpack-length, basic-slots-in, displaced-slots-in, overflow-slots-in, link-lt}
+use Rattle.table_read.specs.theory.Walks.{turn, followed, content-short, content-bad, content-long}
+use Rattle.table_read.specs.declared.slots.Slots.{Slots}
+use Rattle.table.specs.declared.answers.RecordAnswer.{RecordAnswer}
+use Rattle.table.specs.declared.answers.RecordAnswer.the-variants as answer
+use Rattle.table_record.specs.declared.Nth.{Nth}
+use Rattle.table_record.specs.declared.Nth.the-variants as nth
+
+module _ (g : Layout) where
+  -- ---- slot n of a row
+
+  pub nth-here : (es : List ℕ) (n : ℕ) → n < length es → nthOf g es n ≡ slotNth g (getD es n 0)
+  unfolding nthOf
+  nth-here es n h = rw (lt-ltb n (length es) h)
+
+  pub nth-past : (es : List ℕ) (n : ℕ) → length es ≤ n → nthOf g es n ≡ nth.Past (n - length es)
+  unfolding nthOf
+  nth-past es n h = rw (le-ltb n (length es) h)
+
+  -- ---- slot n of two rows
+
+  pub nth-first : (xs ys : List ℕ) (n : ℕ) → n < length xs → nthOf g (xs ++ ys) n ≡ nthOf g xs n
+  nth-first xs ys n h =
+      nth-here (xs ++ ys) n (omega (arith, length-append xs ys))
+      ∙ ap (slotNth g) (List·getD-append xs ys 0 n h)
+      ∙ sym (nth-here xs n h)
+
+  pub nth-second : (xs ys : List ℕ) (n : ℕ) → length xs ≤ n → nthOf g (xs ++ ys) n ≡ nthOf g ys (n - length xs)
+  nth-second xs ys n h =
+      let e : n ≡ length xs + (n - length xs) = omega arith in
+      let l = length-append xs ys in
+      cases (ltb (n - length xs) (length ys))
+      (λ p.
+      let q : n - length xs < length ys = ltb-true (n - length xs) (length ys) p in
+      nth-here (xs ++ ys) n (omega arith)
+      ∙ ap (slotNth g) (ap (λ (k : ℕ). getD (xs ++ ys) k 0) e ∙ getD-append-add xs ys (n - length xs) 0)
+      ∙ sym (nth-here ys (n - length xs) q))
+      (λ p.
+      let q : length ys ≤ n - length xs = ltb-false (n - length xs) (length ys) p in
+      let d : n - length (xs ++ ys) ≡ n - length xs - length ys = omega arith in
+      nth-past (xs ++ ys) n (omega arith) ∙ ap nth.Past d ∙ sym (nth-past ys (n - length xs) q))
+
+  -- ---- what is no slot has no entry
+
+  pub bounded-past : (m : ℕ) → Bounded g (nth.Past m)
+  bounded-past m = record { below = λ k l e. let z : _≡_ {A = ℕ} 0 1 = cc in absurd (omega arith) }
+
+  pub bounded-damage : Bounded g nth.Damage
+  bounded-damage = record { below = λ k l e. let z : _≡_ {A = ℕ} 0 1 = cc in absurd (omega arith) }
+
+  pub bounded-slot : (k : Key) (l : ℕ) → keyNumber k < 2 ^ g .bie → Bounded g (nth.Slot k l)
+  bounded-slot k l h = record { below = λ k' l' e. let z : k ≡ k' = cc in rw z at h }
+
+-- ---- a slot's entry
+
+-- a field of up to 128 bits as a key, of one number and of two
+module _ (s : List ℕ) (at n : ℕ) where
+  pub short-key : n ≤ 64 → (k : Key) → k .high ≡ 0 → k .low ≡ field s at n → k ≡ keyOf (field s at n)
+  unfolding keyNumber
+  short-key h k e f = key-from k (omega (arith, field-fits s at n 64 h)) (omega arith)
+
+  pub long-key : 64 < n → (k : Key) → k .high ≡ field s at (n - 64) → k .low ≡ field s (at + (n - 64)) 64 → k ≡ keyOf (field s at n)
+  unfolding keyNumber
+  long-key h k e f =
+      let z : n - 64 + 64 ≡ n = omega arith in
+      let w : field s at n ≡ field s at (n - 64) * 2 ^ 64 + field s (at + (n - 64)) 64 = ap (field s at) (sym z) ∙ field-cat s at (n - 64) 64 in
+      key-from k (omega (arith, field-lt s (at + (n - 64)) 64)) (omega arith)
+
+module _ (g : Layout) (F : Proper g) (t : List ℕ) (b : Slots) (j : ℕ) (l : j < b .count) where
+  pub entry-view : Run g t b → View t b (b .start + j * g .slot) (g .bie)
+  entry-view R =
+      let h = slot-inside g t b j l in
+      record {
+        from = omega arith;
+        ends = omega (arith, R .ends, F .slot-is);
+        near = omega (arith, R .near, F .slot-is);
+        block = R .block;
+        link = R .link;
+        fits = R .fits;
+      }
+
+  pub entry-bound : (k : Key) → k ≡ keyOf (entryOf g (getD (slotsIn g t b) j 0)) → keyNumber k < 2 ^ g .bie
+  entry-bound k e =
+      rw (e, number-key (entryOf g (getD (slotsIn g t b) j 0)), entry-in g t b F j l) (field-lt (shown t b) (b .start + j * g .slot) (g .bie))
+
+-- ---- the slots of an overflow block, and those of the blocks behind it
+
+module _ (g : Layout) (t : List ℕ) (T : Table g t) (k b c : ℕ) (run : Slots) (f : Followed g k (decode g t .overflow) b)
+    (count-is : c ≡ overflowAt (decode g t .overflow) b .counter) (run-is : run ≡ overflowRun g b c) where
+  row-is : slotsIn g t run ≡ take (suc (overflowAt (decode g t .overflow) b .counter)) (overflowAt (decode g t .overflow) b .slots)
+  row-is =
+      ap (slotsIn g t) run-is
+      ∙ overflow-slots-in g t T b c (turn g (decode g t .overflow) k b f .low)
+      ∙ ap (λ (n : ℕ). take (suc n) (overflowAt (decode g t .overflow) b .slots)) count-is
+
+  row-last : c < g .sio → gatherFrom g k (decode g t .overflow) b ≡ slotsIn g t run
+  row-last h = turn g (decode g t .overflow) k b f .last (omega arith) ∙ sym row-is
+
+  row-more : g .sio ≤ c → gatherFrom g k (decode g t .overflow) b
+      ≡ slotsIn g t run ++ gatherFrom g (k - 1) (decode g t .overflow) (overflowAt (decode g t .overflow) b .link)
+  row-more h =
+      let u = turn g (decode g t .overflow) k b f in
+      u .more (omega (arith, u .count)) ∙ ap (_++ gatherFrom g (k - 1) (decode g t .overflow) (overflowAt (decode g t .overflow) b .link)) (sym row-is)
+
+  pub nth-in-block : (m : ℕ) → m < run .count → nthOf g (slotsIn g t run) m ≡ nthOf g (gatherFrom g k (decode g t .overflow) b) m
+  nth-in-block m h =
+      let l : m < length (slotsIn g t run) = omega (arith, slots-length g t run) in
+      pick l (decLe (g .sio) c)
+    where
+      pick : m < length (slotsIn g t run) → Dec (g .sio ≤ c) → nthOf g (slotsIn g t run) m ≡ nthOf g (gatherFrom g k (decode g t .overflow) b) m
+      pick l (yes p) = rw (row-more p) (sym (nth-first g _ _ m l))
+      pick l (no p) = rw (row-last (omega arith))
+
+  pub nth-past-last : (m : ℕ) → run .count ≤ m → c < g .sio → nth.Past (m - run .count) ≡ nthOf g (gatherFrom g k (decode g t .overflow) b) m
+  nth-past-last m h l =
+      let e = slots-length g t run in
+      sym (ap (λ (es : List ℕ). nthOf g es m) (row-last l) ∙ nth-past g (slotsIn g t run) m (omega arith) ∙ ap (λ (k : ℕ). nth.Past (m - k)) e)
+
+  pub nth-past-block : (m : ℕ) → run .count ≤ m → g .sio ≤ c
+      → nthOf g (gatherFrom g (k - 1) (decode g t .overflow) (overflowAt (decode g t .overflow) b .link)) (m - run .count) ≡ nthOf g (gatherFrom g k (decode g t .overflow) b) m
+  nth-past-block m h l =
+      let e = slots-length g t run in
+      let d : m - run .count ≡ m - length (slotsIn g t run) = omega arith in
+      sym
+      (ap (λ (es : List ℕ). nthOf g es m) (row-more l)
+      ∙ nth-second g (slotsIn g t run) _ m (omega arith)
+      ∙ ap (nthOf g (gatherFrom g (k - 1) (decode g t .overflow) (overflowAt (decode g t .overflow) b .link))) (sym d))
+
+-- ---- a list's slots
+
+module _ (g : Layout) (t : List ℕ) (T : Table g t) (i n : ℕ) (l : i < g .lists) where
+  pub nth-damaged : content g (decode g t) i ≡ none → nth.Damage ≡ nthIn g (content g (decode g t) i) n
+  unfolding nthIn
+  nth-damaged e = sym (ap (λ (o : Option Seen). nthIn g o n) e)
+
+  -- those of a list without overflow blocks
+  pub nth-short : (run : Slots) (c : ℕ) → c ≡ basicAt (decode g t .basic) i .counter → c ≤ g .sib → run ≡ basicRun g i c
+      → nthOf g (slotsIn g t run) n ≡ nthIn g (content g (decode g t) i) n
+  unfolding nthIn
+  nth-short run c ec low er =
+      let k : basicAt (decode g t .basic) i .counter ≤ g .sib = omega arith in
+      ap (λ (b : Slots). nthOf g (slotsIn g t b) n) (er ∙ ap (basicRun g i) ec)
+      ∙ ap (λ (es : List ℕ). nthOf g es n) (basic-slots-in g t T i (basicAt (decode g t .basic) i .counter) l k)
+      ∙ sym (ap (λ (o : Option Seen). nthIn g o n) (content-short g (decode g t) i k))
+
+  -- those of a list whose overflow blocks start at h and end with z
+  module _ (h z : ℕ) (over : Overflows g (decode g t) i h) (last-is : z ≡ lastFrom g (g .nob) (decode g t .overflow) h) where
+    last-at : lastFrom g (g .nob) (decode g t .overflow) (basicAt (decode g t .basic) i .head) ≡ z
+    last-at = sym (last-is ∙ ap (lastFrom g (g .nob) (decode g t .overflow)) (over .head))
+
+    pub nth-unended : g .nob ≤ z → nth.Damage ≡ nthIn g (content g (decode g t) i) n
+    nth-unended bad = nth-damaged (content-bad g (decode g t) i (over .counter) (omega (arith, last-at)))
+
+    module _ (sound : z < g .nob) where
+      pub list-followed : Followed g (g .nob) (decode g t .overflow) h
+      list-followed = followed g (decode g t .overflow) (g .nob) h (omega arith)
+
+      abbrev first : List ℕ
+      first = unpack g (overflowAt (decode g t .overflow) z .link) (basicAt (decode g t .basic) i .rest)
+
+      first-length : length first ≡ g .sib
+      first-length = unpack-length g (overflowAt (decode g t .overflow) z .link) (basicAt (decode g t .basic) i .rest)
+
+      nth-list : nthIn g (content g (decode g t) i) n ≡ nthOf g (first ++ gatherFrom g (g .nob) (decode g t .overflow) h) n
+      unfolding nthIn
+      nth-list =
+          let f = followed g (decode g t .overflow) (g .nob) (basicAt (decode g t .basic) i .head) (omega (arith, last-at)) in
+          ap (λ (o : Option Seen). nthIn g o n) (content-long g (decode g t) i (over .counter) f)
+          ∙ ap₂ (λ (x y : ℕ). nthOf g (unpack g (overflowAt (decode g t .overflow) x .link) (basicAt (decode g t .basic) i .rest) ++ gatherFrom g (g .nob) (decode g t .overflow) y) n) last-at (sym (over .head))
+
+      pub nth-displaced : (run : Slots) (d : ℕ) → d ≡ overflowAt (decode g t .overflow) z .link → run ≡ displacedRun g i d → n < g .sib
+          → nthOf g (slotsIn g t run) n ≡ nthIn g (content g (decode g t) i) n
+      nth-displaced run d ed er low =
+          ap (λ (b : Slots). nthOf g (slotsIn g t b) n) (er ∙ ap (displacedRun g i) ed)
+          ∙ ap (λ (es : List ℕ). nthOf g es n) (displaced-slots-in g t T i (overflowAt (decode g t .overflow) z .link) l (link-lt g t T z sound))
+          ∙ sym (nth-list ∙ nth-first g first _ n (omega (arith, first-length)))
+
+      pub nth-behind : g .sib ≤ n → nthOf g (gatherFrom g (g .nob) (decode g t .overflow) h) (n - g .sib) ≡ nthIn g (content g (decode g t) i) n
+      nth-behind high =
+          sym
+          (nth-list
+          ∙ nth-second g first _ n (omega (arith, first-length))
+          ∙ ap (λ (k : ℕ). nthOf g (gatherFrom g (g .nob) (decode g t .overflow) h) (n - k)) first-length)
+
+-- ---- the lists in a row
+
+module _ (s : Settings) where
+  -- what slot n of list i comes to, and else the lists behind it
+  abbrev pub onNth : ℕ → Nth → (ℕ → RecordAnswer) → RecordAnswer
+  onNth i (nth.Slot k l) on = answer.Record (keyOf (rebuilt s i (keyNumber k))) l
+  onNth i (nth.Past m) on = on m
+  onNth i nth.Damage on = answer.Refused refusal.Damage
+
+  record-turn : (i : ℕ) (b : Basic) (bs : List Basic) (os : List Overflow) (n : ℕ) (o : Option Seen) → contentOf (layoutOf s) b os ≡ o
+      → recordFrom s i (b ∷ bs) os n ≡ onNth i (nthIn (layoutOf s) o n) (λ m. recordFrom s (suc i) bs os m)
+  unfolding recordFrom nthIn nthOf
+  record-turn i b bs os n none e = rw e
+  record-turn i b bs os n (some v) e =
+      cases (ltb n (length (v .slots)))
+      (λ p. rw (e, p, number-key))
+      (λ p. rw (e, p))
+
+  module _ (st : State) where
+    pub records-all : (n : ℕ) → recordsFrom s st 0 n ≡ recordIn s st n
+    unfolding recordsFrom recordIn
+    records-all n = refl
+
+    pub records-none : (i n : ℕ) → length (st .basic) ≤ i → recordsFrom s st i n ≡ answer.None
+    unfolding recordsFrom recordFrom
+    records-none i n h = rw (drop-of-length-le (st .basic) h)
+
+    pub records-turn : (g : Layout) → layoutOf s ≡ g → (i n : ℕ) → i < length (st .basic) → (r : Nth) → r ≡ nthIn g (content g st i) n
+        → recordsFrom s st i n ≡ onNth i r (λ m. recordsFrom s st (suc i) m)
+    unfolding recordsFrom content
+    records-turn g e i n h r w =
+        ap (λ (bs : List Basic). recordFrom s i bs (st .overflow) n) (drop-cons (st .basic) i (mkBasic 0 0 0) h)
+        ∙ record-turn i (basicAt (st .basic) i) (drop (suc i) (st .basic)) (st .overflow) n (contentOf (layoutOf s) (basicAt (st .basic) i) (st .overflow)) refl
+        ∙ ap (λ (x : Nth). onNth i x (λ m. recordFrom s (suc i) (drop (suc i) (st .basic)) (st .overflow) m))
+        (ap (λ (x : Layout). nthIn x (contentOf x (basicAt (st .basic) i) (st .overflow)) n) e ∙ sym w)
+
+-- as many lists as index bits tell, and entries of bie bits
+module _ (s : Settings) (g : Layout) (e : layoutOf s ≡ g) where
+  pub lists-are : g .lists ≡ 2 ^ s .bii
+  unfolding layoutOf lists
+  lists-are = sym (ap (λ (x : Layout). x .lists) e)
+
+  pub bie-is : g .bie ≡ bie s
+  unfolding layoutOf
+  bie-is = sym (ap (λ (x : Layout). x .bie) e)
+
+pub basic-count : (g : Layout) (t : List ℕ) → length (decode g t .basic) ≡ g .lists
+unfolding decode
+basic-count g t = length-tab (g .lists) (readBasic g t)

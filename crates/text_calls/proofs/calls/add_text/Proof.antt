@@ -1,0 +1,76 @@
+-- What was admitted decides: the call with the key, or its refusal, which leaves every byte.
+use mathlib.Core.Path.{_≡_, sym, ap, _∙_}
+use mathlib.Core.List.{List}
+use Prim.Native.Nat.{ℕ}
+use denote.Ref.{now}
+use borrow.Author.Needs.{needs}
+use Rattle.keys.specs.declared.Key.{Key}
+use Rattle.table.specs.Calls.{addAnswer, addBytes}
+use Rattle.table.specs.declared.answers.AddAnswer.{AddAnswer}
+use Rattle.table.specs.declared.answers.AddAnswer.the-variants as adding
+use Rattle.settings.specs.declared.refusal.Refusal.{Refusal}
+use Rattle.text_read.specs.declared.Parsed.{Parsed}
+use Rattle.text_calls.specs.TextCalls.{byReading, admittedOf, addTextAnswer, addTextBytes}
+use Rattle.text_calls.specs.theory.TextCalls.{with-admitted}
+use Rattle.text_calls.proofs.calls.add_text.Statement.{statement}
+use Rattle.text_calls.proofs.calls.add_text.Tie as tie
+
+-- the answer and the bytes, by what was admitted
+module _ (a : tie.Start) (p : Parsed) (e : admittedOf (a .args .s) (now (a .args .t)) (now (a .args .text)) ≡ p) where
+  answered : addTextAnswer (a .args .s) (now (a .args .t)) (now (a .args .text)) (a .args .label) ≡ byReading adding.Refused p (λ (k : Key). addAnswer (a .args .s) (now (a .args .t)) k (a .args .label))
+  unfolding addTextAnswer
+  answered =
+      with-admitted adding.Refused (a .args .s) (now (a .args .t)) (now (a .args .text)) (λ (k : Key). addAnswer (a .args .s) (now (a .args .t)) k (a .args .label))
+      ∙ ap (λ (q : Parsed). byReading adding.Refused q (λ (k : Key). addAnswer (a .args .s) (now (a .args .t)) k (a .args .label))) e
+
+  left : addTextBytes (a .args .s) (now (a .args .t)) (now (a .args .text)) (a .args .label) ≡ byReading (λ (why : Refusal). now (a .args .t)) p (λ (k : Key). addBytes (a .args .s) (now (a .args .t)) k (a .args .label))
+  unfolding addTextBytes
+  left =
+      with-admitted (λ (why : Refusal). now (a .args .t)) (a .args .s) (now (a .args .t)) (now (a .args .text)) (λ (k : Key). addBytes (a .args .s) (now (a .args .t)) k (a .args .label))
+      ∙ ap (λ (q : Parsed). byReading (λ (why : Refusal). now (a .args .t)) q (λ (k : Key). addBytes (a .args .s) (now (a .args .t)) k (a .args .label))) e
+
+admit-requires : tie.Need-admit-requires
+admit-requires c κs = search needs
+
+enum-known-key : tie.Need-enum-known-key
+enum-known-key c = search needs
+
+add-requires : tie.Need-add-requires
+add-requires c κs = search needs
+
+enum-known-why : tie.Need-enum-known-why
+enum-known-why c = search needs
+
+same-length : tie.Need-same-length
+same-length c = search needs
+
+returns : tie.Need-returns
+returns c =
+    let d = c .before .before in
+    let k = d .before .before .before in
+    let a = k .before .before .before .before .before .before in
+    let e = sym (k .before .before .admit .ensures) ∙ k .key .given .1 in
+    (d .add .ensures .answer ∙ sym (answered a _ e), d .add .ensures .bytes ∙ sym (left a _ e))
+
+same-length-2 : tie.Need-same-length-2
+same-length-2 c = search needs
+
+returns-2 : tie.Need-returns-2
+returns-2 c =
+    let w = c .before in
+    let a = w .before .before .before .before .before .before in
+    let e = sym (w .before .before .admit .ensures) ∙ w .why .given .1 in
+    (sym (answered a _ e), sym (left a _ e))
+
+pub add-text-spec : {M : Type 1} → statement M
+add-text-spec =
+    tie.close
+    (tie.spec
+    admit-requires
+    enum-known-key
+    add-requires
+    enum-known-why
+    same-length
+    returns
+    same-length-2
+    returns-2)

@@ -1,0 +1,34 @@
+-- Words that only the contracts of the writer's private functions use.
+use mathlib.Core.Path.{_≡_}
+use Prim.Native.Nat.{ℕ, _+_, _*_, _/_, _%_, _≤_, _<_}
+use mathlib.Core.Bool.{cond}
+use mathlib.Core.List.{List, [], _∷_, _++_}
+use lib.Dec.{leb}
+use Rattle.keys.specs.declared.Key.{Key}
+use Rattle.text_write.specs.Writing.{groupText, fourGroups, zeros, longest}
+
+-- the eight groups of a key
+unfoldable pub keyGroups : Key → List ℕ
+keyGroups k = fourGroups (k .high) ++ fourGroups (k .low)
+
+-- four bytes as one number, the first in the lowest place, and back
+abbrev pub packed : ℕ → ℕ → ℕ → ℕ → ℕ
+packed a b c d = a + b * 256 + c * 65536 + d * 16777216
+
+abbrev pub unpacked : ℕ → List ℕ
+unpacked x = x % 256 ∷ x / 256 % 256 ∷ x / 65536 % 256 ∷ x / 16777216 % 256 ∷ []
+
+-- the text of groups with a colon (58) after each
+unfoldable pub closedText : List ℕ → List ℕ
+closedText [] = []
+closedText (g ∷ l) = groupText g ++ 58 ∷ closedText l
+
+-- a bit for each place of the list, the first in the lowest: n zero groups stand from there on
+unfoldable pub runMarks : ℕ → List ℕ → ℕ
+runMarks n [] = 0
+runMarks n (g ∷ l) = runMarks n l * 2 + cond (leb n (zeros (g ∷ l))) 1 0
+
+-- the run that "::" stands for: fewer than two groups if none does
+pub record Gap (l : List ℕ) (start count : ℕ) : Type 0 where
+  pub none : count < 2 → longest l .1 < 2
+  pub some : 2 ≤ count → (start ≡ longest l .0) × (count ≡ longest l .1)

@@ -1,4 +1,0 @@
--- Words of contracts.
-pub mod Rows
--- Laws of them.
-pub mod theory
