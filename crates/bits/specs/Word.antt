@@ -1,5 +1,5 @@
 -- The steps of loading and storing eight bytes at once. "Fields are most significant bit first", so the first byte of
--- eight is the highest; the code takes it as the lowest, and then turns all eight round. Only private contracts cite these.
+-- eight is the highest; the code takes it as the lowest, and then turns all eight round. No call's own contract cites these.
 use mathlib.Core.List.{List}
 use Prim.Native.Nat.{ℕ, _+_, _*_, _/_, _%_}
 use lib.ListN.{getD, set}

@@ -3,4 +3,5 @@ pub mod Fields
 pub mod Puts
 pub mod Numbers
 pub mod Words
+pub mod Zeros
 pub mod Examples

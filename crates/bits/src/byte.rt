@@ -8,7 +8,7 @@ ghost use Rattle.bits.specs.Field.{field};
 ghost use Rattle.bits.specs.Put.{putField};
 
 // b as a number of 64 bits. The bound is for callers, who must show that their sums fit.
-pub fn long(b: u8) -> u64
+pub(crate) fn long(b: u8) -> u64
     ensures { λ r. ⌜ (r ≡ b) × (r < 256) ⌝ }
 {
     b as u64

@@ -8,11 +8,12 @@ mod word;
 pub use number::join;
 pub use number::part_of_two;
 pub use number::pow;
+pub use word::store_four;
 pub use word::turn;
 ghost use mathlib.Core.Path.{_≡_};
 ghost use Prim.Native.Nat.{_+_, _*_, _/_, _^_, _≤_, _<_};
 ghost use lib.Dec.{eqb};
-ghost use lib.ListN.{length};
+ghost use lib.ListN.{length, replicate};
 ghost use Rattle.bits.specs.Field.{field};
 ghost use Rattle.bits.specs.Put.{putField};
 ghost use Rattle.bits.specs.Within.{Within};
@@ -133,4 +134,15 @@ pub fn four_is(s: &[u8], i: usize, q: u64) -> bool
     ensures { λ r. ⌜ r ≡ eqb (field (now (s .entry)) (8 * i) 32) (turned (q * 2 ^ 32)) ⌝ }
 {
     word::low_first_four(s, i) == q
+}
+
+// Every byte becomes zero.
+pub fn zero_bytes(s: &mut [u8])
+    ensures { λ _. ⌜ now (s .exit) ≡ replicate (length (now (s .entry))) 0 ⌝ }
+{
+    let mut i: usize = 0;
+    while i < s.len() {
+        s[i] = 0;
+        i += 1;
+    }
 }

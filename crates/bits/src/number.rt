@@ -13,7 +13,7 @@ pub fn pow(k: usize) -> u64
 }
 
 // The m bits of x above its k low ones.
-pub fn part(x: u64, k: usize, m: usize) -> u64
+pub(crate) fn part(x: u64, k: usize, m: usize) -> u64
     requires { ⌜ (0 < m) × (k + m ≤ 64) ⌝ }
     ensures { λ r. ⌜ r ≡ x / 2 ^ k % 2 ^ m ⌝ }
 {
@@ -22,7 +22,7 @@ pub fn part(x: u64, k: usize, m: usize) -> u64
 
 // x, with the m bits above its k low ones replaced by v. The old bits are taken off and the new ones
 // put on, so that it needs no mask.
-pub fn replace(x: u64, k: usize, m: usize, v: u64) -> u64
+pub(crate) fn replace(x: u64, k: usize, m: usize, v: u64) -> u64
     requires { ⌜ (0 < m) × (k + m ≤ 64) × (v < 2 ^ m) ⌝ }
     ensures { λ r. ⌜ r ≡ replaced x k m v ⌝ }
 {
@@ -39,7 +39,7 @@ pub fn join(x: u64, t: usize, y: u64) -> u64
 }
 
 // The 64 bits of high * 2^64 + low above its k low ones, which are some of low.
-pub fn across(high: u64, low: u64, k: usize) -> u64
+pub(crate) fn across(high: u64, low: u64, k: usize) -> u64
     requires { ⌜ (0 < k) × (k < 64) ⌝ }
     ensures { λ r. ⌜ r ≡ (high * 2 ^ 64 + low) / 2 ^ k % 2 ^ 64 ⌝ }
 {

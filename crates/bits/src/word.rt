@@ -11,7 +11,7 @@ ghost use Rattle.bits.specs.Put.{putField};
 ghost use Rattle.bits.specs.Word.{lowFirst, lowFirstFour, turned, setFour};
 
 // The eight bytes from i on, the first one lowest.
-pub fn low_first(s: &[u8], i: usize) -> u64
+pub(crate) fn low_first(s: &[u8], i: usize) -> u64
     requires { ⌜ i + 8 ≤ length (now s) ⌝ }
     ensures { λ r. ⌜ r ≡ lowFirst (now (s .entry)) i ⌝ }
 {
@@ -26,7 +26,7 @@ pub fn low_first(s: &[u8], i: usize) -> u64
 }
 
 // The four bytes from i on, the first one lowest.
-pub fn low_first_four(s: &[u8], i: usize) -> u64
+pub(crate) fn low_first_four(s: &[u8], i: usize) -> u64
     requires { ⌜ i + 4 ≤ length (now s) ⌝ }
     ensures { λ r. ⌜ r ≡ lowFirstFour (now (s .entry)) i ⌝ }
 {
@@ -64,7 +64,7 @@ fn low_byte(x: u64) -> u8
 
 // The four bytes from i on become the four low bytes of x, the lowest first. Four, and not eight, keep
 // the proof short; two calls still make one store.
-fn store_four(s: &mut [u8], i: usize, x: u64)
+pub fn store_four(s: &mut [u8], i: usize, x: u64)
     requires { ⌜ i + 4 ≤ length (now s) ⌝ }
     ensures { λ _. ⌜ now (s .exit) ≡ setFour (now (s .entry)) i x ⌝ }
 {

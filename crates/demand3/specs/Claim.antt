@@ -1,6 +1,5 @@
 -- Demand 3, "One claim over the list of calls, whatever its length": document 01, "The plain set of demand 3".
 use mathlib.Core.Path.{_≡_}
-use mathlib.Core.Bool.{true}
 use mathlib.Core.List.{List, [], _∷_, _++_}
 use mathlib.Core.Option.{Option, none, some}
 use Prim.Native.Nat.{ℕ}
@@ -8,14 +7,11 @@ use lib.ListN.{length, take, drop}
 use Rattle.settings.specs.declared.settings.Settings.{Settings}
 use Rattle.keys.specs.declared.Key.{Key}
 use Rattle.keys.specs.Key.{keyNumber}
-use Rattle.settings.specs.Layout.{layoutOf}
-use Rattle.table.specs.Decode.{decode}
-use Rattle.table.specs.Rebuilt.{Pair, rebuiltPairs}
+use Rattle.table.specs.Rebuilt.{Pair}
 use Rattle.plain_set.specs.Set.{Call, Answer, Step, setStep}
 use Rattle.plain_set.specs.Set as set
 use Rattle.plain_set.specs.Holds.{Holds}
 use Rattle.plain_set.specs.Plain.{plainFind, plainAdd, plainDelete}
-use Rattle.table.specs.Check.{tableSound}
 use Rattle.table.specs.Calls.{findAnswer, addAnswer, addBytes, deleteAnswer, deleteBytes}
 use Rattle.text_read.specs.Answers.{readingOf}
 use Rattle.text_read.specs.declared.Parsed.{Parsed}

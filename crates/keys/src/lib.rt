@@ -22,6 +22,9 @@ pub struct BlockNumber(pub usize);
 
 pub struct SlotNumber(pub usize);
 
+// "free start: first free overflow block, nob if none". No block's number: it is one once nob is excluded.
+pub struct FreeStart(pub usize);
+
 // Where a key belongs: its list, and what a slot of the list stores of it.
 pub struct Place {
     pub list: ListNumber,

@@ -3,8 +3,9 @@ use mathlib.Core.Path.{_≡_}
 use mathlib.Core.Bool.{Bool}
 use mathlib.Core.List.{List}
 use Prim.Native.Nat.{ℕ, _≤_}
+use Rattle.laws.specs.Folds.{count}
 use Rattle.table.specs.Rebuilt.{Pair}
-use Rattle.plain_set.specs.Set.{count, hasKey}
+use Rattle.plain_set.specs.Set.{hasKey}
 
 -- as many pairs of either pass any test
 abbrev pub SamePairs : List Pair → List Pair → Type 0

@@ -5,13 +5,13 @@ use mathlib.Core.Bool.{Bool, cond, _&&_}
 use mathlib.Core.List.{List, [], _∷_}
 use mathlib.Core.Option.{Option, none, some}
 use lib.Dec.{eqb, leb, ltb}
+use Rattle.laws.specs.Folds.{count, sumBelow}
 use Rattle.settings.specs.declared.settings.Settings.{Settings}
 use Rattle.settings.specs.declared.refusal.Refusal.{Refusal}
 use Rattle.settings.specs.declared.refusal.Refusal.the-variants as refusal
 use Rattle.settings.specs.Sizes.{lists, tableBytes}
 use Rattle.settings.specs.Legal.{legal}
 use Rattle.keys.specs.Key.{listNumber}
-use Rattle.table.specs.Arrays.{sumBelow}
 use Rattle.table.specs.Rebuilt.{Pair, pair}
 
 -- Calls and answers ------------------------------------------------------------------------------------------------------
@@ -33,11 +33,6 @@ pub data Answer : Type 0 where
   refused : Refusal → Answer
 
 -- Sets of pairs: "no key twice" ------------------------------------------------------------------------------------------
-
--- how many pairs pass a test
-abbrev pub count : {A : Type 0} → (A → Bool) → List A → ℕ
-count f [] = 0
-count f (x ∷ xs) = cond (f x) 1 0 + count f xs
 
 abbrev pub hasKey : ℕ → Pair → Bool
 hasKey k p = eqb (p .key) k
@@ -72,9 +67,13 @@ module _ (s : Settings) where
   abbrev pub noVacantSlot : ℕ → Bool
   noVacantSlot n = eqb (blocksUsed (suc n)) (suc (blocksUsed n))
 
+  -- the blocks that "all lists together use"
+  abbrev pub blocksNeeded : List Pair → ℕ
+  blocksNeeded ps = sumBelow (lists s) (λ i. blocksUsed (listLength ps i))
+
   -- "all lists together use nob blocks"
   abbrev pub allBlocksUsed : List Pair → Bool
-  allBlocksUsed ps = eqb (sumBelow (lists s) (λ i. blocksUsed (listLength ps i))) (s .nob)
+  allBlocksUsed ps = eqb (blocksNeeded ps) (s .nob)
 
   -- The steps: "Inputs are legal if none of codes 1 to 6 is due. Otherwise the call is refused with the lowest, and the set stays." --------
 

@@ -1,6 +1,5 @@
 -- Decimal digits: one, or those of a tenth and one more.
 use mathlib.Core.Path.{_≡_, refl, sym, ap, _∙_}
-use mathlib.Core.Bool.{cond}
 use mathlib.Core.List.{List, [], _∷_, _++_}
 use Prim.Native.Nat.{ℕ, zero, suc, _+_, _-_, _/_, _%_, _^_, _≤_, _<_}
 use native.Mathlib.Omega.{arith}
@@ -8,7 +7,7 @@ use lib.ListN.{length, length-append}
 use lib.Dec.{ltb}
 use lib.Pow.{pow-add}
 use borrow.Author.Tests.{lt-ltb, le-ltb, ltb-true, ltb-false}
-use Rattle.settings.specs.theory.Cases.{cases}
+use Rattle.laws.specs.Cases.{cases}
 use Rattle.program_answers.specs.Decimal.{decimalFrom, decimalText}
 
 -- more digits than enough are enough

@@ -1,12 +1,12 @@
 -- Texts put one behind the other.
-use mathlib.Core.Path.{_≡_, refl, sym, ap, _∙_}
-use mathlib.Core.List.{List, [], _∷_, _++_, append-assoc, append-nil}
-use Prim.Native.Nat.{ℕ, zero, suc, _+_, _≤_, _<_}
-use native.Mathlib.Nat.{add-zero}
+use mathlib.Core.Path.{_≡_, refl, ap, _∙_}
+use mathlib.Core.List.{List, [], _∷_, _++_, append-assoc}
+use Prim.Native.Nat.{ℕ, suc, _+_, _≤_, _<_}
 use native.Mathlib.Numerals.{add-one}
 use native.Mathlib.Omega.{arith}
 use lib.ListN.{length, getD, set, take, length-append}
-use lib.Seq.{take-suc, take-length, take-suc-set}
+use lib.Seq.{take-suc, take-suc-set}
+use Rattle.laws.specs.Lists.{take-stored}
 use Rattle.settings.specs.declared.refusal.Refusal.{Refusal}
 use Rattle.program_answers.specs.Answer.{refusedText, saidText, outcomeText}
 use Rattle.program_answers.specs.Steps.{Put, Wrote}
@@ -16,7 +16,7 @@ use Rattle.program_answers.specs.declared.outcome.Outcome.the-variants a
 
 -- one byte
 pub put-byte : (out : List ℕ) (at x : ℕ) → at < length out → Put (x ∷ []) out at (set out at x) (at + 1)
-put-byte out at x h = record { end = refl; is = rw (add-one at) (take-suc-set out at x h) }
+put-byte out at x h = record { end = refl; is = take-stored out at x h }
 
 -- one byte more of a text
 pub put-more : (text out₀ out : List ℕ) (at i : ℕ) → i < length text → at + i < length out → take (at + i) out ≡ take at out₀ ++ take i text

@@ -1,7 +1,6 @@
 -- What a command comes to: one of the four words with a label and the number compared, or a refusal.
 use Prim.Native.Nat.{ℕ}
 use mathlib.Core.List.{List}
-use Rattle.settings.specs.declared.refusal.Refusal.{Refusal}
 use Rattle.table.specs.declared.answers.FindAnswer.{FindAnswer}
 use Rattle.table.specs.declared.answers.FindAnswer.the-variants as finding
 use Rattle.table.specs.declared.answers.AddAnswer.{AddAnswer}
@@ -12,7 +11,6 @@ use Rattle.text_calls.specs.TextCalls.{findTextAnswer, addTextAnswer, addTextBy
 use Rattle.program_answers.specs.Program.{program}
 use Rattle.program_commands.specs.declared.command.Op.{Op}
 use Rattle.program_commands.specs.declared.command.Op.the-variants as op
-use Rattle.program_answers.specs.declared.outcome.Word.{Word}
 use Rattle.program_answers.specs.declared.outcome.Word.the-variants as word
 use Rattle.program_answers.specs.declared.outcome.Outcome.{Outcome}
 use Rattle.program_answers.specs.declared.outcome.Outcome.the-variants as outcome

@@ -115,7 +115,7 @@ fn deleted(answer: DeleteAnswer) -> Outcome
 
 // The command on the table. Each of the three starts with finding the key, so that find is there once, for the compiler
 // to join with what is known of the layout.
-pub fn apply(op: Op, label: u32, t: &mut [u8], key: Key) -> Outcome
+pub(crate) fn apply(op: Op, label: u32, t: &mut [u8], key: Key) -> Outcome
     requires { ⌜ 19617 ≤ length (now t) ⌝ }
     ensures { λ r. ⌜ Applied op label (now (t .entry)) key (now (t .exit)) r ⌝ }
 {

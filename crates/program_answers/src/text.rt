@@ -1,12 +1,11 @@
 // Words and numbers, put at a place of a lent buffer. Each function answers the place behind what it put.
-ghost use mathlib.Core.Path.{_≡_};
 ghost use Prim.Native.Nat.{_+_, _≤_, _<_};
 ghost use mathlib.Core.List.{[], _∷_};
 ghost use lib.ListN.{length};
 ghost use Rattle.program_answers.specs.Decimal.{decimalText};
 ghost use Rattle.program_answers.specs.Steps.{Put};
 
-pub fn put(text: &[u8], out: &mut [u8], at: usize) -> usize
+pub(crate) fn put(text: &[u8], out: &mut [u8], at: usize) -> usize
     requires { ⌜ at + length (now text) ≤ length (now out) ⌝ }
     ensures { λ r. ⌜ Put (now (text .entry)) (now (out .entry)) at (now (out .exit)) r ⌝ }
 {
@@ -40,7 +39,7 @@ fn put_digits(n: u32, out: &mut [u8], at: usize) -> usize
 }
 
 // A number. Labels and counts have one to three digits.
-pub fn put_decimal(n: u32, out: &mut [u8], at: usize) -> usize
+pub(crate) fn put_decimal(n: u32, out: &mut [u8], at: usize) -> usize
     requires { ⌜ at + 10 ≤ length (now out) ⌝ }
     ensures { λ r. ⌜ Put (decimalText n) (now (out .entry)) at (now (out .exit)) r ⌝ }
 {

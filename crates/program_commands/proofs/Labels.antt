@@ -9,15 +9,15 @@ use native.Mathlib.Numerals.{add-one}
 use native.Mathlib.Omega.{arith}
 use lib.Arith.{digits-lt}
 use lib.ListN.{length, getD, drop, length-drop, drop-of-length-le}
-use lib.Seq.{drop-cons}
 use lib.Dec.{eqb, leb, ltb, lit<}
 use borrow.Author.Tests.{lt-ltb, ltb-true, ltb-false, le-leb, lt-leb, leb-true, eq-eqb, ne-eqb, eqb-true}
-use Rattle.settings.specs.theory.Cases.{cases, both-true}
+use Rattle.laws.specs.Cases.{cases, both-true}
+use Rattle.laws.specs.Lists.{drop-next}
+use Rattle.laws.specs.Options.{when-some}
 use Rattle.text_read.specs.Class.{classOf}
 use Rattle.text_read.specs.Numerals.{digits, number, noLeadingZero}
 use Rattle.text_read.specs.Grammar.{decimalDigit}
 use Rattle.text_read.specs.theory.Bytes.{digit-class, class-decimal}
-use Rattle.text_read.specs.theory.Options.{when-some}
 use Rattle.text_read.specs.theory.Numerals.{digits-first}
 use Rattle.program_commands.specs.Command.{labelOf}
 use Rattle.program_commands.specs.Steps.{isDigit, labelNumber}
@@ -135,9 +135,6 @@ no-digit b e =
 
 -- Digit by digit -------------------------------------------------------------------------------------------------------
 
-next : (s : List ℕ) (i : ℕ) → i < length s → drop i s ≡ getD s i 0 ∷ drop (i + 1) s
-next s i h = rw (add-one, drop-cons s i 0)
-
 -- the digits of s from `at` to i are read, and v is their number
 pub record Read (s : List ℕ) (at i v : ℕ) : Type 0 where
   pub from : at ≤ i
@@ -158,15 +155,15 @@ module _ (s : List ℕ) (at i v : ℕ) (r : Read s at i v) where
         let k : i + 1 - at ≡ i - at + 1 = omega (arith, r .from) in
         record {
           from = omega (arith, r .from);
-          all = r .all ∙ rw (next s i h, d .class, lt-ltb (getD s i 0 - 48) 10 (omega arith));
-          value = r .value ∙ ap (number 10 v) (next s i h) ∙ ap (λ (k : ℕ). number 10 (v * 10 + k) (drop (i + 1) s)) (d .class);
+          all = r .all ∙ rw (drop-next s i 0 h, d .class, lt-ltb (getD s i 0 - 48) 10 (omega arith));
+          value = r .value ∙ ap (number 10 v) (drop-next s i 0 h) ∙ ap (λ (k : ℕ). number 10 (v * 10 + k) (drop (i + 1) s)) (d .class);
           small = rw (k, add-one, pow-suc) (digits-lt (r .small) (omega arith));
         }
 
     -- a byte that is no digit
     pub read-other : isDigit (getD s i 0) ≡ false → labelOf (drop at s) ≡ none
     unfolding digits
-    read-other e = label-other (drop at s) (r .all ∙ rw (next s i h, no-digit (getD s i 0) e))
+    read-other e = label-other (drop at s) (r .all ∙ rw (drop-next s i 0 h, no-digit (getD s i 0) e))
 
     -- a third digit at most is to come
     pub read-small : length s ≤ at + 3 → v < 100
@@ -188,14 +185,14 @@ module _ (s : List ℕ) (at : ℕ) (h : at < length s) (j : ℕ) where
   zero-first e k =
       let p = both-true (eqb (getD s at 0) 48) (ltb j (length s)) e in
       let l : at + 1 < length s = omega (arith, ltb-true j (length s) (p .1)) in
-      label-zero (drop at s) (rw (next s at h, next s (at + 1) l, eqb-true (getD s at 0) 48 (p .0)))
+      label-zero (drop at s) (rw (drop-next s at 0 h, drop-next s (at + 1) 0 l, eqb-true (getD s at 0) 48 (p .0)))
 
   pub zero-not-first : (eqb (getD s at 0) 48 && ltb j (length s)) ≡ false → j ≤ at + 1 → noLeadingZero (drop at s) ≡ true
   unfolding noLeadingZero
   zero-not-first e k =
       cases (ltb (at + 1) (length s))
-      (λ t. let l = ltb-true (at + 1) (length s) t in rw (next s at h, next s (at + 1) l, ne-eqb (classOf (getD s at 0)) 0 (other l)))
-      (λ t. let l : length s ≤ at + 1 = ltb-false (at + 1) (length s) t in rw (next s at h, drop-of-length-le s l))
+      (λ t. let l = ltb-true (at + 1) (length s) t in rw (drop-next s at 0 h, drop-next s (at + 1) 0 l, ne-eqb (classOf (getD s at 0)) 0 (other l)))
+      (λ t. let l : length s ≤ at + 1 = ltb-false (at + 1) (length s) t in rw (drop-next s at 0 h, drop-of-length-le s l))
     where
       -- the only byte of class 0 is '0'
       other : at + 1 < length s → classOf (getD s at 0) ≡ 0 → ⊥

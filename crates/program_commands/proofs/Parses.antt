@@ -9,7 +9,7 @@ use lib.ListN.{length, getD, take, drop, length-drop}
 use lib.Seq.{take-all}
 use lib.Dec.{eqb, leb, ltb}
 use borrow.Author.Tests.{ltb-true, ltb-false, le-leb, eq-eqb, ne-eqb, eqb-true, eqb-false}
-use Rattle.settings.specs.theory.Cases.{cases}
+use Rattle.laws.specs.Cases.{cases, cond-same}
 use Rattle.program_lines.specs.Ends.{before, firstFrom}
 use Rattle.program_lines.specs.theory.Ends.{first-after, first-le}
 use Rattle.program_commands.specs.Fields.{space, fields}
@@ -100,14 +100,9 @@ module _ (x y : List ℕ) where
 
 -- The lines that are no command, by their first bytes ------------------------------------------------------------------
 
-module _ {A : Type 0} (a b : A) where
-  same-arms : (t : Bool) → a ≡ b → cond t a b ≡ b
-  same-arms true e = e
-  same-arms false e = refl
-
 not-spelled : (l : List ℕ) → spelled l ≡ none → commandOf l ≡ none
 unfolding commandOf
-not-spelled l e = same-arms (spelled l) none (leb (length l) 64) e
+not-spelled l e = rw e (cond-same (leb (length l) 64) none)
 
 pub malformed : (l : List ℕ) → commandOf l ≡ none → Asks l answer.Malformed
 malformed l e = record { is = e ∙ (unfold requested in refl); bounded = tt }
@@ -118,7 +113,7 @@ short-line l h = not-spelled l (go l h)
     go : (l : List ℕ) → length l < 3 → spelled l ≡ none
     go [] h = unfold spelled in refl
     go (c ∷ []) h = unfold spelled in refl
-    go (c ∷ d ∷ []) h = unfold spelled fields in same-arms (asked c ([] ∷ [])) none (eqb d space) (no-address c [])
+    go (c ∷ d ∷ []) h = unfold spelled fields in rw (no-address c []) (cond-same (eqb d space) none)
     go (c ∷ d ∷ e ∷ l) h = absurd (omega arith)
 
 module _ (l : List ℕ) where

@@ -9,7 +9,7 @@ use lib.ListN.{length, getD, take, drop, length-take, length-drop}
 use lib.Seq.{getD-drop, drop-drop, split-at}
 use lib.Dec.{eqb, ltb}
 use borrow.Author.Tests.{eqb-true, eq-eqb, ne-eqb, ltb-true, ltb-false, lt-ltb, le-ltb}
-use Rattle.settings.specs.theory.Cases.{cases}
+use Rattle.laws.specs.Cases.{cases}
 use Rattle.settings.specs.declared.refusal.Refusal.the-variants as refusal
 use Rattle.program_lines.specs.Ends.{before, firstFrom}
 use Rattle.program_commands.specs.Fields.{space}

@@ -64,7 +64,7 @@ pub fn find_byte(s: &[u8], b: u8, at: usize) -> usize
 }
 
 // The covered function that the thin ones call.
-pub fn span_at(s: &[u8], at: usize) -> Span
+fn span_at(s: &[u8], at: usize) -> Span
     ensures { λ r. ⌜ r ≡ spanAt (now (s .entry)) at ⌝ }
 {
     let e = find_byte(s, b'\n', at);
@@ -76,7 +76,7 @@ pub fn span_at(s: &[u8], at: usize) -> Span
 }
 
 // The place behind the line at `at`, or the slice's length where no line feed is left.
-pub fn after_at(s: &[u8], at: usize) -> usize
+fn after_at(s: &[u8], at: usize) -> usize
     ensures { λ r. ⌜ r ≡ afterAt (now (s .entry)) at ⌝ }
 {
     let end = find_byte(s, b'\n', at);
@@ -89,14 +89,14 @@ pub struct Lines<'a> {
     pub at: usize,
 }
 
-pub fn lines_at<'a>(src: &'a [u8], at: usize) -> Lines<'a>
+fn lines_at<'a>(src: &'a [u8], at: usize) -> Lines<'a>
     ensures { λ r. ⌜ (r .src ≡ src .entry) × (r .at ≡ at) ⌝ }
 {
     Lines { src, at }
 }
 
 // What stands where the reader has come.
-pub fn next_line<'a>(l: Lines<'a>) -> Span
+fn next_line<'a>(l: Lines<'a>) -> Span
     ensures { λ s. ⌜ s ≡ spanAt (now (l .entry .src)) (l .entry .at) ⌝ }
 {
     span_at(l.src, l.at)

@@ -1,12 +1,12 @@
 -- The lines of bytes that come in two parts, and what is written for them.
 use mathlib.Core.Path.{_≡_, refl, sym, ap, _∙_}
 use mathlib.Core.List.{List, [], _∷_, _++_, append-nil}
-use mathlib.Core.Bool.{Bool, true, false}
 use Prim.Native.Nat.{ℕ, suc, _≤_, _<_}
 use native.Mathlib.Nat.{le-of-suc-le-suc}
 use native.Mathlib.Omega.{arith}
 use lib.ListN.{length, take, drop, length-append}
 use lib.Dec.{eqb}
+use Rattle.laws.specs.Cases.{cases}
 use Rattle.settings.specs.declared.refusal.Refusal.the-variants as refusal
 use Rattle.text_read.specs.Reading.{onFirst}
 use Rattle.program_lines.specs.Ends.{lineFeed, before}
@@ -14,11 +14,6 @@ use Rattle.program_answers.specs.Answer.{refusedText, lineText, lineTable}
 use Rattle.program_answers.specs.theory.Lines.{long-text, long-table}
 use Rattle.program_stream.specs.Output.{linesOf, answersTo, outputOf}
 use Rattle.program_stream.specs.Steps.{pastLine}
-
--- a test is true or false, and each case may use that it is
-cases : {A : Type 0} (t : Bool) → (t ≡ true → A) → (t ≡ false → A) → A
-cases true f g = f refl
-cases false f g = g refl
 
 -- ---- examples, where 97 and 98 are "a" and "b": the last line may lack its line feed, and nothing follows a final one
 

@@ -1,7 +1,6 @@
-pub mod Cases
+pub mod Arms
 pub mod Least
 pub mod Logs
-pub mod Tables
 pub mod Primes
 pub mod Legal
 pub mod Proper

@@ -39,7 +39,7 @@ pub enum Laid {
     Refused(Refusal),
 }
 
-pub fn wide(x: u32) -> usize
+pub(crate) fn wide(x: u32) -> usize
     ensures { λ r. ⌜ r ≡ x ⌝ }
 {
     x as usize

@@ -54,7 +54,7 @@ fn of_four(n: usize, k: usize) -> usize
 }
 
 // ⌈log2 n⌉ for n up to 65,536, and 0 for 0: a search by halves.
-pub fn ceil_log2(n: usize) -> usize
+pub(crate) fn ceil_log2(n: usize) -> usize
     ensures { λ r. ⌜ (n ≤ 65536 → r ≡ ceilLog2 n) ⌝ }
 {
     if n <= power(8) {
@@ -71,7 +71,7 @@ pub fn ceil_log2(n: usize) -> usize
 }
 
 // ⌈log2 n⌉ for n up to 1,024, in fewer steps: for the slots of a basic block.
-pub fn byte_log2(n: usize) -> usize
+pub(crate) fn byte_log2(n: usize) -> usize
     requires { ⌜ 2 ≤ n ⌝ }
     ensures { λ r. ⌜ (n ≤ 1024 → r ≡ ceilLog2 n) ⌝ }
 {
@@ -85,7 +85,7 @@ pub fn byte_log2(n: usize) -> usize
 }
 
 // ⌈log2 n⌉ for n up to 32, in still fewer: for the slots of an overflow block.
-pub fn small_log2(n: usize) -> usize
+pub(crate) fn small_log2(n: usize) -> usize
     ensures { λ r. ⌜ (n ≤ 32 → r ≡ ceilLog2 n) ⌝ }
 {
     if n <= power(1) {

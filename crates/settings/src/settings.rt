@@ -20,7 +20,7 @@ pub struct Lists(pub usize, pub u32);
 
 // A match is compiled to a table that is there once, where a constant array would be built anew at each use. No bii has
 // the last arm; if it were the arm of 16, a test would stand before the table.
-pub fn lists_of(bii: u32) -> Lists
+pub(crate) fn lists_of(bii: u32) -> Lists
     requires { ⌜ bii ≤ 16 ⌝ }
     ensures { λ r. ⌜ (r .0 ≡ 2 ^ bii) × (r .1 ≡ primeAbove bii) ⌝ }
 {

@@ -4,12 +4,12 @@ use mathlib.Core.List.{List}
 use Prim.Native.Nat.{ℕ}
 use lib.ListN.{length}
 use lib.Dec.{eqb, leb}
+use Rattle.laws.specs.Cases.{cases}
 use Rattle.settings.specs.declared.settings.Settings.{Settings}
 use Rattle.keys.specs.declared.Key.{Key}
 use Rattle.settings.specs.declared.refusal.Refusal.{Refusal}
 use Rattle.settings.specs.Sizes.{tableBytes}
 use Rattle.settings.specs.Legal.{legal}
-use Rattle.settings.specs.theory.Cases.{cases}
 use Rattle.table.specs.Calls.{findAnswer, addAnswer, addBytes, deleteAnswer, deleteBytes}
 use Rattle.table.specs.declared.answers.FindAnswer.the-variants as finding
 use Rattle.table.specs.declared.answers.AddAnswer.the-variants as adding

@@ -34,7 +34,7 @@ const UNSOUND: u32 = 7;
 const NO_KEY: Key = Key { high: 0, low: 0 };
 
 // A refusal: its number, and all else 0.
-pub fn refused(why: Refusal) -> Answer
+pub(crate) fn refused(why: Refusal) -> Answer
     ensures { λ r. ⌜ r ≡ refusedReply why ⌝ }
 {
     Answer {
@@ -75,7 +75,7 @@ fn counted(number: usize) -> Answer
     }
 }
 
-pub fn sized(a: Size) -> Answer
+pub(crate) fn sized(a: Size) -> Answer
     ensures { λ r. ⌜ r ≡ sizeReply a ⌝ }
 {
     match a {
@@ -84,7 +84,7 @@ pub fn sized(a: Size) -> Answer
     }
 }
 
-pub fn made(a: MakeAnswer) -> Answer
+pub(crate) fn made(a: MakeAnswer) -> Answer
     ensures { λ r. ⌜ r ≡ makeReply a ⌝ }
 {
     match a {
@@ -93,7 +93,7 @@ pub fn made(a: MakeAnswer) -> Answer
     }
 }
 
-pub fn added(key: Key, a: AddAnswer) -> Answer
+pub(crate) fn added(key: Key, a: AddAnswer) -> Answer
     ensures { λ r. ⌜ r ≡ addReply key a ⌝ }
 {
     match a {
@@ -103,7 +103,7 @@ pub fn added(key: Key, a: AddAnswer) -> Answer
     }
 }
 
-pub fn found(key: Key, a: FindAnswer) -> Answer
+pub(crate) fn found(key: Key, a: FindAnswer) -> Answer
     ensures { λ r. ⌜ r ≡ findReply key a ⌝ }
 {
     match a {
@@ -113,7 +113,7 @@ pub fn found(key: Key, a: FindAnswer) -> Answer
     }
 }
 
-pub fn deleted(key: Key, a: DeleteAnswer) -> Answer
+pub(crate) fn deleted(key: Key, a: DeleteAnswer) -> Answer
     ensures { λ r. ⌜ r ≡ deleteReply key a ⌝ }
 {
     match a {
@@ -123,7 +123,7 @@ pub fn deleted(key: Key, a: DeleteAnswer) -> Answer
     }
 }
 
-pub fn recorded(a: RecordAnswer) -> Answer
+pub(crate) fn recorded(a: RecordAnswer) -> Answer
     ensures { λ r. ⌜ r ≡ recordReply a ⌝ }
 {
     match a {
@@ -133,7 +133,7 @@ pub fn recorded(a: RecordAnswer) -> Answer
     }
 }
 
-pub fn checked(a: CheckAnswer) -> Answer
+pub(crate) fn checked(a: CheckAnswer) -> Answer
     ensures { λ r. ⌜ r ≡ checkReply a ⌝ }
 {
     match a {
@@ -143,7 +143,7 @@ pub fn checked(a: CheckAnswer) -> Answer
     }
 }
 
-pub fn parsed(a: Parsed) -> Answer
+pub(crate) fn parsed(a: Parsed) -> Answer
     ensures { λ r. ⌜ r ≡ readReply a ⌝ }
 {
     match a {
@@ -161,7 +161,7 @@ pub fn parsed(a: Parsed) -> Answer
     }
 }
 
-pub fn written(a: Written) -> Answer
+pub(crate) fn written(a: Written) -> Answer
     ensures { λ r. ⌜ r ≡ writeReply a ⌝ }
 {
     match a {

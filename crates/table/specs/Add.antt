@@ -7,57 +7,49 @@ use lib.ListN.{set}
 use lib.Dec.{ltb}
 use Rattle.settings.specs.declared.layout.Layout.{Layout}
 use Rattle.settings.specs.declared.refusal.Refusal.the-variants as refusal
-use Rattle.table.specs.Arrays.{padded}
-use Rattle.table.specs.State.{State, mkBasic, mkOverflow, mkState, basicAt, overflowAt, unpack, headOf, restOf, slotOf}
+use Rattle.table.specs.State.{Basic, Overflow, State, basicAt, overflowAt, ownSlots, basicOf, slotOf}
+use Rattle.table.specs.Updates.{withCounter, withFront, withSlot, withBasicFront, overBasic, overOverflow}
 use Rattle.table.specs.Follow.{Seen, lastOf, content}
 use Rattle.table.specs.Find.{isHeld, labelAt, comparedIn}
-use Rattle.table.specs.Take.{Done, damage, noBlock, done, nextFree, taking}
+use Rattle.table.specs.Done.{Done, done, Answered, unchanged, answered}
+use Rattle.table.specs.Take.{nextFree, taking, taken}
 use Rattle.table.specs.declared.answers.AddAnswer.{AddAnswer}
 use Rattle.table.specs.declared.answers.AddAnswer.the-variants as answer
 
+-- the slot x more in an overflow block. "Counter c below sio means c + 1 entries"
+abbrev pub oneMore : ℕ → Overflow → Overflow
+oneMore x o = withCounter (suc (o .counter)) (withSlot (suc (o .counter)) x o)
+
 module _ (g : Layout) where
-  -- the slot x at the end of list i, whose overflow blocks are bs. A block that is taken is zeroed; the displaced bits move to its link
+  -- the slot x more in a basic block
+  abbrev pub basicMore : ℕ → Basic → Basic
+  basicMore x b = basicOf g (suc (b .counter)) (set (ownSlots g b) (b .counter) x)
+
+  -- the slot x in the first free block, to which the list's last one now links. The displaced bits d move there
+  abbrev pub extended : State → List ℕ → ℕ → ℕ → (ℕ → State → State) → Done
+  extended st bs d x linkTo =
+      let f = st .free in
+      taking g st bs (done (taken g f (nextFree g (st .overflow) f) d x (linkTo f st)))
+
+  -- the slot x at the end of list i, whose overflow blocks are bs
   unfoldable pub append : State → ℕ → List ℕ → ℕ → Done
   append st i [] x =
       let b = basicAt (st .basic) i in
-      let body = set (unpack g (b .head) (b .rest)) (b .counter) x in
-      let f = st .free in
-      cond (ltb (b .counter) (g .sib))
-      (done (mkState f (set (st .basic) i (mkBasic (suc (b .counter)) (headOf g body) (restOf g body))) (st .overflow)))
-      (taking g st []
-      (done
-      (mkState (nextFree g (st .overflow) f)
-      (set (st .basic) i (mkBasic (suc (g .sib)) f (b .rest)))
-      (set (st .overflow) f (mkOverflow 0 (b .head) (padded (g .sio) (x ∷ [])))))))
+      cond (ltb (b .counter) (g .sib)) (done (overBasic i (basicMore x) st))
+      (extended st [] (b .head) x (λ f. overBasic i (withBasicFront (suc (g .sib)) f)))
   append st i (c ∷ cs) x =
       let l = lastOf c cs in
       let o = overflowAt (st .overflow) l in
-      let f = st .free in
-      cond (ltb (suc (o .counter)) (g .sio))
-      (done (mkState f (st .basic) (set (st .overflow) l (mkOverflow (suc (o .counter)) (o .link) (set (o .slots) (suc (o .counter)) x)))))
-      (taking g st (c ∷ cs)
-      (done
-      (mkState (nextFree g (st .overflow) f)
-      (st .basic)
-      (set (set (st .overflow) l (mkOverflow (g .sio) f (o .slots))) f (mkOverflow 0 (o .link) (padded (g .sio) (x ∷ [])))))))
+      cond (ltb (suc (o .counter)) (g .sio)) (done (overOverflow l (oneMore x) st))
+      (extended st (c ∷ cs) (o .link) x (λ f. overOverflow l (withFront (g .sio) f)))
 
-  -- an answer, and the state after it
-  pub record Adding : Type 0 where
-    pub answer : AddAnswer
-    pub after : State
-
-  abbrev pub appended : State → ℕ → ℕ → Done → Adding
-  appended st label n damage = record { answer = answer.Refused refusal.Damage; after = st }
-  appended st label n noBlock = record { answer = answer.Refused refusal.NoBlock; after = st }
-  appended st label n (done u) = record { answer = answer.Added label n; after = u }
-
-  unfoldable pub addSeen : State → ℕ → ℕ → ℕ → Option Seen → Adding
-  addSeen st i e label none = record { answer = answer.Refused refusal.Damage; after = st }
+  unfoldable pub addSeen : State → ℕ → ℕ → ℕ → Option Seen → Answered AddAnswer
+  addSeen st i e label none = unchanged st (answer.Refused refusal.Damage)
   addSeen st i e label (some v) =
-      cond (isHeld g e (v .slots))
-      (record { answer = answer.Held (labelAt g e (v .slots)) (comparedIn g e (v .slots)); after = st })
-      (appended st label (comparedIn g e (v .slots)) (append st i (v .blocks) (slotOf g e label)))
+      let n = comparedIn g e (v .slots) in
+      cond (isHeld g e (v .slots)) (unchanged st (answer.Held (labelAt g e (v .slots)) n))
+      (answered answer.Refused st (answer.Added label n) (append st i (v .blocks) (slotOf g e label)))
 
   -- add of the entry e with a label to list i
-  unfoldable pub addIn : State → ℕ → ℕ → ℕ → Adding
+  unfoldable pub addIn : State → ℕ → ℕ → ℕ → Answered AddAnswer
   addIn st i e label = addSeen st i e label (content g st i)

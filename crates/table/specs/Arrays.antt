@@ -1,7 +1,7 @@
--- Rows of numbers: tabulated, packed into one number, and unpacked again.
+-- Rows: tabulated, packed into one number, and unpacked again.
 use Prim.Native.Nat.{ℕ, zero, suc, _+_, _*_, _/_, _%_, _^_}
-use mathlib.Core.List.{List, [], _∷_}
-use lib.ListN.{length}
+use mathlib.Core.List.{List, [], _∷_, _++_}
+use lib.ListN.{length, drop, replicate}
 
 -- f 0, f 1, .. f (n - 1)
 abbrev pub tabulate : {A : Type 0} → ℕ → (ℕ → A) → List A
@@ -24,7 +24,6 @@ padded zero es = []
 padded (suc n) [] = 0 ∷ padded n []
 padded (suc n) (x ∷ es) = x ∷ padded n es
 
--- f 0 + f 1 + .. + f (n - 1)
-abbrev pub sumBelow : ℕ → (ℕ → ℕ) → ℕ
-sumBelow zero f = 0
-sumBelow (suc n) f = f 0 + sumBelow n (λ i. f (suc i))
+-- the row m with its first n numbers zero
+abbrev pub cleared : ℕ → List ℕ → List ℕ
+cleared n m = replicate n 0 ++ drop n m

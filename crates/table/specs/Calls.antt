@@ -16,8 +16,9 @@ use Rattle.keys.specs.Key.{keyNumber, listNumber, entry}
 use Rattle.table.specs.State.{State}
 use Rattle.table.specs.Decode.{decode, written}
 use Rattle.table.specs.Find.{findIn}
-use Rattle.table.specs.Add.{Adding, addIn}
-use Rattle.table.specs.Delete.{Deleting, deleteIn}
+use Rattle.table.specs.Done.{Answered}
+use Rattle.table.specs.Add.{addIn}
+use Rattle.table.specs.Delete.{deleteIn}
 use Rattle.table.specs.New.{newBytes}
 use Rattle.table.specs.Record.{recordIn}
 use Rattle.table.specs.Check.{tableSound, markBytes, marksAfter}
@@ -62,7 +63,7 @@ module _ (s : Settings) (t : List ℕ) where
       opened finding.Refused s t
       (keyed finding.Refused s (keyNumber k) (findIn (layoutOf s) held (listNumber s (keyNumber k)) (entry s (keyNumber k))))
 
-  abbrev pub adds : Key → ℕ → Adding (layoutOf s)
+  abbrev pub adds : Key → ℕ → Answered AddAnswer
   adds k label = addIn (layoutOf s) held (listNumber s (keyNumber k)) (entry s (keyNumber k)) label
 
   unfoldable pub addAnswer : Key → ℕ → AddAnswer
@@ -74,7 +75,7 @@ module _ (s : Settings) (t : List ℕ) where
       opened (λ r. t) s t
       (keyed (λ r. t) s (keyNumber k) (labelled (λ r. t) s label (written (layoutOf s) t (adds k label .after))))
 
-  abbrev pub deletes : Key → Deleting (layoutOf s)
+  abbrev pub deletes : Key → Answered DeleteAnswer
   deletes k = deleteIn (layoutOf s) held (listNumber s (keyNumber k)) (entry s (keyNumber k))
 
   unfoldable pub deleteAnswer : Key → DeleteAnswer

@@ -1,27 +1,18 @@
 -- Document 01, "Calls on a table": check, as a test that can be computed. `Sound` says the same in document 01's words, and theory proves it.
 use Prim.Native.Nat.{ℕ, zero, suc, _+_, _-_, _*_, _/_}
 use mathlib.Core.Bool.{Bool, true, false, cond, _&&_}
-use mathlib.Core.List.{List, [], _∷_, _++_}
+use mathlib.Core.List.{List, [], _∷_}
 use mathlib.Core.Option.{Option, none, some}
-use lib.ListN.{drop, replicate}
+use lib.ListN.{drop}
 use lib.Dec.{eqb, ltb}
+use Rattle.laws.specs.Folds.{every, everyBelow, allZero}
 use Rattle.bits.specs.Field.{field}
 use Rattle.settings.specs.declared.layout.Layout.{Layout}
-use Rattle.table.specs.State.{Basic, Overflow, State, overflowAt, unpack, entryOf}
+use Rattle.table.specs.Arrays.{cleared}
+use Rattle.table.specs.State.{Basic, Overflow, State, overflowAt, ownSlots, entryOf}
 use Rattle.table.specs.Decode.{decode}
 use Rattle.table.specs.Follow.{Seen, cons?, contentOf}
 use Rattle.table.specs.Take.{occurs}
-
-abbrev pub every : {A : Type 0} → (A → Bool) → List A → Bool
-every f [] = true
-every f (x ∷ xs) = f x && every f xs
-
-abbrev pub everyBelow : ℕ → (ℕ → Bool) → Bool
-everyBelow zero f = true
-everyBelow (suc n) f = f zero && everyBelow n (λ i. f (suc i))
-
-abbrev pub allZero : List ℕ → Bool
-allZero xs = every (λ x. eqb x 0) xs
 
 -- the overflow blocks of a list that was followed
 abbrev pub blocksOf : Option Seen → List ℕ
@@ -31,7 +22,7 @@ blocksOf (some v) = v .blocks
 module _ (g : Layout) where
   -- "Unused slots .. are zero"
   abbrev pub basicUnused : Basic → List ℕ → Bool
-  basicUnused b [] = allZero (drop (b .counter) (unpack g (b .head) (b .rest)))
+  basicUnused b [] = allZero (drop (b .counter) (ownSlots g b))
   basicUnused b (c ∷ cs) = true
 
   abbrev pub overflowUnused : List Overflow → ℕ → Bool
@@ -98,4 +89,4 @@ module _ (g : Layout) where
   markBytes = (g .nob + 7) / 8
 
   unfoldable pub marksAfter : List ℕ → List ℕ
-  marksAfter m = replicate markBytes 0 ++ drop markBytes m
+  marksAfter m = cleared markBytes m

@@ -1,96 +1,74 @@
 -- Document 01, "Calls on a table": delete. ""none", or "gone" with the label; the list's last slot moves into the hole and the slot left vacant
 -- is zeroed. An emptied overflow block goes to the front of the free chain."
 use Prim.Native.Nat.{ℕ, _-_}
-use mathlib.Core.Bool.{cond}
+use mathlib.Core.Bool.{Bool, false, cond}
 use mathlib.Core.List.{List, [], _∷_}
 use mathlib.Core.Option.{Option, none, some}
 use lib.ListN.{length, getD, set}
 use lib.Dec.{ltb}
 use Rattle.settings.specs.declared.layout.Layout.{Layout}
 use Rattle.settings.specs.declared.refusal.Refusal.the-variants as refusal
-use Rattle.table.specs.Arrays.{padded}
-use Rattle.table.specs.State.{Overflow, State, mkBasic, mkOverflow, mkState, basicAt, overflowAt, unpack, headOf, restOf}
-use Rattle.table.specs.Follow.{Seen, lastOf, prevOf, content}
+use Rattle.table.specs.State.{Basic, Overflow, State, overflowAt, ownSlots, basicOf}
+use Rattle.table.specs.Updates.{withCounter, withFront, withSlot, withBasicFront, overBasic, overOverflow}
+use Rattle.table.specs.Follow.{Seen, lastOf, content}
 use Rattle.table.specs.Find.{position, isHeld, labelAt, comparedIn}
-use Rattle.table.specs.Take.{Done, damage, noBlock, done, linkFree}
+use Rattle.table.specs.Done.{Done, damage, done, Answered, unchanged, answered}
+use Rattle.table.specs.Take.{freed}
+use Rattle.table.specs.Store.{storeAt}
+use Rattle.table.specs.declared.step.Before.{Before}
+use Rattle.table.specs.declared.step.Before.the-variants as prior
 use Rattle.table.specs.declared.answers.DeleteAnswer.{DeleteAnswer}
 use Rattle.table.specs.declared.answers.DeleteAnswer.the-variants as answer
 
+-- the last slot of an overflow block off, and zeroed
+abbrev pub lastSlotOff : Overflow → Overflow
+lastSlotOff o = withCounter (o .counter - 1) (withSlot (o .counter) 0 o)
+
+-- what stands before the last of the overflow blocks c and then cs, where p stands before c
+abbrev pub priorOf : Before → ℕ → List ℕ → Before
+priorOf p c [] = p
+priorOf p c (d ∷ ds) = priorOf (prior.Block (record { 0 = c })) d ds
+
 module _ (g : Layout) where
-  -- the slot x into place q of the overflow blocks bs, counted through them
-  unfoldable pub pokeOverflow : List Overflow → List ℕ → ℕ → ℕ → List Overflow
-  pokeOverflow os [] q x = os
-  pokeOverflow os (b ∷ bs) q x =
-      cond (ltb q (g .sio))
-      (set os b (mkOverflow (overflowAt os b .counter) (overflowAt os b .link) (set (overflowAt os b .slots) q x)))
-      (pokeOverflow os bs (q - g .sio) x)
+  -- the last slot of a basic block off, and zeroed
+  abbrev pub basicSlotOff : Basic → Basic
+  basicSlotOff b = basicOf g (b .counter - 1) (set (ownSlots g b) (b .counter - 1) 0)
 
-  -- the slot x into place p of list i. In an overflowing basic block the first L bits of the slots stand in the last block's link
-  unfoldable pub poke : State → ℕ → List ℕ → ℕ → ℕ → State
-  poke st i [] p x =
-      let b = basicAt (st .basic) i in
-      let body = set (unpack g (b .head) (b .rest)) p x in
-      mkState (st .free) (set (st .basic) i (mkBasic (b .counter) (headOf g body) (restOf g body))) (st .overflow)
-  poke st i (c ∷ cs) p x =
-      let b = basicAt (st .basic) i in
-      let l = lastOf c cs in
-      let o = overflowAt (st .overflow) l in
-      let body = set (unpack g (o .link) (b .rest)) p x in
-      cond (ltb p (g .sib))
-      (mkState (st .free)
-      (set (st .basic) i (mkBasic (b .counter) (b .head) (restOf g body)))
-      (set (st .overflow) l (mkOverflow (o .counter) (headOf g body) (o .slots))))
-      (mkState (st .free) (st .basic) (pokeOverflow (st .overflow) (c ∷ cs) (p - g .sib) x))
+  -- the displaced bits, the link of the last block l, handed to the overflow block before it, which is the last now, or back to basic block i
+  unfoldable pub handedBack : ℕ → ℕ → Before → State → State
+  handedBack i l prior.Basic st = overBasic i (withBasicFront (g .sib) (overflowAt (st .overflow) l .link)) st
+  handedBack i l (prior.Block p) st = overOverflow (p .0) (withFront (g .sio - 1) (overflowAt (st .overflow) l .link)) st
 
-  -- the last slot of list i off, and its block freed if that was its only one. "when freeing one, free start above nob" is damage
+  -- the last slot of list i off, where l is its last block, with p before it; l is freed if that was its only slot
+  unfoldable pub shrinkAt : ℕ → ℕ → Before → State → State
+  shrinkAt i l p st =
+      cond (ltb 0 (overflowAt (st .overflow) l .counter)) (overOverflow l lastSlotOff st) (freed g l (handedBack i l p st))
+
+  -- a last block with the counter n would be freed, and cannot: "when freeing one, free start above nob" is damage
+  unfoldable pub cannotFree : ℕ → State → Bool
+  cannotFree n st = cond (ltb 0 n) false (ltb (g .nob) (st .free))
+
+  -- the last slot off list i, whose overflow blocks are bs
   unfoldable pub shrink : State → ℕ → List ℕ → Done
-  shrink st i [] =
-      let b = basicAt (st .basic) i in
-      let body = set (unpack g (b .head) (b .rest)) (b .counter - 1) 0 in
-      done (mkState (st .free) (set (st .basic) i (mkBasic (b .counter - 1) (headOf g body) (restOf g body))) (st .overflow))
-  shrink st i (c ∷ []) =
-      let b = basicAt (st .basic) i in
-      let o = overflowAt (st .overflow) c in
-      cond (ltb 0 (o .counter))
-      (done (mkState (st .free) (st .basic) (set (st .overflow) c (mkOverflow (o .counter - 1) (o .link) (set (o .slots) (o .counter) 0)))))
-      (cond (ltb (g .nob) (st .free)) damage
-      (done
-      (mkState c
-      (set (st .basic) i (mkBasic (g .sib) (o .link) (b .rest)))
-      (set (st .overflow) c (mkOverflow 0 (linkFree g (st .free) c) (padded (g .sio) []))))))
-  shrink st i (c ∷ d ∷ ds) =
-      let l = lastOf d ds in
-      let p = prevOf c d ds in
-      let o = overflowAt (st .overflow) l in
-      let q = overflowAt (st .overflow) p in
-      cond (ltb 0 (o .counter))
-      (done (mkState (st .free) (st .basic) (set (st .overflow) l (mkOverflow (o .counter - 1) (o .link) (set (o .slots) (o .counter) 0)))))
-      (cond (ltb (g .nob) (st .free)) damage
-      (done
-      (mkState l
-      (st .basic)
-      (set (set (st .overflow) p (mkOverflow (g .sio - 1) (o .link) (q .slots))) l
-      (mkOverflow 0 (linkFree g (st .free) l) (padded (g .sio) []))))))
+  shrink st i [] = done (overBasic i basicSlotOff st)
+  shrink st i (c ∷ cs) =
+      let l = lastOf c cs in
+      cond (cannotFree (overflowAt (st .overflow) l .counter) st) damage (done (shrinkAt i l (priorOf prior.Basic c cs) st))
 
-  -- an answer, and the state after it
-  pub record Deleting : Type 0 where
-    pub answer : DeleteAnswer
-    pub after : State
+  -- the slot in place p out of list i: "the list's last slot moves into the hole"
+  abbrev pub takeOut : State → ℕ → Seen → ℕ → Done
+  takeOut st i v p =
+      let es = v .slots in
+      shrink (storeAt g st i (v .blocks) p (getD es (length es - 1) 0)) i (v .blocks)
 
-  abbrev pub shrunk : State → ℕ → ℕ → Done → Deleting
-  shrunk st label n damage = record { answer = answer.Refused refusal.Damage; after = st }
-  shrunk st label n noBlock = record { answer = answer.Refused refusal.NoBlock; after = st }
-  shrunk st label n (done u) = record { answer = answer.Gone label n; after = u }
-
-  unfoldable pub deleteSeen : State → ℕ → ℕ → Option Seen → Deleting
-  deleteSeen st i e none = record { answer = answer.Refused refusal.Damage; after = st }
+  unfoldable pub deleteSeen : State → ℕ → ℕ → Option Seen → Answered DeleteAnswer
+  deleteSeen st i e none = unchanged st (answer.Refused refusal.Damage)
   deleteSeen st i e (some v) =
       let es = v .slots in
-      let x = getD es (length es - 1) 0 in
-      cond (isHeld g e es)
-      (shrunk st (labelAt g e es) (comparedIn g e es) (shrink (poke st i (v .blocks) (position g e es) x) i (v .blocks)))
-      (record { answer = answer.None (comparedIn g e es); after = st })
+      let n = comparedIn g e es in
+      cond (isHeld g e es) (answered answer.Refused st (answer.Gone (labelAt g e es) n) (takeOut st i v (position g e es)))
+      (unchanged st (answer.None n))
 
   -- delete of the entry e from list i
-  unfoldable pub deleteIn : State → ℕ → ℕ → Deleting
+  unfoldable pub deleteIn : State → ℕ → ℕ → Answered DeleteAnswer
   deleteIn st i e = deleteSeen st i e (content g st i)

@@ -6,7 +6,9 @@ use mathlib.Core.Option.{Option, none, some}
 use lib.ListN.{take}
 use lib.Dec.{eqb, ltb}
 use Rattle.settings.specs.declared.layout.Layout.{Layout}
-use Rattle.table.specs.State.{Basic, Overflow, State, basicAt, overflowAt, unpack}
+use Rattle.table.specs.State.{Basic, Overflow, State, basicAt, overflowAt, unpack, ownSlots}
+use Rattle.table.specs.declared.step.Step.{Step}
+use Rattle.table.specs.declared.step.Step.the-variants.{Last, Further, Damage}
 
 -- the last of a list that is not empty, and the last but one of a list of two or more
 abbrev pub lastOf : ℕ → List ℕ → ℕ
@@ -29,16 +31,31 @@ abbrev pub cons? : ℕ → Option (List ℕ) → Option (List ℕ)
 cons? b none = none
 cons? b (some bs) = some (b ∷ bs)
 
+-- block c comes next
+abbrev pub further : ℕ → Step
+further c = Further (record { 0 = c })
+
+-- what an overflow block with counter c and link l says of the way on. "Counter c below sio means c + 1 entries; sio means full with a further
+-- block"; "an overflow counter above sio" is damage
+unfoldable pub stepOf : ℕ → ℕ → ℕ → Step
+stepOf sio c l = cond (ltb c sio) Last (cond (eqb c sio) (further l) Damage)
+
+-- after a block whose step is given: xs, if that was the last, or what `on` says of the next block
+abbrev pub goOn : Step → List ℕ → (ℕ → Option (List ℕ)) → Option (List ℕ)
+goOn Last xs on = some xs
+goOn (Further c) xs on = on (c .0)
+goOn Damage xs on = none
+
 module _ (g : Layout) where
+  -- the step of block b
+  abbrev pub stepAt : List Overflow → ℕ → Step
+  stepAt os b = stepOf (g .sio) (overflowAt os b .counter) (overflowAt os b .link)
+
   -- the overflow blocks from b to the list's end. None is damage: "an overflow counter above sio, a followed link of nob or more, more than
-  -- nob overflow blocks followed". "Counter c below sio means c + 1 entries; sio means full with a further block."
+  -- nob overflow blocks followed"
   abbrev pub follow : ℕ → List Overflow → ℕ → Option (List ℕ)
   follow zero os b = none
-  follow (suc n) os b =
-      let on = cons? b (follow n os (overflowAt os b .link)) in
-      cond (ltb b (g .nob))
-      (cond (ltb (overflowAt os b .counter) (g .sio)) (some (b ∷ [])) (cond (eqb (overflowAt os b .counter) (g .sio)) on none))
-      none
+  follow (suc n) os b = cond (ltb b (g .nob)) (goOn (stepAt os b) (b ∷ []) (λ c. cons? b (follow n os c))) none
 
   abbrev pub gather : List Overflow → List ℕ → List ℕ
   gather os [] = []
@@ -56,7 +73,7 @@ module _ (g : Layout) where
   contentOf b os =
       let on = contentOver b os (follow (g .nob) os (b .head)) in
       cond (ltb (b .counter) (suc (g .sib)))
-      (some (seen [] (take (b .counter) (unpack g (b .head) (b .rest)))))
+      (some (seen [] (take (b .counter) (ownSlots g b))))
       (cond (eqb (b .counter) (suc (g .sib))) on none)
 
   -- list i, followed to its end

@@ -1,10 +1,13 @@
 -- Definitions: what a reader must believe, in document 01's order.
 pub mod Arrays
 pub mod State
+pub mod Updates
 pub mod Decode
 pub mod Follow
 pub mod Find
+pub mod Done
 pub mod Take
+pub mod Store
 pub mod Add
 pub mod Delete
 pub mod New

@@ -6,13 +6,13 @@ use mathlib.Core.List.{List, [], _∷_}
 use mathlib.Core.Option.{some}
 use Prim.Native.Nat.{ℕ, _+_, _-_, _*_, _≤_, _<_}
 use lib.ListN.{length, getD}
+use Rattle.laws.specs.Folds.{sumBelow}
 use Rattle.bits.specs.Field.{field}
 use Rattle.settings.specs.declared.layout.Layout.{Layout}
-use Rattle.table.specs.State.{Overflow, State, basicAt, overflowAt, unpack, entryOf}
+use Rattle.table.specs.State.{Overflow, State, basicAt, overflowAt, ownSlots, entryOf}
 use Rattle.table.specs.Decode.{decode}
 use Rattle.table.specs.Follow.{Seen, content}
 use Rattle.table.specs.Take.{occurs}
-use Rattle.table.specs.Arrays.{sumBelow}
 
 module _ (g : Layout) where
   -- each link leads to an overflow block; "The last free block links to itself."
@@ -38,7 +38,7 @@ module _ (g : Layout) where
     pub once : (j : ℕ) → j < g .nob → sumBelow (g .lists) (λ i. occurs j (lists i .blocks)) + occurs j chain ≡ 1
     -- "Unused slots, and counters and slots of free blocks, are zero."
     pub basic-zero : (i k : ℕ) → i < g .lists → basicAt (st .basic) i .counter ≤ g .sib → basicAt (st .basic) i .counter ≤ k
-        → getD (unpack g (basicAt (st .basic) i .head) (basicAt (st .basic) i .rest)) k 0 ≡ 0
+        → getD (ownSlots g (basicAt (st .basic) i)) k 0 ≡ 0
     pub overflow-zero : (i j k : ℕ) → i < g .lists → 0 < occurs j (lists i .blocks) → overflowAt (st .overflow) j .counter < k
         → getD (overflowAt (st .overflow) j .slots) k 0 ≡ 0
     pub free-counter : (j : ℕ) → 0 < occurs j chain → overflowAt (st .overflow) j .counter ≡ 0

@@ -2,7 +2,7 @@
 use Prim.Native.Nat.{ℕ, _-_, _*_, _+_, _/_, _%_, _^_}
 use mathlib.Core.List.{List, []}
 use lib.ListN.{getD}
-use Rattle.table.specs.Arrays.{packed, unpacked}
+use Rattle.table.specs.Arrays.{packed, unpacked, padded}
 use Rattle.settings.specs.declared.layout.Layout.{Layout}
 
 -- A basic block's slots are kept as their first L bits, `head`, and the `rest`: "An overflowing basic block has the first block's number in
@@ -31,13 +31,25 @@ mkOverflow n l es = record { counter = n; link = l; slots = es }
 abbrev pub mkState : ℕ → List Basic → List Overflow → State
 mkState f bs os = record { free = f; basic = bs; overflow = os }
 
+-- a basic block with no entries, which also stands for one whose number no block has
+abbrev pub emptyBasic : Basic
+emptyBasic = mkBasic 0 0 0
+
+-- what stands for an overflow block whose number no block has
+abbrev pub absentBlock : Overflow
+absentBlock = mkOverflow 0 0 []
+
 abbrev pub basicAt : List Basic → ℕ → Basic
-basicAt bs i = getD bs i (mkBasic 0 0 0)
+basicAt bs i = getD bs i emptyBasic
 
 abbrev pub overflowAt : List Overflow → ℕ → Overflow
-overflowAt os j = getD os j (mkOverflow 0 0 [])
+overflowAt os j = getD os j absentBlock
 
 module _ (g : Layout) where
+  -- an overflow block that is zero but for its link: "A block taken or freed is zeroed before its new fields are set."
+  abbrev pub emptyBlock : ℕ → Overflow
+  emptyBlock l = mkOverflow 0 l (padded (g .sio) [])
+
   -- the bits of a basic block's slots behind its first L
   abbrev pub restBits : ℕ
   restBits = g .sib * g .slot - g .link
@@ -51,6 +63,13 @@ module _ (g : Layout) where
 
   unfoldable pub restOf : List ℕ → ℕ
   restOf es = packed (g .slot) es % 2 ^ restBits
+
+  -- the slots of a basic block as they stand, and a block with the counter n whose slots, as they stand, are es
+  abbrev pub ownSlots : Basic → List ℕ
+  ownSlots b = unpack (b .head) (b .rest)
+
+  abbrev pub basicOf : ℕ → List ℕ → Basic
+  basicOf n es = mkBasic n (headOf es) (restOf es)
 
   -- "A slot is bie + val bits, entry first."
   abbrev pub entryOf : ℕ → ℕ

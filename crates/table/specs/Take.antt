@@ -1,21 +1,17 @@
 -- Document 01, "Calls on a table": taking a block from the free chain, and giving one back.
-use Prim.Native.Nat.{ℕ, _+_}
+use Prim.Native.Nat.{ℕ}
 use mathlib.Core.Bool.{cond}
-use mathlib.Core.List.{List, [], _∷_}
+use mathlib.Core.List.{List}
 use lib.Dec.{eqb, ltb}
+use Rattle.laws.specs.Folds.{count}
 use Rattle.settings.specs.declared.layout.Layout.{Layout}
-use Rattle.table.specs.State.{Overflow, State, overflowAt}
-
--- how a change of the table ends
-pub data Done : Type 0 where
-  damage : Done
-  noBlock : Done
-  done : State → Done
+use Rattle.table.specs.State.{Overflow, State, overflowAt, emptyBlock}
+use Rattle.table.specs.Updates.{withSlot, withFree, overOverflow}
+use Rattle.table.specs.Done.{Done, damage, noBlock}
 
 -- how often j stands in a list of block numbers
 abbrev pub occurs : ℕ → List ℕ → ℕ
-occurs j [] = 0
-occurs j (b ∷ bs) = cond (eqb j b) 1 0 + occurs j bs
+occurs j bs = count (eqb j) bs
 
 module _ (g : Layout) where
   -- the free start once block f is taken: "The last free block links to itself", "nob if none"
@@ -31,6 +27,14 @@ module _ (g : Layout) where
       (cond (ltb 0 (occurs (st .free) bs)) damage
       (cond (ltb (overflowAt (st .overflow) (st .free) .link) (g .nob)) on damage)))
 
+  -- block f taken, zeroed, as a list's last: its one slot is x, its link the displaced bits d. The free start is `next` then
+  abbrev pub taken : ℕ → ℕ → ℕ → ℕ → State → State
+  taken f next d x st = withFree next (overOverflow f (λ o. withSlot 0 x (emptyBlock g d)) st)
+
   -- the link of a block l that goes to the front of a free chain that starts at f
   abbrev pub linkFree : ℕ → ℕ → ℕ
   linkFree f l = cond (eqb f (g .nob)) l f
+
+  -- "An emptied overflow block goes to the front of the free chain", zeroed
+  abbrev pub freed : ℕ → State → State
+  freed l st = withFree l (overOverflow l (λ o. emptyBlock g (linkFree (st .free) l)) st)

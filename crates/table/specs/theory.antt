@@ -3,10 +3,13 @@ pub mod Decode
 pub mod Changes
 pub mod Formed
 pub mod Written
+pub mod FormedUpdates
 pub mod FormedCalls
 pub mod Every
 pub mod Occurs
 pub mod Chain
 pub mod Sound
 pub mod Computing
+pub mod Ways
 pub mod Opened
+pub mod Positions

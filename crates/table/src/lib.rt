@@ -1,5 +1,6 @@
 // The table in lent bytes: what its calls answer. The definitions stand in specs/; the code of each call in a crate of its own.
 mod answers;
+mod step;
 
 pub use answers::AddAnswer;
 pub use answers::CheckAnswer;
@@ -7,3 +8,5 @@ pub use answers::DeleteAnswer;
 pub use answers::FindAnswer;
 pub use answers::MakeAnswer;
 pub use answers::RecordAnswer;
+pub use step::Before;
+pub use step::Step;

@@ -1,5 +1,6 @@
 // A slot at the end of a list: into a block that has room, or into a block from the free chain.
 use keys::BlockNumber;
+use keys::FreeStart;
 use keys::Key;
 use keys::ListNumber;
 use keys::SlotNumber;
@@ -8,29 +9,28 @@ use settings::Refusal;
 use table::AddAnswer;
 use table_read::blocks::basic_head;
 use table_read::blocks::free_start;
-use table_read::blocks::overflow_counter;
 use table_read::blocks::overflow_link;
+use table_read::lists::list_has_block;
 use table_read::lists::spot_of;
-use table_store::basic_slot;
-use table_store::overflow_slot;
+use table_read::places::basic_slot;
+use table_read::places::overflow_slot;
+use table_store::empty_block;
 use table_store::put_basic_counter;
-use table_store::put_basic_head;
+use table_store::put_basic_front;
 use table_store::put_free_start;
 use table_store::put_overflow_counter;
-use table_store::put_overflow_link;
+use table_store::put_overflow_front;
 use table_store::put_slot;
-use table_store::renew;
 ghost use mathlib.Core.Path.{_≡_};
 ghost use Prim.Native.Nat.{suc, _^_, _≤_, _<_};
 ghost use Rattle.keys.specs.Key.{keyNumber};
-ghost use Rattle.table.specs.State.{mkBasic, mkOverflow, basicAt, overflowAt};
+ghost use Rattle.table.specs.State.{basicAt, overflowAt};
 ghost use Rattle.table.specs.Decode.{decode};
 ghost use Rattle.table.specs.Table.{Table};
-ghost use Rattle.table_read.specs.Steps.{Followed};
+ghost use Rattle.table.specs.Take.{taken};
 ghost use Rattle.table.specs.declared.answers.AddAnswer.the-variants as answer;
-ghost use Rattle.table_store.specs.Stores.{Slotted};
-ghost use Rattle.table_store.specs.theory.StoreLaws.{Stored, overBasic, overOverflow};
-ghost use Rattle.table_add.specs.Adds.{slotFor, freeOf, meetsFrom, taken, Appendable, Appended, EndsIn, Readable};
+ghost use Rattle.table_store.specs.Stores.{Slotted, Stored};
+ghost use Rattle.table_add.specs.Adds.{slotFor, freeOf, Appendable, Appended, EndsIn, Readable};
 
 // What is to be appended, once `compared` entries were found not to be it.
 pub struct Item {
@@ -54,7 +54,7 @@ impl Item {
 pub enum Free {
     Block {
         number: BlockNumber,
-        next: BlockNumber,
+        next: FreeStart,
     },
     Refused(Refusal),
 }
@@ -71,79 +71,40 @@ fn free_block(t: &[u8], g: Layout) -> Free
     if f.0 == g.nob {
         return Free::Refused(Refusal::NoBlock);
     }
-    let link = overflow_link(t, g, f);
+    let number = BlockNumber(f.0);
+    let link = overflow_link(t, g, number);
     if link >= g.nob {
         return Free::Refused(Refusal::Damage);
     }
     if link == f.0 {
         return Free::Block {
-            number: f,
-            next: BlockNumber(g.nob),
+            number,
+            next: FreeStart(g.nob),
         };
     }
     Free::Block {
-        number: f,
-        next: BlockNumber(link),
+        number,
+        next: FreeStart(link),
     }
-}
-
-// Whether block f is one of the list's, from block `first` on.
-fn meets(t: &[u8], g: Layout, first: BlockNumber, f: BlockNumber) -> bool
-    requires { ⌜ Table g (now t) × Followed g (g .nob) (decode g (now t) .overflow) (first .0) ⌝ }
-    ensures { λ r. ⌜ r ≡ meetsFrom g (g .nob) (decode g (now (t .entry)) .overflow) (first .0) (f .0) ⌝ }
-{
-    let mut b = first;
-    let mut q: usize = 0;
-    while q < g.nob {
-        if b.0 == f.0 {
-            return true;
-        }
-        let c = overflow_counter(t, g, b);
-        if c < g.sio {
-            return false;
-        }
-        b = BlockNumber(overflow_link(t, g, b));
-        q += 1;
-    }
-    false
 }
 
 // Block f becomes a last block with one slot. The displaced bits are its link.
-fn take(t: &mut [u8], g: Layout, f: BlockNumber, displaced: usize, next: BlockNumber, v: Item)
+fn take(t: &mut [u8], g: Layout, f: BlockNumber, displaced: usize, next: FreeStart, v: Item)
     requires { ⌜ Table g (now t) × (f .0 < g .nob) × (displaced < 2 ^ g .link) × (next .0 ≤ g .nob) × Slotted g (keyNumber (v .entry)) (v .label) ⌝ }
-    ensures { λ _. ⌜ Stored g (now (t .entry)) (now (t .exit)) (taken g (decode g (now (t .entry))) (f .0) displaced (next .0) (slotFor g v)) ⌝ }
+    ensures { λ _. ⌜ Stored g (now (t .entry)) (now (t .exit)) (taken g (f .0) (next .0) displaced (slotFor g v) (decode g (now (t .entry)))) ⌝ }
 {
     let entry = v.entry;
-    let slot = overflow_slot(g, f, SlotNumber(0));
-    let link_at = slot - g.link;
-    renew(
+    empty_block(t, g, f, displaced);
+    put_slot(
         t,
-        link_at - g.overflow.counter,
-        g.overflow.bits,
-        link_at,
-        g.link,
-        displaced,
+        overflow_slot(g, f, SlotNumber(0)),
+        g.bie,
+        g.val,
+        entry.high,
+        entry.low,
+        v.label,
     );
-    put_slot(t, slot, g.bie, g.val, entry.high, entry.low, v.label);
     put_free_start(t, g, next);
-}
-
-// Basic block i overflows into block f.
-fn link_basic(t: &mut [u8], g: Layout, i: ListNumber, f: BlockNumber)
-    requires { ⌜ Table g (now t) × (i .0 < g .lists) × (f .0 < g .nob) ⌝ }
-    ensures { λ _. ⌜ Stored g (now (t .entry)) (now (t .exit)) (overBasic (i .0) (λ b. mkBasic (suc (g .sib)) (f .0) (b .rest)) (decode g (now (t .entry)))) ⌝ }
-{
-    put_basic_counter(t, g, i, g.sib + 1);
-    put_basic_head(t, g, i, f.0);
-}
-
-// Overflow block j goes on in block f.
-fn link_overflow(t: &mut [u8], g: Layout, j: BlockNumber, f: BlockNumber)
-    requires { ⌜ Table g (now t) × (j .0 < g .nob) × (f .0 < g .nob) ⌝ }
-    ensures { λ _. ⌜ Stored g (now (t .entry)) (now (t .exit)) (overOverflow (j .0) (λ o. mkOverflow (g .sio) (f .0) (o .slots)) (decode g (now (t .entry)))) ⌝ }
-{
-    put_overflow_counter(t, g, j, g.sio);
-    put_overflow_link(t, g, j, f.0);
 }
 
 // The basic block has room.
@@ -173,7 +134,7 @@ fn append_first(t: &mut [u8], g: Layout, i: ListNumber, v: Item) -> AddAnswer
     match free_block(t, g) {
         Free::Block { number, next } => {
             let displaced = basic_head(t, g, i);
-            link_basic(t, g, i, number);
+            put_basic_front(t, g, i, g.sib + 1, number.0);
             take(t, g, number, displaced, next, v);
             v.added()
         }
@@ -195,11 +156,11 @@ fn append_more(
 {
     match free_block(t, g) {
         Free::Block { number, next } => {
-            if meets(t, g, h, number) {
+            if list_has_block(t, g, h, number) {
                 return AddAnswer::Refused(Refusal::Damage);
             }
             let displaced = overflow_link(t, g, j);
-            link_overflow(t, g, j, number);
+            put_overflow_front(t, g, j, g.sio, number.0);
             take(t, g, number, displaced, next, v);
             v.added()
         }
@@ -239,7 +200,7 @@ fn append_overflow(
 
 // At the end of list i, which can be followed there. All its entries were compared, so that their number says
 // whether it overflows, and where its last entry stands.
-pub fn append(t: &mut [u8], g: Layout, i: ListNumber, v: Item) -> AddAnswer
+pub(crate) fn append(t: &mut [u8], g: Layout, i: ListNumber, v: Item) -> AddAnswer
     requires { ⌜ Appendable g (now t) (i .0) v × Readable g (decode g (now t)) (i .0) (v .compared) ⌝ }
     ensures { λ r. ⌜ Appended g (now (t .entry)) (now (t .exit)) (i .0) v r ⌝ }
 {

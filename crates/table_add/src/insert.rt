@@ -19,7 +19,7 @@ ghost use Rattle.table.specs.Find.{findIn};
 ghost use Rattle.table.specs.Table.{Table};
 ghost use Rattle.table.specs.declared.answers.AddAnswer.the-variants as answer;
 ghost use Rattle.table_store.specs.Stores.{Slotted};
-ghost use Rattle.table_add.specs.Adds.{Added, AddCall};
+ghost use Rattle.table_add.specs.Call.{Added, AddCall};
 
 fn held(label: u32, compared: u32) -> AddAnswer
     ensures { λ r. ⌜ r ≡ answer.Held label compared ⌝ }

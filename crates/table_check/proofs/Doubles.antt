@@ -6,16 +6,23 @@ use mathlib.Core.Option.{Option, none, some}
 use Prim.Native.Nat.{ℕ, zero, suc, _≤_, _<_, min}
 use native.Mathlib.Omega.{arith}
 use lib.ListN.{length, getD, take}
-use lib.Dec.{eqb, ltb}
-use borrow.Author.Tests.{eq-eqb, ne-eqb, eqb-true, eqb-false, lt-ltb, le-ltb, ltb-true}
-use Rattle.settings.specs.theory.Cases.{cases, both-true}
+use lib.Dec.{eqb, ltb, leb·suc-suc}
+use borrow.Author.Tests.{eq-eqb, ne-eqb, lt-ltb, le-ltb, ltb-true}
+use Rattle.laws.specs.Folds.{everyBelow}
+use Rattle.laws.specs.Cases.{cases, both-true, never, iff, true-both}
+use Rattle.laws.specs.Tests.{below-at, below-all}
+use Rattle.laws.specs.Options.{nothing}
+use Rattle.keys.specs.declared.BlockNumber.{BlockNumber}
 use Rattle.settings.specs.declared.layout.Layout.{Layout}
 use Rattle.table.specs.State.{Overflow, overflowAt, entryOf}
 use Rattle.table.specs.Find.{position}
-use Rattle.table.specs.Follow.{cons?, follow, gather}
-use Rattle.table.specs.Check.{everyBelow, hasEntry, noEntryTwice}
-use Rattle.table_check.specs.Entries.{nextOf, slotsFrom, alone}
-use Rattle.table_check.proofs.Tests.{no, no-some, iff, both, ltb-suc, every-at, every-if}
+use Rattle.table.specs.Follow.{cons?, follow, gather, goOn, stepAt}
+use Rattle.table.specs.Check.{hasEntry, noEntryTwice}
+use Rattle.table.specs.theory.Every.{has-at, has-none}
+use Rattle.table_check.specs.Entries.{slotsFrom, alone, slotsAfter}
+use Rattle.table.specs.theory.Ways.{Way, ends, goes, breaks, way}
+use Rattle.table.specs.declared.step.Step.{Step}
+use Rattle.table.specs.declared.step.Step.the-variants.{Last, Further, Damage}
 
 -- ---- an entry in slots
 
@@ -26,31 +33,15 @@ module _ (g : Layout) (e : ℕ) where
   held-position (x ∷ xs) =
       cases (eqb (entryOf g x) e)
       (λ p. rw p (sym (lt-ltb 0 (suc (length xs)) (omega arith))))
-      (λ p. rw p (held-position xs ∙ sym (ltb-suc (position g e xs) (length xs))))
+      (λ p. rw p (held-position xs ∙ sym (leb·suc-suc (suc (position g e xs)) (length xs))))
 
   pub held-left : (xs ys : List ℕ) → hasEntry g e xs ≡ true → hasEntry g e (xs ++ ys) ≡ true
-  held-left [] ys = λ h. no h
+  held-left [] ys = λ h. never h
   held-left (x ∷ xs) ys = cases (eqb (entryOf g x) e) (λ p. rw p (λ h. refl)) (λ p. rw p (held-left xs ys))
 
   pub held-right : (xs ys : List ℕ) → hasEntry g e xs ≡ false → hasEntry g e (xs ++ ys) ≡ hasEntry g e ys
   held-right [] ys = λ h. refl
-  held-right (x ∷ xs) ys = cases (eqb (entryOf g x) e) (λ p. rw p (λ h. no (sym h))) (λ p. rw p (held-right xs ys))
-
-  none-at : (xs : List ℕ) → hasEntry g e xs ≡ false → (i : ℕ) → i < length xs → entryOf g (getD xs i 0) ≡ e → ⊥
-  none-at [] = λ h i l q. omega arith
-  none-at (x ∷ xs) =
-      cases (eqb (entryOf g x) e)
-      (λ p. rw p (λ h. no (sym h)))
-      (λ p. rw p (λ h i l. none-from xs h (eqb-false (entryOf g x) e p) (none-at xs h) i l))
-    where
-      none-from : (ys : List ℕ) → hasEntry g e ys ≡ false → (entryOf g x ≡ e → ⊥) → ((i : ℕ) → i < length ys → entryOf g (getD ys i 0) ≡ e → ⊥)
-          → (i : ℕ) → i < suc (length ys) → entryOf g (getD (x ∷ ys) i 0) ≡ e → ⊥
-      none-from ys h f k zero l = f
-      none-from ys h f k (suc i) l = k i (omega arith)
-
-  none-if : (xs : List ℕ) → ((i : ℕ) → i < length xs → entryOf g (getD xs i 0) ≡ e → ⊥) → hasEntry g e xs ≡ false
-  none-if [] f = refl
-  none-if (x ∷ xs) f = rw (ne-eqb (entryOf g x) e (f 0 (omega arith))) (none-if xs (λ i l. f (suc i) (omega arith)))
+  held-right (x ∷ xs) ys = cases (eqb (entryOf g x) e) (λ p. rw p (λ h. never (sym h))) (λ p. rw p (held-right xs ys))
 
   -- the entry stands in slot i, and in none of the first j slots
   pub position-at : (xs : List ℕ) (i : ℕ) → i < length xs → entryOf g (getD xs i 0) ≡ e → position g e xs ≤ i
@@ -84,16 +75,16 @@ module _ (g : Layout) (ys : List ℕ) where
   alone-rest : (x : ℕ) (xs : List ℕ) (i : ℕ) → (entryOf g x ≡ entryOf g (getD xs i 0) → ⊥) → alone g (x ∷ xs) ys (suc i) ≡ alone g xs ys i
   unfolding alone position
   alone-rest x xs i f =
-      rw (ne-eqb (entryOf g x) (entryOf g (getD xs i 0)) f, ltb-suc (position g (entryOf g (getD xs i 0)) xs) i)
+      rw (ne-eqb (entryOf g x) (entryOf g (getD xs i 0)) f, leb·suc-suc (suc (position g (entryOf g (getD xs i 0)) xs)) i)
 
   cond-not : (q r : Bool) → cond q false r ≡ true → (q ≡ false) × (r ≡ true)
-  cond-not true r e = no e
+  cond-not true r e = never e
   cond-not false r e = (refl, e)
 
   held-none : (e : ℕ) (xs : List ℕ) → hasEntry g e (xs ++ ys) ≡ false → (hasEntry g e xs ≡ false) × (hasEntry g e ys ≡ false)
   held-none e xs h =
       cases (hasEntry g e xs)
-      (λ p. no (sym h ∙ held-left g e xs ys p))
+      (λ p. never (sym h ∙ held-left g e xs ys p))
       (λ p. (p, sym (held-right g e xs ys p) ∙ h))
 
   apart-then : (xs : List ℕ) → noEntryTwice g (xs ++ ys) ≡ true → everyBelow (length xs) (alone g xs ys) && noEntryTwice g ys ≡ true
@@ -102,11 +93,11 @@ module _ (g : Layout) (ys : List ℕ) where
       let a = cond-not (hasEntry g (entryOf g x) (xs ++ ys)) (noEntryTwice g (xs ++ ys)) h in
       let n = held-none (entryOf g x) xs (a .0) in
       let r = both-true (everyBelow (length xs) (alone g xs ys)) (noEntryTwice g ys) (apart-then xs (a .1)) in
-      both (everyBelow (suc (length xs)) (alone g (x ∷ xs) ys)) (noEntryTwice g ys)
-      (both (alone g (x ∷ xs) ys 0) (everyBelow (length xs) (λ i. alone g (x ∷ xs) ys (suc i)))
+      true-both
+      (true-both
       (alone-first x xs ∙ rw (n .1))
-      (every-if (length xs) (λ i. alone g (x ∷ xs) ys (suc i))
-      (λ i l. alone-rest x xs i (λ q. none-at g (entryOf g x) xs (n .0) i l (sym q)) ∙ every-at (length xs) (alone g xs ys) (r .0) i l)))
+      (below-all (length xs) (λ i. alone g (x ∷ xs) ys (suc i))
+      (λ i l. alone-rest x xs i (λ q. has-at g (entryOf g x) xs i (n .0) l (sym q)) ∙ below-at (length xs) (alone g xs ys) (r .0) i l)))
       (r .1)
 
   apart-if : (xs : List ℕ) → everyBelow (length xs) (alone g xs ys) && noEntryTwice g ys ≡ true → noEntryTwice g (xs ++ ys) ≡ true
@@ -115,14 +106,14 @@ module _ (g : Layout) (ys : List ℕ) where
       let a = both-true (everyBelow (suc (length xs)) (alone g (x ∷ xs) ys)) (noEntryTwice g ys) h in
       let b = both-true (alone g (x ∷ xs) ys 0) (everyBelow (length xs) (λ i. alone g (x ∷ xs) ys (suc i))) (a .0) in
       let f : (i : ℕ) → i < length xs → entryOf g x ≡ entryOf g (getD xs i 0) → ⊥ =
-      λ i l q. let z : false ≡ true = sym (alone-met x xs i q) ∙ every-at (length xs) (λ j. alone g (x ∷ xs) ys (suc j)) (b .1) i l in no z in
-      let n : hasEntry g (entryOf g x) xs ≡ false = none-if g (entryOf g x) xs (λ i l q. f i l (sym q)) in
+      λ i l q. let z : false ≡ true = sym (alone-met x xs i q) ∙ below-at (length xs) (λ j. alone g (x ∷ xs) ys (suc j)) (b .1) i l in never z in
+      let n : hasEntry g (entryOf g x) xs ≡ false = has-none g (entryOf g x) xs (λ i l q. f i l (sym q)) in
       let m : hasEntry g (entryOf g x) ys ≡ false = cond-not (hasEntry g (entryOf g x) ys) true (sym (alone-first x xs) ∙ b .0) .0 in
       rw (held-right g (entryOf g x) xs ys n, m)
       (apart-if xs
-      (both (everyBelow (length xs) (alone g xs ys)) (noEntryTwice g ys)
-      (every-if (length xs) (alone g xs ys)
-      (λ i l. sym (alone-rest x xs i (f i l)) ∙ every-at (length xs) (λ j. alone g (x ∷ xs) ys (suc j)) (b .1) i l))
+      (true-both
+      (below-all (length xs) (alone g xs ys)
+      (λ i l. sym (alone-rest x xs i (f i l)) ∙ below-at (length xs) (λ j. alone g (x ∷ xs) ys (suc j)) (b .1) i l))
       (a .1)))
 
   pub apart-both : (xs : List ℕ) → (everyBelow (length xs) (alone g xs ys) && noEntryTwice g ys) ≡ noEntryTwice g (xs ++ ys)
@@ -141,43 +132,48 @@ module _ (g : Layout) (os : List Overflow) where
   slots-high (suc n) b h = rw (le-ltb b (g .nob) h)
 
   pub slots-on : (n k b : ℕ) → n ≡ suc k → b < g .nob
-      → slotsFrom g n os b ≡ take (suc (min (overflowAt os b .counter) (g .sio))) (overflowAt os b .slots) ++ slotsFrom g k os (nextOf g os b)
-  unfolding slotsFrom
+      → slotsFrom g n os b ≡ take (suc (min (overflowAt os b .counter) (g .sio))) (overflowAt os b .slots) ++ slotsAfter g k os (stepAt g os b)
+  unfolding slotsFrom slotsAfter
   slots-on n k b h l = rw h (rw (lt-ltb b (g .nob) l))
 
-  pub next-further : (b : ℕ) → overflowAt os b .counter ≡ g .sio → nextOf g os b ≡ overflowAt os b .link
-  unfolding nextOf
-  next-further b e = rw (eq-eqb (overflowAt os b .counter) (g .sio) e)
+  -- a step leads to a block, or to none
+  pub after-further : (n : ℕ) (s : Step) (c : BlockNumber) → s ≡ Further c → slotsAfter g n os s ≡ slotsFrom g n os (c .0)
+  unfolding slotsAfter
+  after-further n s c e = rw e
 
-  pub next-last : (b : ℕ) → (overflowAt os b .counter ≡ g .sio → ⊥) → nextOf g os b ≡ g .nob
-  unfolding nextOf
-  next-last b f = rw (ne-eqb (overflowAt os b .counter) (g .sio) f)
+  pub after-none : (n : ℕ) (s : Step) → ((c : BlockNumber) → s ≡ Further c → ⊥) → slotsAfter g n os s ≡ []
+  unfolding slotsAfter
+  after-none n Last f = refl
+  after-none n (Further c) f = absurd (f c refl)
+  after-none n Damage f = refl
 
   gather-on : (b : ℕ) (bs : List ℕ) (slots : List ℕ) (o : Option (List ℕ)) → overflowAt os b .counter ≡ g .sio
       → ((cs : List ℕ) → o ≡ some cs → slots ≡ gather g os cs) → cons? b o ≡ some bs
       → take (suc (min (overflowAt os b .counter) (g .sio))) (overflowAt os b .slots) ++ slots ≡ gather g os bs
-  gather-on b bs slots none h f e = no-some e
+  gather-on b bs slots none h f e = nothing e
   gather-on b bs slots (some cs) h f e =
       let q : bs ≡ b ∷ cs = cc in
       let m : min (overflowAt os b .counter) (g .sio) ≡ overflowAt os b .counter = omega arith in
       rw (q, m, f cs refl)
 
-  -- where following them meets no damage, they are the slots that are gathered
-  pub slots-gather : (n b : ℕ) (bs : List ℕ) → follow g n os b ≡ some bs → slotsFrom g n os b ≡ gather g os bs
-  slots-gather zero b bs = λ e. no-some e
-  slots-gather (suc n) b bs =
-      cases (ltb b (g .nob))
-      (λ p. cases (ltb (overflowAt os b .counter) (g .sio))
-      (λ q. rw (p, q) (λ e.
-      let l : overflowAt os b .counter < g .sio = ltb-true (overflowAt os b .counter) (g .sio) q in
+  step-gather : (n b : ℕ) (bs : List ℕ) → ((c : ℕ) (cs : List ℕ) → follow g n os c ≡ some cs → slotsFrom g n os c ≡ gather g os cs)
+      → (s : Step) → Way (g .sio) (overflowAt os b .counter) (overflowAt os b .link) s → goOn s (b ∷ []) (λ c. cons? b (follow g n os c)) ≡ some bs
+      → take (suc (min (overflowAt os b .counter) (g .sio))) (overflowAt os b .slots) ++ slotsAfter g n os s ≡ gather g os bs
+  unfolding slotsAfter
+  step-gather n b bs ih Last (ends l) e =
       let m : min (overflowAt os b .counter) (g .sio) ≡ overflowAt os b .counter = omega arith in
       let w : bs ≡ b ∷ [] = cc in
+      rw (m, w)
+  step-gather n b bs ih (Further c) (goes z) e =
+      gather-on b bs (slotsFrom g n os (overflowAt os b .link)) (follow g n os (overflowAt os b .link)) z (ih (overflowAt os b .link)) e
+  step-gather n b bs ih Damage (breaks l) e = nothing e
+
+  -- where following them meets no damage, they are the slots that are gathered
+  pub slots-gather : (n b : ℕ) (bs : List ℕ) → follow g n os b ≡ some bs → slotsFrom g n os b ≡ gather g os bs
+  slots-gather zero b bs = λ e. nothing e
+  slots-gather (suc n) b bs =
+      cases (ltb b (g .nob))
+      (λ p. rw p (λ e.
       slots-on (suc n) n b refl (ltb-true b (g .nob) p)
-      ∙ rw (m, w, next-last b (λ z. omega arith), slots-high n (g .nob) (omega arith))))
-      (λ q. cases (eqb (overflowAt os b .counter) (g .sio))
-      (λ r. rw (p, q, r) (λ e.
-      let z : overflowAt os b .counter ≡ g .sio = eqb-true (overflowAt os b .counter) (g .sio) r in
-      slots-on (suc n) n b refl (ltb-true b (g .nob) p)
-      ∙ rw (next-further b z) (gather-on b bs (slotsFrom g n os (overflowAt os b .link)) (follow g n os (overflowAt os b .link)) z (slots-gather n (overflowAt os b .link)) e)))
-      (λ r. rw (p, q, r) (λ e. no-some e))))
-      (λ p. rw p (λ e. no-some e))
+      ∙ step-gather n b bs (slots-gather n) (stepAt g os b) (way (g .sio) (overflowAt os b .counter) (overflowAt os b .link)) e))
+      (λ p. rw p (λ e. nothing e))

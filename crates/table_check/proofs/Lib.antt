@@ -1,5 +1,4 @@
 -- Laws that only the proofs of this crate use.
-mod Tests
 mod Zeros
 mod StepLaws
 mod Marks

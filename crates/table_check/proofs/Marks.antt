@@ -10,18 +10,18 @@ use native.Mathlib.Decide.{decLe, ℕ-discrete}
 use lib.ListN.{length}
 use lib.Dec.{eqb, ltb}
 use borrow.Author.Tests.{eq-eqb, ne-eqb, eqb-false, lt-ltb, le-ltb, ltb-true}
+use Rattle.laws.specs.Cases.{cases}
+use Rattle.laws.specs.Options.{nothing}
 use Rattle.bits.specs.Field.{field}
 use Rattle.bits.specs.Put.{putField}
 use Rattle.bits.specs.theory.Fields.{field-lt}
 use Rattle.bits.specs.theory.Puts.{put-length, put-same, put-out}
-use Rattle.settings.specs.theory.Cases.{cases}
 use Rattle.settings.specs.declared.layout.Layout.{Layout}
-use Rattle.table.specs.Follow.{cons?}
+use Rattle.table.specs.Follow.{cons?, goOn}
 use Rattle.table.specs.Take.{occurs}
-use Rattle.table_check.specs.declared.steps.Step.{Step}
-use Rattle.table_check.specs.declared.steps.Step.the-variants.{Last, Further, Broken}
-use Rattle.table_check.specs.Walk.{goOn, walk}
-use Rattle.table_check.proofs.Tests.{no-some}
+use Rattle.table_check.specs.Walk.{walk}
+use Rattle.table.specs.declared.step.Step.{Step}
+use Rattle.table.specs.declared.step.Step.the-variants.{Last, Further, Damage}
 
 -- ---- the turns of the walk
 
@@ -49,9 +49,7 @@ module _ (g : Layout) (step : ℕ → Step) where
 
 -- the blocks from b on, at most n of them
 abbrev pub blocksOn : ℕ → Step → (ℕ → Option (List ℕ)) → Option (List ℕ)
-blocksOn b Last on = some (b ∷ [])
-blocksOn b (Further c) on = cons? b (on (c .0))
-blocksOn b Broken on = none
+blocksOn b s on = goOn s (b ∷ []) (λ c. cons? b (on c))
 
 module _ (g : Layout) (step : ℕ → Step) where
   unfoldable pub trail : ℕ → ℕ → Option (List ℕ)
@@ -112,21 +110,21 @@ module _ (nob : ℕ) (c : ℕ → ℕ) (b : ℕ) (u after : List ℕ) where
         are = ap (cons? b) (p .are);
         marks = marks-as nob _ (λ j. c j + occurs j (b ∷ p .blocks)) after (λ j. omega arith) (p .marks);
       }
-  passed-on Broken on trace k ih e = no-some e
+  passed-on Damage on trace k ih e = nothing e
 
 module _ (g : Layout) (step : ℕ → Step) (after : List ℕ) where
   pub walk-passed : (n b : ℕ) (c : ℕ → ℕ) (m : List ℕ) → Marks (g .nob) c m → walk g step n b m ≡ some after
       → Passed (g .nob) c after (trail g step n b)
   unfolding walk trail
-  walk-passed zero b c m k = λ e. no-some e
+  walk-passed zero b c m k = λ e. nothing e
   walk-passed (suc n) b c m k =
       cases (ltb b (g .nob))
       (λ p. cases (eqb (field m b 1) 1)
-      (λ q. rw (p, q) (λ e. no-some e))
+      (λ q. rw (p, q) (λ e. nothing e))
       (λ q. rw (p, q) (passed-on (g .nob) c b (putField m b 1 1) after (step b) (λ x. walk g step n x (putField m b 1 1)) (λ x. trail g step n x)
       (one-more (g .nob) c m b (ltb-true b (g .nob) p) (eqb-false (field m b 1) 1 q) k)
       (λ x e. walk-passed n x (λ j. c j + occurs j (b ∷ [])) (putField m b 1 1) (one-more (g .nob) c m b (ltb-true b (g .nob) p) (eqb-false (field m b 1) 1 q) k) e))))
-      (λ p. rw p (λ e. no-some e))
+      (λ p. rw p (λ e. nothing e))
 
 -- ---- a trail whose blocks have no mark yet, and none of which comes twice, is walked to its end
 
@@ -139,19 +137,19 @@ pub record Begins (b : ℕ) (bs : List ℕ) : Type 0 where
   pub is : bs ≡ b ∷ rest
 
 begins-cons : (b : ℕ) (o : Option (List ℕ)) (bs : List ℕ) → cons? b o ≡ some bs → Begins b bs
-begins-cons b none bs e = no-some e
+begins-cons b none bs e = nothing e
 begins-cons b (some cs) bs e = record { rest = cs; is = cc }
 
 begins-on : (b : ℕ) (s : Step) (trace : ℕ → Option (List ℕ)) (bs : List ℕ) → blocksOn b s trace ≡ some bs → Begins b bs
 begins-on b Last trace bs e = record { rest = []; is = cc }
 begins-on b (Further x) trace bs e = begins-cons b (trace (x .0)) bs e
-begins-on b Broken trace bs e = no-some e
+begins-on b Damage trace bs e = nothing e
 
 module _ (g : Layout) (step : ℕ → Step) where
   pub trail-begins : (n b : ℕ) (bs : List ℕ) → trail g step n b ≡ some bs → Begins b bs
   unfolding trail
-  trail-begins zero b bs = λ e. no-some e
-  trail-begins (suc n) b bs = cases (ltb b (g .nob)) (λ p. rw p (begins-on b (step b) (λ x. trail g step n x) bs)) (λ p. rw p (λ e. no-some e))
+  trail-begins zero b bs = λ e. nothing e
+  trail-begins (suc n) b bs = cases (ltb b (g .nob)) (λ p. rw p (begins-on b (step b) (λ x. trail g step n x) bs)) (λ p. rw p (λ e. nothing e))
 
 -- how often b comes in a list that begins with it
 occurs-first : (b : ℕ) (bs : List ℕ) → Begins b bs → 1 ≤ occurs b bs
@@ -165,7 +163,7 @@ rest-counts b o bs e cs w j =
     rw r (omega arith)
 
 cons-some : (b : ℕ) (o : Option (List ℕ)) (bs : List ℕ) → cons? b o ≡ some bs → Some o
-cons-some b none bs e = no-some e
+cons-some b none bs e = nothing e
 cons-some b (some cs) bs e = record { value = cs; is = refl }
 
 complete-on : (nob : ℕ) (c : ℕ → ℕ) (b : ℕ) (u : List ℕ) (s : Step) (on trace : ℕ → Option (List ℕ)) (bs : List ℕ)
@@ -176,13 +174,13 @@ complete-on nob c b u Last on trace bs few ih e = record { value = u; is = refl 
 complete-on nob c b u (Further x) on trace bs few ih e =
     let f = cons-some b (trace (x .0)) bs e in
     ih (x .0) (f .value) (f .is) (λ j l. omega (arith, few j l, rest-counts b (trace (x .0)) bs e (f .value) (f .is) j))
-complete-on nob c b u Broken on trace bs few ih e = no-some e
+complete-on nob c b u Damage on trace bs few ih e = nothing e
 
 module _ (g : Layout) (step : ℕ → Step) where
   pub walk-completes : (n b : ℕ) (c : ℕ → ℕ) (m bs : List ℕ) → Marks (g .nob) c m → ((j : ℕ) → j < g .nob → c j + occurs j bs ≤ 1)
       → trail g step n b ≡ some bs → Some (walk g step n b m)
   unfolding walk trail
-  walk-completes zero b c m bs k few = λ e. no-some e
+  walk-completes zero b c m bs k few = λ e. nothing e
   walk-completes (suc n) b c m bs k few =
       cases (ltb b (g .nob))
       (λ p. rw p (λ e.
@@ -192,4 +190,4 @@ module _ (g : Layout) (step : ℕ → Step) where
       rw (ne-eqb (field m b 1) 1 f)
       (complete-on (g .nob) c b (putField m b 1 1) (step b) (λ x. walk g step n x (putField m b 1 1)) (λ x. trail g step n x) bs few
       (λ x cs q r. walk-completes n x (λ j. c j + occurs j (b ∷ [])) (putField m b 1 1) cs w r q) e)))
-      (λ p. rw p (λ e. no-some e))
+      (λ p. rw p (λ e. nothing e))

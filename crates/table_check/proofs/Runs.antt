@@ -1,51 +1,36 @@
 -- The slots of a block read where they are: their entries, looked for in the blocks and in the slots before them.
-use mathlib.Core.Path.{_≡_, refl, sym, ap, ap₂, _∙_}
-use mathlib.Core.Bool.{Bool, true, false, cond, _&&_}
+use mathlib.Core.Path.{_≡_, sym, ap, ap₂, _∙_}
+use mathlib.Core.Bool.{true, false, _&&_, and-true}
 use mathlib.Core.List.{List, [], _++_, append-nil}
-use Prim.Native.Nat.{ℕ, suc, _+_, _-_, _*_, _^_, _≤_, _<_, min}
+use Prim.Native.Nat.{ℕ, suc, _+_, _-_, _*_, _≤_, _<_, min}
 use native.Mathlib.Omega.{arith}
 use lib.ListN.{length, getD, take, drop}
 use lib.Dec.{eqb, ltb}
 use borrow.Author.Tests.{lt-ltb, le-ltb}
+use Rattle.laws.specs.Folds.{allZero, everyBelow}
+use Rattle.laws.specs.Cases.{cond-same}
 use Rattle.bits.specs.Field.{field}
-use Rattle.bits.specs.theory.Fields.{field-cat}
 use Rattle.settings.specs.Proper.{Proper}
 use Rattle.settings.specs.declared.layout.Layout.{Layout}
-use Rattle.table.specs.State.{Basic, Overflow, basicAt, overflowAt, entryOf, unpack}
+use Rattle.table.specs.State.{Basic, Overflow, basicAt, overflowAt, unpack, ownSlots, entryOf}
 use Rattle.table.specs.Decode.{basicSlots, decode}
 use Rattle.table.specs.Table.{Table}
+use Rattle.table.specs.Follow.{further, stepAt}
 use Rattle.table.specs.Find.{position}
-use Rattle.table.specs.Check.{allZero, everyBelow, hasEntry, noEntryTwice}
-use Rattle.table_read.specs.Steps.{shown, View, First, Run, slotsIn, basicRun, displacedRun, overflowRun, lastFrom}
-use Rattle.table_read.specs.theory.Reads.{slots-length, entry-in, slot-inside, overflow-run-within, basic-slots-in, displaced-slots-in, overflow-slots-in, link-lt}
+use Rattle.table.specs.Check.{hasEntry, noEntryTwice}
+use Rattle.table_read.specs.Steps.{shown, First, Run, slotsIn, basicRun, displacedRun, lastFrom}
+use Rattle.table_read.specs.theory.Reads.{slots-length, entry-in, overflow-run-within, basic-slots-in, displaced-slots-in, overflow-slots-in, link-lt}
 use Rattle.table_read.specs.declared.slots.Slots.{Slots}
-use Rattle.table_check.specs.Entries.{nextOf, runOf, slotsFrom, alone}
+use Rattle.table.specs.declared.step.Step.{Step}
+use Rattle.table.specs.declared.step.Step.the-variants.{Last}
+use Rattle.table_check.specs.Entries.{runOf, slotsFrom, slotsAfter, alone}
 use Rattle.table_check.specs.Lists.{shortSound, longFrom, longApart}
-use Rattle.table_check.proofs.Tests.{and-true}
 use Rattle.table_check.proofs.Zeros.{basic-zeros}
-use Rattle.table_check.proofs.Doubles.{held-position, held-left, held-right, position-at, position-from, apart-both, slots-out, slots-on}
+use Rattle.table_check.proofs.Doubles.{held-position, held-left, held-right, position-at, position-from, apart-both, slots-on}
 
 -- ---- slot j of a run
 
--- an entry of more than 64 bits is read in two parts, the last of 64
-pub two-parts : (s : List ℕ) (at n h l : ℕ) → 64 ≤ n → h ≡ field s at (n - 64) → l ≡ field s (at + (n - 64)) 64 → h * 2 ^ 64 + l ≡ field s at n
-two-parts s at n h l m p q =
-    let e : n - 64 + 64 ≡ n = omega arith in
-    ap₂ (λ (x y : ℕ). x * 2 ^ 64 + y) p q ∙ sym (field-cat s at (n - 64) 64) ∙ ap (field s at) e
-
 module _ (g : Layout) (F : Proper g) (t : List ℕ) (b : Slots) (R : Run g t b) where
-  pub entry-view : (j at : ℕ) → j < b .count → at ≡ b .start + j * g .slot → View t b at (g .bie)
-  entry-view j at h e =
-      let r = slot-inside g t b j h in
-      record {
-        from = omega arith;
-        ends = omega (arith, R .ends, F .slot-is);
-        near = omega (arith, R .near, F .slot-is);
-        block = R .block;
-        link = R .link;
-        fits = R .fits;
-      }
-
   pub entry-is : (j at : ℕ) → j < b .count → at ≡ b .start + j * g .slot → field (shown t b) at (g .bie) ≡ entryOf g (getD (slotsIn g t b) j 0)
   entry-is j at h e =
       ap (λ (a : ℕ). field (shown t b) a (g .bie)) e ∙ sym (entry-in g t b F j h)
@@ -70,11 +55,7 @@ module _ (g : Layout) (xs ys : List ℕ) (j e : ℕ) (is : e ≡ entryOf g (getD
 
   pub alone-behind : hasEntry g e ys ≡ true → alone g xs ys j ≡ false
   unfolding alone
-  alone-behind h = rw (← is, h) (cond-same (ltb (position g e xs) j))
-    where
-      cond-same : (q : Bool) → cond q false false ≡ false
-      cond-same true = refl
-      cond-same false = refl
+  alone-behind h = rw (← is, h) (cond-same (ltb (position g e xs) j) false)
 
   pub alone-yes : j ≤ position g e xs → hasEntry g e ys ≡ false → alone g xs ys j ≡ true
   unfolding alone
@@ -82,40 +63,35 @@ module _ (g : Layout) (xs ys : List ℕ) (j e : ℕ) (is : e ≡ entryOf g (getD
 
 -- ---- the blocks of a list
 
--- the slots in use in a block, by its counter
-pub run-is : (g : Layout) (os : List Overflow) (b n m : ℕ) (r : Slots) → n ≡ overflowAt os b .counter → m ≡ min n (g .sio) → r ≡ overflowRun g b m
-    → r ≡ runOf g os b
-unfolding runOf
-run-is g os b n m r p q e = e ∙ ap (overflowRun g b) (q ∙ ap (λ (x : ℕ). min x (g .sio)) p)
-
 module _ (g : Layout) (t : List ℕ) (T : Table g t) where
-  pub run-within : (b : ℕ) → b < g .nob → Run g t (runOf g (decode g t .overflow) b)
+  pub run-within : (b c : ℕ) → b < g .nob → Run g t (runOf g b c)
   unfolding runOf
-  run-within b l = overflow-run-within g t T b (min (overflowAt (decode g t .overflow) b .counter) (g .sio)) l
+  run-within b c l = overflow-run-within g t T b (min c (g .sio)) l
 
-  pub blocks-on : (n k b : ℕ) (r : Slots) → n ≡ suc k → b < g .nob → r ≡ runOf g (decode g t .overflow) b
-      → slotsFrom g n (decode g t .overflow) b ≡ slotsIn g t r ++ slotsFrom g k (decode g t .overflow) (nextOf g (decode g t .overflow) b)
-  unfolding runOf
-  blocks-on n k b r h l e =
-      slots-on g (decode g t .overflow) n k b h l
-      ∙ ap (_++ slotsFrom g k (decode g t .overflow) (nextOf g (decode g t .overflow) b))
-      (sym (ap (slotsIn g t) e ∙ overflow-slots-in g t T b (min (overflowAt (decode g t .overflow) b .counter) (g .sio)) l))
+  -- block b, whose slots in use are r and whose step is s, where at most n blocks are followed
+  module _ (n k b c : ℕ) (r : Slots) (s : Step) (h : n ≡ suc k) (l : b < g .nob) (ec : c ≡ overflowAt (decode g t .overflow) b .counter)
+      (er : r ≡ runOf g b c) (es : s ≡ stepAt g (decode g t .overflow) b) where
+    pub blocks-on : slotsFrom g n (decode g t .overflow) b ≡ slotsIn g t r ++ slotsAfter g k (decode g t .overflow) s
+    unfolding runOf
+    blocks-on =
+        slots-on g (decode g t .overflow) n k b h l
+        ∙ ap₂ (λ (xs : List ℕ) (x : Step). xs ++ slotsAfter g k (decode g t .overflow) x)
+        (sym (ap (slotsIn g t) (er ∙ ap (runOf g b) ec) ∙ overflow-slots-in g t T b (min (overflowAt (decode g t .overflow) b .counter) (g .sio)) l))
+        (sym es)
 
-  -- an entry that is looked for
-  pub held-here : (e n k b : ℕ) (r : Slots) → n ≡ suc k → b < g .nob → r ≡ runOf g (decode g t .overflow) b
-      → position g e (slotsIn g t r) < r .count → hasEntry g e (slotsFrom g n (decode g t .overflow) b) ≡ true
-  held-here e n k b r h l q p =
-      ap (hasEntry g e) (blocks-on n k b r h l q)
-      ∙ held-left g e (slotsIn g t r) (slotsFrom g k (decode g t .overflow) (nextOf g (decode g t .overflow) b))
-      (held-position g e (slotsIn g t r) ∙ lt-ltb (position g e (slotsIn g t r)) (length (slotsIn g t r)) (omega (arith, slots-length g t r)))
+    -- an entry that is looked for
+    pub held-here : (e : ℕ) → position g e (slotsIn g t r) < r .count → hasEntry g e (slotsFrom g n (decode g t .overflow) b) ≡ true
+    held-here e p =
+        ap (hasEntry g e) blocks-on
+        ∙ held-left g e (slotsIn g t r) (slotsAfter g k (decode g t .overflow) s)
+        (held-position g e (slotsIn g t r) ∙ lt-ltb (position g e (slotsIn g t r)) (length (slotsIn g t r)) (omega (arith, slots-length g t r)))
 
-  pub held-on : (e n k b : ℕ) (r : Slots) → n ≡ suc k → b < g .nob → r ≡ runOf g (decode g t .overflow) b
-      → r .count ≤ position g e (slotsIn g t r)
-      → hasEntry g e (slotsFrom g n (decode g t .overflow) b) ≡ hasEntry g e (slotsFrom g k (decode g t .overflow) (nextOf g (decode g t .overflow) b))
-  held-on e n k b r h l q p =
-      ap (hasEntry g e) (blocks-on n k b r h l q)
-      ∙ held-right g e (slotsIn g t r) (slotsFrom g k (decode g t .overflow) (nextOf g (decode g t .overflow) b))
-      (held-position g e (slotsIn g t r) ∙ le-ltb (position g e (slotsIn g t r)) (length (slotsIn g t r)) (omega (arith, slots-length g t r)))
+    pub held-on : (e : ℕ) → r .count ≤ position g e (slotsIn g t r)
+        → hasEntry g e (slotsFrom g n (decode g t .overflow) b) ≡ hasEntry g e (slotsAfter g k (decode g t .overflow) s)
+    held-on e p =
+        ap (hasEntry g e) blocks-on
+        ∙ held-right g e (slotsIn g t r) (slotsAfter g k (decode g t .overflow) s)
+        (held-position g e (slotsIn g t r) ∙ le-ltb (position g e (slotsIn g t r)) (length (slotsIn g t r)) (omega (arith, slots-length g t r)))
 
   -- slots, and what follows them
   pub apart-run : (r : Slots) (ys : List ℕ)
@@ -124,13 +100,12 @@ module _ (g : Layout) (t : List ℕ) (T : Table g t) where
       ap (λ (n : ℕ). everyBelow n (alone g (slotsIn g t r) ys) && noEntryTwice g ys) (sym (slots-length g t r))
       ∙ apart-both g ys (slotsIn g t r)
 
-  pub apart-on : (n k b x : ℕ) (r : Slots) → n ≡ suc k → b < g .nob → r ≡ runOf g (decode g t .overflow) b → x ≡ nextOf g (decode g t .overflow) b
-      → (everyBelow (r .count) (alone g (slotsIn g t r) (slotsFrom g k (decode g t .overflow) x)) && noEntryTwice g (slotsFrom g k (decode g t .overflow) x))
+  pub apart-on : (n k b c : ℕ) (r : Slots) (s : Step) → n ≡ suc k → b < g .nob → c ≡ overflowAt (decode g t .overflow) b .counter → r ≡ runOf g b c
+      → s ≡ stepAt g (decode g t .overflow) b
+      → (everyBelow (r .count) (alone g (slotsIn g t r) (slotsAfter g k (decode g t .overflow) s)) && noEntryTwice g (slotsAfter g k (decode g t .overflow) s))
       ≡ noEntryTwice g (slotsFrom g n (decode g t .overflow) b)
-  apart-on n k b x r h l q e =
-      apart-run r (slotsFrom g k (decode g t .overflow) x)
-      ∙ ap (λ (y : ℕ). noEntryTwice g (slotsIn g t r ++ slotsFrom g k (decode g t .overflow) y)) e
-      ∙ ap (noEntryTwice g) (sym (blocks-on n k b r h l q))
+  apart-on n k b c r s h l ec er es =
+      apart-run r (slotsAfter g k (decode g t .overflow) s) ∙ ap (noEntryTwice g) (sym (blocks-on n k b c r s h l ec er es))
 
 -- ---- the slots of a basic block
 
@@ -138,31 +113,30 @@ module _ (g : Layout) (t : List ℕ) (T : Table g t) (i : ℕ) (il : i < g .list
   -- a list without overflow blocks: its unused slots, and its entries
   pub short-as : (at n : ℕ) (r : Slots) → at ≡ basicSlots g i → n ≡ basicAt (decode g t .basic) i .counter → n ≤ g .sib
       → r ≡ basicRun g i n
-      → (eqb (field t (at + n * g .slot) ((g .sib - n) * g .slot)) 0 && everyBelow (r .count) (alone g (slotsIn g t r) (slotsFrom g 0 (decode g t .overflow) (g .nob))))
+      → (eqb (field t (at + n * g .slot) ((g .sib - n) * g .slot)) 0 && everyBelow (r .count) (alone g (slotsIn g t r) (slotsAfter g 0 (decode g t .overflow) Last)))
       ≡ shortSound g (basicAt (decode g t .basic) i)
-  unfolding shortSound
+  unfolding shortSound slotsAfter
   short-as at n r a c l e =
       let b : Basic = basicAt (decode g t .basic) i in
       let os : List Overflow = decode g t .overflow in
-      let z : slotsIn g t r ≡ take (b .counter) (unpack g (b .head) (b .rest)) =
+      let z : slotsIn g t r ≡ take (b .counter) (ownSlots g b) =
       ap (slotsIn g t) e
       ∙ basic-slots-in g t T i n il l
-      ∙ ap (λ (x : ℕ). take x (unpack g (b .head) (b .rest))) c in
+      ∙ ap (λ (x : ℕ). take x (ownSlots g b)) c in
       ap₂ _&&_
       (ap (λ (x : ℕ). eqb (field t (x + n * g .slot) ((g .sib - n) * g .slot)) 0) a
       ∙ sym (basic-zeros g t T i n il)
-      ∙ ap (λ (x : ℕ). allZero (drop x (unpack g (b .head) (b .rest)))) c)
-      (ap (λ (ys : List ℕ). everyBelow (r .count) (alone g (slotsIn g t r) ys)) (slots-out g os 0 (g .nob) refl)
-      ∙ sym (and-true (everyBelow (r .count) (alone g (slotsIn g t r) [])))
+      ∙ ap (λ (x : ℕ). allZero (drop x (ownSlots g b))) c)
+      (sym (and-true (everyBelow (r .count) (alone g (slotsIn g t r) [])))
       ∙ apart-run g t T r []
       ∙ ap (noEntryTwice g) (append-nil (slotsIn g t r) ∙ z))
 
   -- the entries of a list that overflows and has no damage
   pub long-as : (h l d : ℕ) (r : Slots) → h ≡ basicAt (decode g t .basic) i .head → l ≡ lastFrom g (g .nob) (decode g t .overflow) h → l < g .nob
       → d ≡ overflowAt (decode g t .overflow) l .link → r ≡ displacedRun g i d
-      → (everyBelow (r .count) (alone g (slotsIn g t r) (slotsFrom g (g .nob) (decode g t .overflow) h)) && noEntryTwice g (slotsFrom g (g .nob) (decode g t .overflow) h))
+      → (everyBelow (r .count) (alone g (slotsIn g t r) (slotsAfter g (g .nob) (decode g t .overflow) (further h))) && noEntryTwice g (slotsFrom g (g .nob) (decode g t .overflow) h))
       ≡ longApart g (decode g t .overflow) (basicAt (decode g t .basic) i)
-  unfolding longApart
+  unfolding longApart slotsAfter
   long-as h l d r a b k q e =
       let v : Basic = basicAt (decode g t .basic) i in
       let os : List Overflow = decode g t .overflow in

@@ -3,26 +3,26 @@ use mathlib.Core.Path.{_≡_, refl, sym, ap, _∙_}
 use mathlib.Core.Bool.{Bool, true, false, _&&_}
 use mathlib.Core.List.{List, []}
 use mathlib.Core.Option.{Option, none, some}
-use Prim.Native.Nat.{ℕ, zero, suc, _+_, _-_, _*_, _/_, _%_, _^_, _≤_, _<_}
+use Prim.Native.Nat.{ℕ, _+_, _*_, _≤_, _<_}
 use native.Mathlib.Omega.{arith}
-use native.Mathlib.Nat.{zero-div}
-use lib.ListN.{length, getD, replicate}
+use lib.ListN.{length}
 use lib.Dec.{eqb}
 use borrow.Author.Tests.{eq-eqb, eqb-true}
-use Rattle.bits.specs.Field.{bitAt, field}
-use Rattle.settings.specs.theory.Cases.{cases, both-true}
+use Rattle.laws.specs.Folds.{every, everyBelow}
+use Rattle.laws.specs.Cases.{cases, both-true, never, iff, true-both}
+use Rattle.laws.specs.Tests.{below-at, below-all}
+use Rattle.laws.specs.Options.{nothing}
+use Rattle.bits.specs.Field.{field}
 use Rattle.settings.specs.declared.layout.Layout.{Layout}
-use Rattle.table.specs.State.{Overflow, State, overflowAt}
-use Rattle.table.specs.Decode.{readOverflow, decode}
+use Rattle.table.specs.State.{State, overflowAt}
+use Rattle.table.specs.Decode.{decode}
 use Rattle.table.specs.Table.{Table}
 use Rattle.table.specs.Take.{occurs}
-use Rattle.table.specs.Check.{every, everyBelow, freeZero, freeChain, chainFrom, chainSound, listsSound, occursInLists, stateSound, fillZero, tableSound}
-use Rattle.table.specs.theory.Arrays.{length-tab}
-use Rattle.table.specs.theory.Changes.{at-over}
-use Rattle.table_check.specs.Walk.{stepOf}
+use Rattle.table.specs.Check.{freeZero, freeChain, chainFrom, chainSound, listsSound, occursInLists, stateSound, fillZero, tableSound}
+use Rattle.table_read.specs.theory.Reads.{sized}
+use Rattle.table_check.specs.Walk.{wayOn}
 use Rattle.table_check.specs.Lists.{andThen, listsWalk, chainWalk, allMarked, soundWalk}
 use Rattle.table_check.specs.Answers.{Clear}
-use Rattle.table_check.proofs.Tests.{no, no-some, iff, both, every-at, every-if}
 use Rattle.table_check.proofs.Marks.{Marks, marks-as, walk-passed, walk-completes, Some}
 use Rattle.table_check.proofs.Trails.{keep, kept, keeps, chain-trail}
 use Rattle.table_check.proofs.ListLaws.{lists-passed, lists-complete}
@@ -48,7 +48,7 @@ chain-passed g st c m after k =
       marks = rw q at (marks-as (g .nob) c (λ j. c j + occurs j []) m (λ j. omega arith) k);
     }))
     (λ p. rw p (λ e.
-    let w = walk-passed g (stepOf g (st .overflow) true) after (g .nob) (st .free) c m k e in
+    let w = walk-passed g (wayOn g (st .overflow) true) after (g .nob) (st .free) c m k e in
     let t = kept (freeZero g (st .overflow)) (w .blocks) (chainFrom g (g .nob) (st .overflow) (st .free)) (sym (chain-trail g (st .overflow) (g .nob) (st .free)) ∙ w .are) in
     record { blocks = w .blocks; are = rw p (t .is); pass = t .pass; marks = w .marks }))
 
@@ -59,7 +59,7 @@ chain-completes g st c m fs k few u =
     cases (eqb (st .free) (g .nob))
     (λ p. rw p (λ e. record { value = m; is = refl }))
     (λ p. rw p (λ e.
-    walk-completes g (stepOf g (st .overflow) true) (g .nob) (st .free) c m fs k few
+    walk-completes g (wayOn g (st .overflow) true) (g .nob) (st .free) c m fs k few
     (chain-trail g (st .overflow) (g .nob) (st .free) ∙ ap (keep (freeZero g (st .overflow))) e ∙ keeps (freeZero g (st .overflow)) fs u)))
 
 -- ---- both
@@ -70,7 +70,7 @@ record Both (o : Option (List ℕ)) (f : List ℕ → Option (List ℕ)) (after 
   second : f mid ≡ some after
 
 both-some : (o : Option (List ℕ)) (f : List ℕ → Option (List ℕ)) (after : List ℕ) → andThen o f ≡ some after → Both o f after
-both-some none f after e = no-some e
+both-some none f after e = nothing e
 both-some (some m) f after e = record { mid = m; first = refl; second = e }
 
 record Marked (g : Layout) (o : Option (List ℕ)) : Type 0 where
@@ -79,7 +79,7 @@ record Marked (g : Layout) (o : Option (List ℕ)) : Type 0 where
   all : everyBelow (g .nob) (λ j. eqb (field after j 1) 1) ≡ true
 
 marked-some : (g : Layout) (o : Option (List ℕ)) → allMarked g o ≡ true → Marked g o
-marked-some g none e = no e
+marked-some g none e = never e
 marked-some g (some m) e = record { after = m; is = refl; all = e }
 
 record Chain (g : Layout) (st : State) (o : Option (List ℕ)) : Type 0 where
@@ -89,7 +89,7 @@ record Chain (g : Layout) (st : State) (o : Option (List ℕ)) : Type 0 where
   once : everyBelow (g .nob) (λ j. eqb (occursInLists g j (st .basic) (st .overflow) + occurs j blocks) 1) ≡ true
 
 chain-some : (g : Layout) (st : State) (o : Option (List ℕ)) → chainSound g st o ≡ true → Chain g st o
-chain-some g st none e = no e
+chain-some g st none e = never e
 chain-some g st (some fs) e =
     let b = both-true (every (freeZero g (st .overflow)) fs) (everyBelow (g .nob) (λ j. eqb (occursInLists g j (st .basic) (st .overflow) + occurs j fs) 1)) e in
     record { blocks = fs; are = refl; pass = b .0; once = b .1 }
@@ -103,13 +103,13 @@ module _ (g : Layout) (st : State) (full : (b : ℕ) → b < g .nob → length (
       let b = both-some (listsWalk g (st .overflow) (st .basic) m) (chainWalk g st) (a .after) (a .is) in
       let l = lists-passed g (st .overflow) full (st .basic) (λ j. 0) m (b .mid) k (b .first) in
       let c = chain-passed g st (λ j. 0 + occursInLists g j (st .basic) (st .overflow)) (b .mid) (a .after) (l .marks) (b .second) in
-      both (listsSound g (st .basic) (st .overflow)) (chainSound g st (freeChain g st)) (l .sound)
+      true-both (l .sound)
       (ap (chainSound g st) (c .are)
-      ∙ both (every (freeZero g (st .overflow)) (c .blocks)) (everyBelow (g .nob) (λ j. eqb (occursInLists g j (st .basic) (st .overflow) + occurs j (c .blocks)) 1)) (c .pass)
-      (every-if (g .nob) (λ j. eqb (occursInLists g j (st .basic) (st .overflow) + occurs j (c .blocks)) 1)
+      ∙ true-both (c .pass)
+      (below-all (g .nob) (λ j. eqb (occursInLists g j (st .basic) (st .overflow) + occurs j (c .blocks)) 1)
       (λ j h.
       let q : occursInLists g j (st .basic) (st .overflow) + occurs j (c .blocks) ≡ field (a .after) j 1 = omega (arith, c .marks .bit j h) in
-      ap (λ (x : ℕ). eqb x 1) q ∙ every-at (g .nob) (λ i. eqb (field (a .after) i 1) 1) (a .all) j h)))
+      ap (λ (x : ℕ). eqb x 1) q ∙ below-at (g .nob) (λ i. eqb (field (a .after) i 1) 1) (a .all) j h)))
 
   sound-if : stateSound g st ≡ true → soundWalk g st m ≡ true
   unfolding soundWalk stateSound
@@ -117,14 +117,14 @@ module _ (g : Layout) (st : State) (full : (b : ℕ) → b < g .nob → length (
       let b = both-true (listsSound g (st .basic) (st .overflow)) (chainSound g st (freeChain g st)) e in
       let c = chain-some g st (freeChain g st) (b .1) in
       let once : (j : ℕ) → j < g .nob → occursInLists g j (st .basic) (st .overflow) + occurs j (c .blocks) ≡ 1 =
-      λ j h. eqb-true (occursInLists g j (st .basic) (st .overflow) + occurs j (c .blocks)) 1 (every-at (g .nob) (λ i. eqb (occursInLists g i (st .basic) (st .overflow) + occurs i (c .blocks)) 1) (c .once) j h) in
+      λ j h. eqb-true (occursInLists g j (st .basic) (st .overflow) + occurs j (c .blocks)) 1 (below-at (g .nob) (λ i. eqb (occursInLists g i (st .basic) (st .overflow) + occurs i (c .blocks)) 1) (c .once) j h) in
       let l = lists-complete g (st .overflow) full (st .basic) (λ j. 0) m k (λ j h. omega (arith, once j h)) (b .0) in
       let p = lists-passed g (st .overflow) full (st .basic) (λ j. 0) m (l .value) k (l .is) in
       let f = chain-completes g st (λ j. 0 + occursInLists g j (st .basic) (st .overflow)) (l .value) (c .blocks) (p .marks) (λ j h. omega (arith, once j h)) (c .pass) (c .are) in
       let q = chain-passed g st (λ j. 0 + occursInLists g j (st .basic) (st .overflow)) (l .value) (f .value) (p .marks) (f .is) in
       let same : q .blocks ≡ c .blocks = some-same (sym (q .are) ∙ c .are) in
       rw (l .is, f .is)
-      (every-if (g .nob) (λ j. eqb (field (f .value) j 1) 1)
+      (below-all (g .nob) (λ j. eqb (field (f .value) j 1) 1)
       (λ j h. eq-eqb (field (f .value) j 1) 1 (omega (arith, q .marks .bit j h, ap (occurs j) same, once j h))))
     where
       some-same : {x y : List ℕ} → some x ≡ some y → x ≡ y
@@ -135,10 +135,6 @@ module _ (g : Layout) (st : State) (full : (b : ℕ) → b < g .nob → length (
 
 -- ---- the table
 
-pub slots-full : (g : Layout) (t : List ℕ) → Table g t → (b : ℕ) → b < g .nob → length (overflowAt (decode g t .overflow) b .slots) ≡ g .sio
-unfolding readOverflow
-slots-full g t T b h = ap (λ (o : Overflow). length (o .slots)) (at-over g (T .proper) t b h) ∙ length-tab (g .sio) _
-
 pub clear-marks : (nob : ℕ) (m : List ℕ) → nob ≤ 8 * length m → Clear m → Marks nob (λ j. 0) m
 clear-marks nob m l c = record { room = l; bit = λ j h. c j (omega arith) }
 
@@ -147,23 +143,11 @@ module _ (g : Layout) (t m : List ℕ) (T : Table g t) (k : Marks (g .nob) (λ j
   unfolding tableSound soundWalk
   table-none e =
       ap (λ (q : Bool). q && fillZero g t)
-      (sym (sound-walk g (decode g t) (slots-full g t T) m k) ∙ ap (allMarked g) e)
+      (sym (sound-walk g (decode g t) (sized g t T) m k) ∙ ap (allMarked g) e)
 
   pub table-some : (after : List ℕ) → andThen (listsWalk g (decode g t .overflow) (decode g t .basic) m) (chainWalk g (decode g t)) ≡ some after
       → tableSound g t ≡ (everyBelow (g .nob) (λ j. eqb (field after j 1) 1) && fillZero g t)
   unfolding tableSound soundWalk
   table-some after e =
       ap (λ (q : Bool). q && fillZero g t)
-      (sym (sound-walk g (decode g t) (slots-full g t T) m k) ∙ ap (allMarked g) e)
-
--- ---- marks that are zero are clear
-
-getD-zeros : (n i : ℕ) → _≡_ {A = ℕ} (getD (replicate n 0) i 0) 0
-getD-zeros zero i = refl
-getD-zeros (suc n) zero = refl
-getD-zeros (suc n) (suc i) = getD-zeros n i
-
-pub clear-zeros : (n j : ℕ) → field (replicate n 0) j 1 ≡ 0
-unfolding field bitAt
-clear-zeros n j =
-    rw (getD-zeros n ((j + 0) / 8), zero-div (2 ^ (7 - (j + 0) % 8)))
+      (sym (sound-walk g (decode g t) (sized g t T) m k) ∙ ap (allMarked g) e)

@@ -1,21 +1,25 @@
 -- The trail of a list is `follow` with its unused slots tested; that of the free chain is the chain with its zeros tested.
 use mathlib.Core.Path.{_≡_, refl, sym, ap, _∙_}
 use mathlib.Core.Bool.{Bool, true, false, cond}
-use mathlib.Core.List.{List}
+use mathlib.Core.List.{List, [], _∷_}
 use mathlib.Core.Option.{Option, none, some}
 use Prim.Native.Nat.{ℕ, zero, suc, _<_}
 use native.Mathlib.Omega.{arith}
 use lib.ListN.{length, drop-of-length-le}
 use lib.Dec.{eqb, ltb}
-use borrow.Author.Tests.{eqb-true, ltb-true}
-use Rattle.settings.specs.theory.Cases.{cases}
+use borrow.Author.Tests.{ltb-true}
+use Rattle.laws.specs.Folds.{every, allZero}
+use Rattle.laws.specs.Cases.{cases}
+use Rattle.laws.specs.Options.{nothing}
 use Rattle.settings.specs.declared.layout.Layout.{Layout}
 use Rattle.table.specs.State.{Overflow, overflowAt}
-use Rattle.table.specs.Follow.{cons?, follow}
-use Rattle.table.specs.Check.{every, allZero, overflowUnused, freeZero, chainFrom}
-use Rattle.table_check.specs.Walk.{listStep, chainStep, stepOf}
-use Rattle.table_check.proofs.Tests.{no-some}
-use Rattle.table_check.proofs.Marks.{trail}
+use Rattle.table.specs.Follow.{cons?, follow, goOn, stepAt}
+use Rattle.table.specs.Check.{overflowUnused, freeZero, chainFrom}
+use Rattle.table_check.specs.Walk.{listStep, chainStep, tested, wayOn}
+use Rattle.table_check.proofs.Marks.{trail, blocksOn}
+use Rattle.table.specs.theory.Ways.{Way, ends, goes, breaks, way}
+use Rattle.table.specs.declared.step.Step.{Step}
+use Rattle.table.specs.declared.step.Step.the-variants.{Last, Further, Damage}
 
 -- the blocks, if each passes the test
 abbrev pub keep : (ℕ → Bool) → Option (List ℕ) → Option (List ℕ)
@@ -36,11 +40,11 @@ pub record Kept (f : ℕ → Bool) (bs : List ℕ) (o : Option (List ℕ)) : Typ
   pub pass : every f bs ≡ true
 
 pub kept : (f : ℕ → Bool) (bs : List ℕ) (o : Option (List ℕ)) → keep f o ≡ some bs → Kept f bs o
-kept f bs none = λ e. no-some e
+kept f bs none = λ e. nothing e
 kept f bs (some cs) =
     cases (every f cs)
     (λ q. rw q (λ e. let r : cs ≡ bs = cc in record { is = e; pass = ap (every f) (sym r) ∙ q }))
-    (λ q. rw q (λ e. no-some e))
+    (λ q. rw q (λ e. nothing e))
 
 pub keeps : (f : ℕ → Bool) (bs : List ℕ) → every f bs ≡ true → keep f (some bs) ≡ some bs
 keeps f bs q = rw q
@@ -49,23 +53,28 @@ module _ (g : Layout) (os : List Overflow) where
   unused-full : (b : ℕ) → length (overflowAt os b .slots) ≡ g .sio → overflowAt os b .counter ≡ g .sio → overflowUnused g os b ≡ true
   unused-full b h e = ap allZero (drop-of-length-le (overflowAt os b .slots) {i = suc (overflowAt os b .counter)} (omega arith))
 
+  -- one block of a list
+  step-trail : (n b : ℕ) → length (overflowAt os b .slots) ≡ g .sio → (trace : ℕ → Option (List ℕ))
+      → ((c : ℕ) → trace c ≡ keep (overflowUnused g os) (follow g n os c)) → (s : Step) → Way (g .sio) (overflowAt os b .counter) (overflowAt os b .link) s
+      → blocksOn b (tested (overflowUnused g os b) s) trace ≡ keep (overflowUnused g os) (goOn s (b ∷ []) (λ c. cons? b (follow g n os c)))
+  step-trail n b h trace ih Last (ends l) = cases (overflowUnused g os b) (λ u. rw u) (λ u. rw u)
+  step-trail n b h trace ih (Further c) (goes e) =
+      ap (cons? b) (ih (overflowAt os b .link)) ∙ keep-cons (overflowUnused g os) b (unused-full b h e) (follow g n os (overflowAt os b .link))
+  step-trail n b h trace ih Damage (breaks l) = refl
+
   pub list-trail : ((b : ℕ) → b < g .nob → length (overflowAt os b .slots) ≡ g .sio) → (n b : ℕ)
-      → trail g (stepOf g os false) n b ≡ keep (overflowUnused g os) (follow g n os b)
-  unfolding trail stepOf listStep
+      → trail g (wayOn g os false) n b ≡ keep (overflowUnused g os) (follow g n os b)
+  unfolding trail wayOn listStep
   list-trail full zero b = refl
   list-trail full (suc n) b =
       cases (ltb b (g .nob))
-      (λ p. cases (ltb (overflowAt os b .counter) (g .sio))
-      (λ q. cases (overflowUnused g os b) (λ u. rw (p, q, u)) (λ u. rw (p, q, u)))
-      (λ q. cases (eqb (overflowAt os b .counter) (g .sio))
-      (λ r. rw (p, q, r)
-      (ap (cons? b) (list-trail full n (overflowAt os b .link))
-      ∙ keep-cons (overflowUnused g os) b (unused-full b (full b (ltb-true b (g .nob) p)) (eqb-true (overflowAt os b .counter) (g .sio) r)) (follow g n os (overflowAt os b .link))))
-      (λ r. rw (p, q, r))))
+      (λ p. rw p
+      (step-trail n b (full b (ltb-true b (g .nob) p)) (trail g (wayOn g os false) n) (list-trail full n) (stepAt g os b)
+      (way (g .sio) (overflowAt os b .counter) (overflowAt os b .link))))
       (λ p. rw p)
 
-  pub chain-trail : (n b : ℕ) → trail g (stepOf g os true) n b ≡ keep (freeZero g os) (chainFrom g n os b)
-  unfolding trail stepOf chainStep
+  pub chain-trail : (n b : ℕ) → trail g (wayOn g os true) n b ≡ keep (freeZero g os) (chainFrom g n os b)
+  unfolding trail wayOn chainStep
   chain-trail zero b = refl
   chain-trail (suc n) b =
       cases (ltb b (g .nob))

@@ -2,23 +2,23 @@
 use mathlib.Core.Path.{_≡_, refl, sym, ap, ap₂, _∙_}
 use mathlib.Core.Bool.{Bool, _&&_}
 use mathlib.Core.List.{List, [], _∷_}
-use Prim.Native.Nat.{ℕ, zero, suc, _+_, _-_, _*_, _/_, _%_, _^_, _≤_, _<_}
+use Prim.Native.Nat.{ℕ, zero, suc, _+_, _-_, _*_, _/_, _%_, _^_, _<_}
 use native.Mathlib.Omega.{arith}
 use native.Mathlib.Nat.{zero-div, zero-mod}
 use lib.ListN.{length, drop}
 use lib.Pow.{pow-pos}
 use lib.Dec.{eqb}
 use borrow.Author.Tests.{eq-eqb, ne-eqb}
+use Rattle.laws.specs.Folds.{allZero}
 use Rattle.bits.specs.Field.{field}
 use Rattle.bits.specs.theory.Fields.{field-cat, sub-field}
 use Rattle.settings.specs.declared.layout.Layout.{Layout}
 use Rattle.table.specs.Arrays.{tabulate, packed, unpacked}
-use Rattle.table.specs.State.{Basic, Overflow, basicAt, overflowAt, restBits, unpack}
+use Rattle.table.specs.State.{Basic, Overflow, basicAt, overflowAt, restBits, unpack, ownSlots}
 use Rattle.table.specs.Decode.{basicSlots, overflowSlots, readBasic, readOverflow, decode}
 use Rattle.table.specs.Table.{Table}
-use Rattle.table.specs.Check.{allZero}
 use Rattle.table.specs.theory.Arrays.{tab-ext, fields-packed}
-use Rattle.table.specs.theory.Changes.{basic-ends, over-ends, start-high, at-basic, at-over}
+use Rattle.table.specs.theory.Changes.{at-basic, at-over}
 use Rattle.table_read.specs.theory.Reads.{unpacked-fields}
 
 -- ---- a run of bits in parts
@@ -75,14 +75,6 @@ zero-from s w n off c =
 -- ---- the slots of blocks
 
 module _ (g : Layout) (t : List ℕ) (T : Table g t) where
-  pub over-room : (j : ℕ) → j < g .nob → overflowSlots g j + g .sio * g .slot ≤ g .bits
-  unfolding overflowSlots
-  over-room j h = omega (arith, over-ends g (T .proper) j h, T .proper .overflow-is)
-
-  pub basic-room : (i : ℕ) → i < g .lists → basicSlots g i + g .sib * g .slot ≤ g .bits
-  unfolding basicSlots
-  basic-room i h = omega (arith, basic-ends g (T .proper) i h, start-high g (T .proper), T .proper .basic-is)
-
   pub over-zeros : (j c : ℕ) → j < g .nob
       → allZero (drop c (overflowAt (decode g t .overflow) j .slots)) ≡ eqb (field t (overflowSlots g j + c * g .slot) ((g .sio - c) * g .slot)) 0
   unfolding readOverflow
@@ -91,7 +83,7 @@ module _ (g : Layout) (t : List ℕ) (T : Table g t) where
       ∙ zero-from t (g .slot) (g .sio) (overflowSlots g j) c
 
   own-slots : (i : ℕ) → i < g .lists
-      → unpack g (basicAt (decode g t .basic) i .head) (basicAt (decode g t .basic) i .rest)
+      → ownSlots g (basicAt (decode g t .basic) i)
       ≡ tabulate (g .sib) (λ k. field t (basicSlots g i + k * g .slot) (g .slot))
   unfolding unpack readBasic
   own-slots i h =
@@ -101,7 +93,7 @@ module _ (g : Layout) (t : List ℕ) (T : Table g t) where
       ∙ unpacked-fields t (g .slot) (g .sib) (basicSlots g i)
 
   pub basic-zeros : (i c : ℕ) → i < g .lists
-      → allZero (drop c (unpack g (basicAt (decode g t .basic) i .head) (basicAt (decode g t .basic) i .rest)))
+      → allZero (drop c (ownSlots g (basicAt (decode g t .basic) i)))
       ≡ eqb (field t (basicSlots g i + c * g .slot) ((g .sib - c) * g .slot)) 0
   basic-zeros i c h =
       ap (λ (es : List ℕ). allZero (drop c es)) (own-slots i h)

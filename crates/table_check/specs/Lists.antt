@@ -5,12 +5,13 @@ use mathlib.Core.List.{List, [], _∷_, _++_}
 use mathlib.Core.Option.{Option, none, some}
 use lib.ListN.{take}
 use lib.Dec.{eqb, ltb}
+use Rattle.laws.specs.Folds.{everyBelow}
 use Rattle.bits.specs.Field.{field}
 use Rattle.settings.specs.declared.layout.Layout.{Layout}
-use Rattle.table.specs.State.{Basic, Overflow, State, overflowAt, unpack}
-use Rattle.table.specs.Check.{basicUnused, noEntryTwice, everyBelow}
+use Rattle.table.specs.State.{Basic, Overflow, State, overflowAt, unpack, ownSlots}
+use Rattle.table.specs.Check.{basicUnused, noEntryTwice}
 use Rattle.table_read.specs.Steps.{lastFrom}
-use Rattle.table_check.specs.Walk.{found, stepOf, walk}
+use Rattle.table_check.specs.Walk.{found, wayOn, walk}
 use Rattle.table_check.specs.Entries.{slotsFrom}
 
 -- the marks, if there are any and the test passes
@@ -25,7 +26,7 @@ andThen (some m) f = f m
 module _ (g : Layout) where
   -- a list without overflow blocks
   unfoldable pub shortSound : Basic → Bool
-  shortSound b = basicUnused g b [] && noEntryTwice g (take (b .counter) (unpack g (b .head) (b .rest)))
+  shortSound b = basicUnused g b [] && noEntryTwice g (take (b .counter) (ownSlots g b))
 
   -- "no entry twice" in a list that overflows, whose last block is l
   abbrev pub longFrom : List Overflow → Basic → ℕ → Bool
@@ -39,14 +40,14 @@ module _ (g : Layout) where
   listWalk os b m =
       cond (ltb (b .counter) (suc (g .sib)))
       (found (shortSound b) m)
-      (cond (eqb (b .counter) (suc (g .sib))) (provided (longApart os b) (walk g (stepOf g os false) (g .nob) (b .head) m)) none)
+      (cond (eqb (b .counter) (suc (g .sib))) (provided (longApart os b) (walk g (wayOn g os false) (g .nob) (b .head) m)) none)
 
   unfoldable pub listsWalk : List Overflow → List Basic → List ℕ → Option (List ℕ)
   listsWalk os [] m = some m
   listsWalk os (b ∷ bs) m = andThen (listWalk os b m) (listsWalk os bs)
 
   unfoldable pub chainWalk : State → List ℕ → Option (List ℕ)
-  chainWalk st m = cond (eqb (st .free) (g .nob)) (some m) (walk g (stepOf g (st .overflow) true) (g .nob) (st .free) m)
+  chainWalk st m = cond (eqb (st .free) (g .nob)) (some m) (walk g (wayOn g (st .overflow) true) (g .nob) (st .free) m)
 
   -- "every overflow block exactly once": every block has a mark
   abbrev pub allMarked : Option (List ℕ) → Bool

@@ -1,9 +1,9 @@
 // The call check.
 use crate::bytes::all_marked;
-use crate::bytes::clear;
 use crate::bytes::zeros;
 use crate::lists::chain_sound;
 use crate::lists::lists_sound;
+use bits::zero_bytes;
 use settings::Laid;
 use settings::Layout;
 use settings::Refusal;
@@ -40,9 +40,9 @@ fn audited(t: &[u8], g: Layout, marks: &mut [u8]) -> bool
     requires { ⌜ Proper g × (g .bytes ≤ length (now t)) × (g .nob ≤ 8 * length (now marks)) ⌝ }
     ensures { λ r. ⌜ Audited g (now (t .entry)) (now (marks .entry)) (now (marks .exit)) r ⌝ }
 {
-    clear(marks);
+    zero_bytes(marks);
     let answer = sound(t, g, marks);
-    clear(marks);
+    zero_bytes(marks);
     answer
 }
 

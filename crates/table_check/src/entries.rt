@@ -4,134 +4,82 @@ use keys::BlockNumber;
 use keys::Key;
 use keys::SlotNumber;
 use settings::Layout;
-use table_read::blocks::overflow_counter;
+use table::Step;
 use table_read::blocks::overflow_front;
-use table_read::blocks::overflow_link;
+use table_read::blocks::step_of;
 use table_read::lists::overflow_run;
 use table_read::slots::Slots;
+use table_read::slots::entry_at;
 use table_read::slots::least;
 use table_read::slots::scan;
 use table_read::slots::scan_displaced;
-use table_read::slots::seen;
 ghost use mathlib.Core.Path.{_≡_};
 ghost use Prim.Native.Nat.{_+_, _*_, _^_, _≤_, _<_};
 ghost use lib.ListN.{length};
+ghost use Rattle.laws.specs.Folds.{everyBelow};
 ghost use Rattle.bits.specs.Field.{field};
-ghost use Rattle.bits.specs.Put.{putField};
-ghost use Rattle.keys.specs.Key.{keyNumber};
+ghost use Rattle.keys.specs.Key.{keyNumber, keyOf};
+ghost use Rattle.settings.specs.Proper.{Proper};
 ghost use Rattle.table.specs.Decode.{decode};
 ghost use Rattle.table.specs.Table.{Table};
-ghost use Rattle.table.specs.Check.{hasEntry, noEntryTwice, everyBelow};
+ghost use Rattle.table.specs.Check.{hasEntry, noEntryTwice};
 ghost use Rattle.table_read.specs.Steps.{shown, View, First, Run, slotsIn};
 ghost use Rattle.table_read.specs.Rows.{Row};
-ghost use Rattle.table_check.specs.Entries.{nextOf, runOf, slotsFrom, alone};
+ghost use Rattle.table_check.specs.Entries.{runOf, slotsFrom, slotsAfter, alone};
 
-// The entry of n bits from bit `at` on, as it stands.
-fn plain_entry(t: &[u8], at: usize, n: usize) -> Key
-    requires { ⌜ (at + n ≤ 8 * length (now t)) × (at + n ≤ 2 ^ 27) × (n ≤ 128) ⌝ }
-    ensures { λ r. ⌜ keyNumber r ≡ field (now (t .entry)) at n ⌝ }
+// The same as `entry_at`: few entries stand among displaced bits, and the others are read where they stand.
+fn next_entry(t: &[u8], b: Slots, at: usize, n: usize) -> Key
+    requires { ⌜ View (now t) b at n × (n ≤ 128) ⌝ }
+    ensures { λ r. ⌜ r ≡ keyOf (field (shown (now (t .entry)) b) at n) ⌝ }
 {
+    if at < b.start + b.link {
+        return entry_at(&t[..], b, at, n);
+    }
     if n <= 64 {
-        let short = bits::get(t, at, n);
         return Key {
             high: 0,
-            low: short,
+            low: bits::get(t, at, n),
         };
     }
-    let high = bits::get(t, at, n - 64);
-    let low = bits::get(t, at + (n - 64), 64);
     Key {
-        high: high,
-        low: low,
+        high: bits::get(t, at, n - 64),
+        low: bits::get(t, at + (n - 64), 64),
     }
 }
 
-// The entry of n bits from bit `at` on, where the first bits of the slots are what they count as.
-fn seen_entry(t: &[u8], b: Slots, at: usize, n: usize) -> Key
-    requires { ⌜ View (now t) b at n × (n ≤ 128) ⌝ }
-    ensures { λ r. ⌜ keyNumber r ≡ field (shown (now (t .entry)) b) at n ⌝ }
+// The first of `count` slots that holds the entry, where their first bits are what they count as; count if none does.
+fn scan_run(t: &[u8], b: Slots, count: usize, slot: usize, bie: usize, entry: Key) -> SlotNumber
+    requires { ⌜ Row (now t) (b .start) slot bie count × (keyNumber entry < 2 ^ bie) ⌝ }
+    requires { ⌜ (b .start + b .link ≤ 8 * length (now t)) × (b .link ≤ 16) × (b .head < 2 ^ b .link) ⌝ }
+    ensures { λ r. ⌜ First (shown (now (t .entry)) b) (b .start) slot bie (keyNumber entry) count (r .0) ⌝ }
 {
-    if n <= 64 {
-        let low = seen(t, b, at, n);
-        return Key { high: 0, low: low };
+    if count == 0 {
+        return SlotNumber(0);
     }
-    let high = seen(t, b, at, n - 64);
-    let low = seen(t, b, at + (n - 64), 64);
-    Key {
-        high: high,
-        low: low,
-    }
-}
-
-// The entry of n bits from bit `at` on. Few stand among displaced bits.
-fn entry_at(t: &[u8], b: Slots, at: usize, n: usize) -> Key
-    requires { ⌜ View (now t) b at n × (n ≤ 128) ⌝ }
-    ensures { λ r. ⌜ keyNumber r ≡ field (shown (now (t .entry)) b) at n ⌝ }
-{
-    if at >= b.start + b.link {
-        return plain_entry(t, at, n);
-    }
-    seen_entry(&t[..], b, at, n)
-}
-
-// The first of `count` slots that holds the entry, where their first `link` bits count as `head`; count if none does.
-fn scan_run(
-    t: &[u8],
-    start: usize,
-    count: usize,
-    link: usize,
-    head: u64,
-    slot: usize,
-    bie: usize,
-    entry: Key,
-) -> SlotNumber
-    requires { ⌜ Row (now t) start slot bie count × (keyNumber entry < 2 ^ bie) ⌝ }
-    requires { ⌜ (start + link ≤ 8 * length (now t)) × (link ≤ 16) × (head < 2 ^ link) ⌝ }
-    ensures { λ r. ⌜ First (putField (now (t .entry)) start link head) start slot bie (keyNumber entry) count (r .0) ⌝ }
-{
-    if link == 0 {
-        return scan(
-            &t[..],
-            start,
+    if b.link == 0 {
+        let first = Slots {
+            start: b.start,
             count,
-            count,
-            slot,
-            bie,
-            entry.high,
-            entry.low,
-        );
+            link: 0,
+            head: 0,
+        };
+        return scan(&t[..], first, count, slot, bie, entry);
     }
-    scan_displaced(
-        &t[..],
-        start,
+    let first = Slots {
+        start: b.start,
         count,
-        count,
-        link,
-        head,
-        slot,
-        bie,
-        entry.high,
-        entry.low,
-    )
+        link: b.link,
+        head: b.head,
+    };
+    scan_displaced(&t[..], first, slot, bie, entry.high, entry.low)
 }
 
-// The block after block b in its list; nob, which is no block, if b is the last.
-fn next_block(t: &[u8], g: Layout, b: BlockNumber) -> BlockNumber
-    requires { ⌜ Table g (now t) × (b .0 < g .nob) ⌝ }
-    ensures { λ r. ⌜ r .0 ≡ nextOf g (decode g (now (t .entry)) .overflow) (b .0) ⌝ }
+// The slots in use in block b, whose counter is c.
+fn run_of(g: Layout, b: BlockNumber, c: usize) -> Slots
+    requires { ⌜ Proper g × (b .0 < g .nob) ⌝ }
+    ensures { λ r. ⌜ r ≡ runOf g (b .0) c ⌝ }
 {
-    if overflow_counter(t, g, b) == g.sio {
-        return BlockNumber(overflow_link(t, g, b));
-    }
-    BlockNumber(g.nob)
-}
-
-// The slots in use in block b.
-fn run_of(t: &[u8], g: Layout, b: BlockNumber) -> Slots
-    requires { ⌜ Table g (now t) × (b .0 < g .nob) ⌝ }
-    ensures { λ r. ⌜ r ≡ runOf g (decode g (now (t .entry)) .overflow) (b .0) ⌝ }
-{
-    overflow_run(g, b, least(overflow_counter(t, g, b), g.sio))
+    overflow_run(g, b, least(c, g.sio))
 }
 
 // Whether the entry stands in the blocks from first on, of which at most `most` are followed.
@@ -146,44 +94,45 @@ fn held_from(t: &[u8], g: Layout, first: BlockNumber, most: usize, entry: Key) -
             return false;
         }
         let front = overflow_front(t, g, b);
-        let run = overflow_run(g, b, least(front.counter, g.sio));
-        let j = scan(
-            &t[..],
-            run.start,
-            run.count,
-            g.sio,
-            g.slot,
-            g.bie,
-            entry.high,
-            entry.low,
-        );
+        let run = run_of(g, b, front.counter);
+        let j = scan(&t[..], run, g.sio, g.slot, g.bie, entry);
         if j.0 < run.count {
             return true;
         }
-        b = if front.counter == g.sio {
-            BlockNumber(front.link)
-        } else {
-            BlockNumber(g.nob)
+        let Step::Further(next) = step_of(front, g.sio) else {
+            return false;
         };
+        b = next;
         left -= 1;
     }
     false
 }
 
+// Whether the entry stands in the blocks that a step leads to.
+fn held_after(t: &[u8], g: Layout, way: Step, most: usize, entry: Key) -> bool
+    requires { ⌜ Table g (now t) × (keyNumber entry < 2 ^ g .bie) ⌝ }
+    ensures { λ r. ⌜ r ≡ hasEntry g (keyNumber entry) (slotsAfter g most (decode g (now (t .entry)) .overflow) way) ⌝ }
+{
+    let Step::Further(next) = way else {
+        return false;
+    };
+    held_from(&t[..], g, next, most, entry)
+}
+
 // Whether each of the slots has an entry that stands neither in the slots before it nor in the blocks
-// from `next` on.
-pub fn slots_apart(t: &[u8], g: Layout, b: Slots, next: BlockNumber, most: usize) -> bool
+// that a step behind them leads to.
+pub(crate) fn slots_apart(t: &[u8], g: Layout, b: Slots, way: Step, most: usize) -> bool
     requires { ⌜ Table g (now t) × Run g (now t) b ⌝ }
-    ensures { λ r. ⌜ r ≡ everyBelow (b .count) (alone g (slotsIn g (now (t .entry)) b) (slotsFrom g most (decode g (now (t .entry)) .overflow) (next .0))) ⌝ }
+    ensures { λ r. ⌜ r ≡ everyBelow (b .count) (alone g (slotsIn g (now (t .entry)) b) (slotsAfter g most (decode g (now (t .entry)) .overflow) way)) ⌝ }
 {
     let mut at = b.start;
     let mut j: usize = 0;
     while j < b.count {
-        let entry = entry_at(t, b, at, g.bie);
-        if scan_run(&t[..], b.start, j, b.link, b.head, g.slot, g.bie, entry).0 < j {
+        let entry = next_entry(t, b, at, g.bie);
+        if scan_run(&t[..], b, j, g.slot, g.bie, entry).0 < j {
             return false;
         }
-        if held_from(&t[..], g, next, most, entry) {
+        if held_after(&t[..], g, way, most, entry) {
             return false;
         }
         at += g.slot;
@@ -193,7 +142,7 @@ pub fn slots_apart(t: &[u8], g: Layout, b: Slots, next: BlockNumber, most: usize
 }
 
 // Whether no entry stands twice in the blocks from first on.
-pub fn blocks_apart(t: &[u8], g: Layout, first: BlockNumber) -> bool
+pub(crate) fn blocks_apart(t: &[u8], g: Layout, first: BlockNumber) -> bool
     requires { ⌜ Table g (now t) ⌝ }
     ensures { λ r. ⌜ r ≡ noEntryTwice g (slotsFrom g (g .nob) (decode g (now (t .entry)) .overflow) (first .0)) ⌝ }
 {
@@ -204,10 +153,14 @@ pub fn blocks_apart(t: &[u8], g: Layout, first: BlockNumber) -> bool
             return true;
         }
         left -= 1;
-        let next = next_block(t, g, b);
-        if !slots_apart(t, g, run_of(t, g, b), next, left) {
+        let front = overflow_front(t, g, b);
+        let way = step_of(front, g.sio);
+        if !slots_apart(t, g, run_of(g, b, front.counter), way, left) {
             return false;
         }
+        let Step::Further(next) = way else {
+            return true;
+        };
         b = next;
     }
     true

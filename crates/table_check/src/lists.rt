@@ -6,15 +6,16 @@ use crate::walk::mark_from;
 use keys::BlockNumber;
 use keys::ListNumber;
 use settings::Layout;
+use table::Step;
 use table_read::blocks::basic_counter;
 use table_read::blocks::basic_head;
-use table_read::blocks::basic_slots;
 use table_read::blocks::free_start;
 use table_read::blocks::overflow_link;
 use table_read::lists::Last;
 use table_read::lists::basic_run;
 use table_read::lists::displaced_run;
 use table_read::lists::follow;
+use table_read::places::basic_slots;
 ghost use mathlib.Core.Path.{_≡_};
 ghost use Prim.Native.Nat.{_*_, _≤_, _<_};
 ghost use lib.ListN.{length};
@@ -32,7 +33,7 @@ fn short_sound(t: &[u8], g: Layout, i: ListNumber, n: usize) -> bool
     if !zeros_after(t, basic_slots(g, i), g.slot, n, g.sib) {
         return false;
     }
-    slots_apart(t, g, basic_run(g, i, n), BlockNumber(g.nob), 0)
+    slots_apart(t, g, basic_run(g, i, n), Step::Last, 0)
 }
 
 // The entries of list i, which overflows.
@@ -45,7 +46,7 @@ fn long_apart(t: &[u8], g: Layout, i: ListNumber) -> bool
         return false;
     };
     let run = displaced_run(g, i, overflow_link(t, g, last));
-    if !slots_apart(t, g, run, first, g.nob) {
+    if !slots_apart(t, g, run, Step::Further(first), g.nob) {
         return false;
     }
     blocks_apart(t, g, first)
@@ -70,7 +71,7 @@ fn list_sound(t: &[u8], g: Layout, i: ListNumber, marks: &mut [u8]) -> bool
     long_apart(t, g, i)
 }
 
-pub fn lists_sound(t: &[u8], g: Layout, marks: &mut [u8]) -> bool
+pub(crate) fn lists_sound(t: &[u8], g: Layout, marks: &mut [u8]) -> bool
     requires { ⌜ Table g (now t) × (g .nob ≤ 8 * length (now marks)) ⌝ }
     ensures { λ r. ⌜ listsWalk g (decode g (now (t .entry)) .overflow) (decode g (now (t .entry)) .basic) (now (marks .entry)) ≡ found r (now (marks .exit)) ⌝ }
 {
@@ -85,7 +86,7 @@ pub fn lists_sound(t: &[u8], g: Layout, marks: &mut [u8]) -> bool
 }
 
 // The free chain: "first free overflow block, nob if none".
-pub fn chain_sound(t: &[u8], g: Layout, marks: &mut [u8]) -> bool
+pub(crate) fn chain_sound(t: &[u8], g: Layout, marks: &mut [u8]) -> bool
     requires { ⌜ Table g (now t) × (g .nob ≤ 8 * length (now marks)) ⌝ }
     ensures { λ r. ⌜ chainWalk g (decode g (now (t .entry))) (now (marks .entry)) ≡ found r (now (marks .exit)) ⌝ }
 {
@@ -94,5 +95,5 @@ pub fn chain_sound(t: &[u8], g: Layout, marks: &mut [u8]) -> bool
     if first.0 == none {
         return true;
     }
-    mark_from(t, g, true, first, marks)
+    mark_from(t, g, true, BlockNumber(first.0), marks)
 }

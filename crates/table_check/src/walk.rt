@@ -1,20 +1,26 @@
 // Blocks followed one by one, each with its mark: "every overflow block exactly once".
-use crate::steps::Step;
 use crate::steps::way_on;
 use keys::BlockNumber;
 use settings::Layout;
+use table::Step;
 ghost use mathlib.Core.Path.{_≡_};
 ghost use Prim.Native.Nat.{_*_, _≤_};
 ghost use lib.ListN.{length};
 ghost use Rattle.table.specs.Decode.{decode};
 ghost use Rattle.table.specs.Table.{Table};
-ghost use Rattle.table_check.specs.Walk.{stepOf, walk, found};
+ghost use Rattle.table_check.specs.Walk.{wayOn, walk, found};
 
 // Marks the blocks from first to the end of the list, or of the free chain; false if there is a block
 // that is marked already, or something that a sound table has not.
-pub fn mark_from(t: &[u8], g: Layout, chain: bool, first: BlockNumber, marks: &mut [u8]) -> bool
+pub(crate) fn mark_from(
+    t: &[u8],
+    g: Layout,
+    chain: bool,
+    first: BlockNumber,
+    marks: &mut [u8],
+) -> bool
     requires { ⌜ Table g (now t) × (g .nob ≤ 8 * length (now marks)) ⌝ }
-    ensures { λ r. ⌜ walk g (stepOf g (decode g (now (t .entry)) .overflow) chain) (g .nob) (first .0) (now (marks .entry)) ≡ found r (now (marks .exit)) ⌝ }
+    ensures { λ r. ⌜ walk g (wayOn g (decode g (now (t .entry)) .overflow) chain) (g .nob) (first .0) (now (marks .entry)) ≡ found r (now (marks .exit)) ⌝ }
 {
     let mut b = first;
     let mut left = g.nob;
@@ -29,7 +35,7 @@ pub fn mark_from(t: &[u8], g: Layout, chain: bool, first: BlockNumber, marks: &m
         match way_on(t, g, chain, b) {
             Step::Last => return true,
             Step::Further(next) => b = next,
-            Step::Broken => return false,
+            Step::Damage => return false,
         }
         left -= 1;
     }

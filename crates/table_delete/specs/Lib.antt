@@ -1,4 +1,6 @@
--- Words of contracts.
+-- What the call's contract cites.
+pub mod Call
+-- Words of private contracts.
 pub mod DeleteSteps
 -- What is proved of them.
 pub mod theory

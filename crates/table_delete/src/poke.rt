@@ -3,26 +3,28 @@ use keys::BlockNumber;
 use keys::ListNumber;
 use keys::SlotNumber;
 use settings::Layout;
-use table_read::blocks::basic_slots;
 use table_read::blocks::overflow_link;
 use table_read::lists::spot_of;
-use table_store::basic_slot;
+use table_read::places::basic_slot;
+use table_read::places::basic_slots;
+use table_read::places::overflow_slot;
 use table_store::copy;
-use table_store::overflow_slot;
 use table_store::poke_displaced;
 use table_store::put_overflow_link;
 ghost use Prim.Native.Nat.{_<_};
 ghost use Rattle.bits.specs.Field.{field};
 ghost use Rattle.table.specs.Decode.{decode};
 ghost use Rattle.table.specs.Table.{Table};
-ghost use Rattle.table_store.specs.theory.StoreLaws.{Stored};
-ghost use Rattle.table_delete.specs.DeleteSteps.{Movable, pokeBasic, pokeAt, Pokable};
+ghost use Rattle.table.specs.Store.{storeDisplaced};
+ghost use Rattle.table_delete.specs.DeleteSteps.{Movable};
+ghost use Rattle.table_store.specs.Stores.{Stored};
+ghost use Rattle.table_store.specs.Places.{storeFrom, Storable};
 
 // The slot at bit `from` into slot p of basic block i, which overflows to block l: what the displaced bits are now
 // goes to the link of block l.
 fn poke_basic(t: &mut [u8], g: Layout, i: ListNumber, l: BlockNumber, p: SlotNumber, from: usize)
     requires { ⌜ Table g (now t) × (i .0 < g .lists) × (l .0 < g .nob) × (p .0 < g .sib) × Movable g from ⌝ }
-    ensures { λ _. ⌜ Stored g (now (t .entry)) (now (t .exit)) (pokeBasic g (i .0) (l .0) (p .0) (field (now (t .entry)) from (g .slot)) (decode g (now (t .entry)))) ⌝ }
+    ensures { λ _. ⌜ Stored g (now (t .entry)) (now (t .exit)) (storeDisplaced g (i .0) (l .0) (p .0) (field (now (t .entry)) from (g .slot)) (decode g (now (t .entry)))) ⌝ }
 {
     let old = overflow_link(t, g, l);
     let base = basic_slots(g, i);
@@ -34,7 +36,7 @@ fn poke_basic(t: &mut [u8], g: Layout, i: ListNumber, l: BlockNumber, p: SlotNum
 }
 
 // The slot at bit `from` into place p of list i, whose overflow blocks go from h to l.
-pub fn poke(
+pub(crate) fn poke(
     t: &mut [u8],
     g: Layout,
     i: ListNumber,
@@ -43,8 +45,8 @@ pub fn poke(
     p: usize,
     from: usize,
 )
-    requires { ⌜ Table g (now t) × Pokable g (decode g (now t)) (i .0) (h .0) (l .0) p × Movable g from ⌝ }
-    ensures { λ _. ⌜ Stored g (now (t .entry)) (now (t .exit)) (pokeAt g (i .0) (h .0) (l .0) p (field (now (t .entry)) from (g .slot)) (decode g (now (t .entry)))) ⌝ }
+    requires { ⌜ Table g (now t) × Storable g (decode g (now t)) (i .0) (h .0) (l .0) p × Movable g from ⌝ }
+    ensures { λ _. ⌜ Stored g (now (t .entry)) (now (t .exit)) (storeFrom g (i .0) (h .0) (l .0) p (field (now (t .entry)) from (g .slot)) (decode g (now (t .entry)))) ⌝ }
 {
     if p < g.sib {
         poke_basic(t, g, i, l, SlotNumber(p), from);

@@ -18,10 +18,10 @@ use table_find::find_in;
 use table_read::blocks::basic_counter;
 use table_read::blocks::basic_head;
 use table_read::blocks::overflow_counter;
-use table_store::basic_slot;
+use table_read::places::basic_slot;
+use table_read::places::overflow_slot;
 use table_store::clear;
 use table_store::copy;
-use table_store::overflow_slot;
 use table_store::put_basic_counter;
 ghost use mathlib.Core.Path.{_≡_};
 ghost use Prim.Native.Nat.{_^_, _≤_, _<_};
@@ -30,7 +30,8 @@ ghost use Rattle.table.specs.State.{basicAt};
 ghost use Rattle.table.specs.Decode.{decode};
 ghost use Rattle.table.specs.Find.{findIn};
 ghost use Rattle.table.specs.Table.{Table};
-ghost use Rattle.table_delete.specs.DeleteSteps.{Placed, Removed, Deleted, DeleteCall};
+ghost use Rattle.table_delete.specs.DeleteSteps.{Placed, Removed};
+ghost use Rattle.table_delete.specs.Call.{Deleted, DeleteCall};
 
 // Place p of list i, which has c slots in use and no overflow blocks.
 fn remove_short(t: &mut [u8], g: Layout, i: ListNumber, c: usize, p: usize) -> bool
@@ -56,6 +57,7 @@ fn remove_long(t: &mut [u8], g: Layout, i: ListNumber, p: usize) -> bool
     let first = BlockNumber(basic_head(t, g, i));
     let end = end_of(t, g, first);
     let last = end.last;
+    let before = end.before;
     let n = overflow_counter(t, g, last);
     if stuck(t, g, n) {
         return false;
@@ -69,7 +71,7 @@ fn remove_long(t: &mut [u8], g: Layout, i: ListNumber, p: usize) -> bool
         p,
         overflow_slot(g, last, SlotNumber(n)),
     );
-    shrink(t, g, i, last, end.before, n);
+    shrink(t, g, i, last, before, n);
     true
 }
 

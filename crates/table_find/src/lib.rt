@@ -8,11 +8,13 @@ use settings::Layout;
 use settings::Refusal;
 use settings::Settings;
 use table::FindAnswer;
+use table::Step;
 use table_read::blocks::basic_front;
-use table_read::blocks::basic_slots;
 use table_read::blocks::overflow_front;
 use table_read::blocks::overflow_link;
+use table_read::blocks::step_of;
 use table_read::lists::Last;
+use table_read::lists::basic_run;
 use table_read::lists::displaced_run;
 use table_read::lists::follow;
 use table_read::lists::overflow_run;
@@ -57,24 +59,15 @@ fn find_blocks(t: &[u8], g: Layout, first: BlockNumber, entry: Key, k: usize) ->
     while q < g.nob {
         let front = overflow_front(t, g, b);
         let run = overflow_run(g, b, front.counter);
-        let j = scan(
-            &t[..],
-            run.start,
-            run.count,
-            g.sio,
-            g.slot,
-            g.bie,
-            entry.high,
-            entry.low,
-        );
+        let j = scan(&t[..], run, g.sio, g.slot, g.bie, entry);
         if j.0 < run.count {
             return held(t, run.start + j.0 * g.slot + g.bie, g.val, n + (j.0 + 1));
         }
         n += run.count;
-        if front.counter < g.sio {
+        let Step::Further(next) = step_of(front, g.sio) else {
             return FindAnswer::None { compared: n as u32 };
-        }
-        b = BlockNumber(front.link);
+        };
+        b = next;
         q += 1;
     }
     FindAnswer::None { compared: n as u32 }
@@ -86,26 +79,17 @@ fn find_short(t: &[u8], g: Layout, i: ListNumber, count: usize, entry: Key) -> F
     requires { ⌜ Table g (now t) × (i .0 < g .lists) × (count ≤ g .sib) × (keyNumber entry < 2 ^ g .bie) ⌝ }
     ensures { λ r. ⌜ r ≡ findFrom g (keyNumber entry) (slotsIn g (now (t .entry)) (basicRun g (i .0) count)) 0 ⌝ }
 {
-    let start = basic_slots(g, i);
+    let run = basic_run(g, i, count);
     let n = looked_at(count, g.sib);
-    let from = SlotNumber(candidate(&t[..], start, n, g.slot, g.bie, entry.high, entry.low));
+    let from = SlotNumber(candidate(&t[..], run.start, n, g.slot, g.bie, entry.high, entry.low));
     if from.0 >= count {
         return FindAnswer::None {
             compared: count as u32,
         };
     }
-    let j = confirm(
-        &t[..],
-        start,
-        from,
-        count,
-        g.slot,
-        g.bie,
-        entry.high,
-        entry.low,
-    );
+    let j = confirm(&t[..], run, from, g.slot, g.bie, entry);
     if j.0 < count {
-        return held(t, start + j.0 * g.slot + g.bie, g.val, j.0 + 1);
+        return held(t, run.start + j.0 * g.slot + g.bie, g.val, j.0 + 1);
     }
     FindAnswer::None {
         compared: j.0 as u32,
@@ -123,18 +107,7 @@ fn find_long(t: &[u8], g: Layout, i: ListNumber, first: BlockNumber, entry: Key)
     };
     let displaced = overflow_link(t, g, last);
     let run = displaced_run(g, i, displaced);
-    let j = scan_displaced(
-        &t[..],
-        run.start,
-        run.count,
-        g.sib,
-        run.link,
-        run.head,
-        g.slot,
-        g.bie,
-        entry.high,
-        entry.low,
-    );
+    let j = scan_displaced(&t[..], run, g.slot, g.bie, entry.high, entry.low);
     if j.0 < g.sib {
         return FindAnswer::Held {
             label: label_at(t, run, run.start + j.0 * g.slot + g.bie, g.val),

@@ -1,57 +1,49 @@
 -- Zeroed bytes with every overflow block linked as a free one hold the new table.
-use mathlib.Core.Path.{_≡_, refl, sym, ap, ap₂, _∙_}
+use mathlib.Core.Path.{_≡_, refl, sym, ap, _∙_}
 use mathlib.Core.Logic.{inl, inr}
-use mathlib.Core.List.{List, [], _∷_, _++_}
-use Prim.Native.Nat.{ℕ, zero, suc, _+_, _-_, _*_, _/_, _%_, _^_, _≤_, _<_}
+use mathlib.Core.List.{List, [], _∷_}
+use Prim.Native.Nat.{ℕ, zero, suc, _+_, _*_, _/_, _^_, _≤_, _<_}
 use native.Mathlib.Omega.{arith}
-use native.Mathlib.Nat.{zero-div}
 use native.Mathlib.Decide.{decLe}
-use lib.ListN.{length, getD, drop, replicate, length-append, length-replicate, length-drop, getD-replicate, List·getD-append}
+use lib.ListN.{length, drop, replicate, length-append, length-replicate, length-drop, List·getD-append}
 use lib.Seq.{drop-nil}
 use lib.Dec.{eqb}
 use borrow.Author.Tests.{eqb-false}
+use Rattle.laws.specs.Cases.{cases}
+use Rattle.laws.specs.Lists.{replicate-at}
 use Rattle.bits.specs.Bytes.{Bytes}
-use Rattle.bits.specs.Field.{bitAt, field}
+use Rattle.bits.specs.Field.{field}
 use Rattle.bits.specs.Put.{putField}
 use Rattle.bits.specs.theory.Puts.{put-length, put-same, put-out}
+use Rattle.bits.specs.theory.Fields.{field-none}
 use Rattle.settings.specs.Proper.{Proper}
-use Rattle.settings.specs.theory.Cases.{cases}
 use Rattle.settings.specs.declared.layout.Layout.{Layout}
-use Rattle.table.specs.Arrays.{tabulate, padded}
-use Rattle.table.specs.State.{Overflow, mkBasic, mkOverflow, restBits}
+use Rattle.table.specs.Arrays.{tabulate, padded, cleared}
+use Rattle.table.specs.State.{emptyBasic, emptyBlock, restBits}
+use Rattle.table.specs.Updates.{withLink}
 use Rattle.table.specs.Decode.{blockAt, basicSlots, linkAt, overflowSlots, readBasic, readOverflow, decode, written}
 use Rattle.table.specs.New.{newOverflow, newState, newBytes}
+use Rattle.table.specs.Table.{Only}
 use Rattle.table_make.specs.NewSteps.{linked}
 use Rattle.table.specs.theory.Arrays.{tab-ext}
-use Rattle.table.specs.theory.Decode.{Only, put-only, only-refl, only-trans, only-wide, only-field, written-of}
+use Rattle.table.specs.theory.Decode.{put-only, only-refl, only-trans, only-wide, only-field, written-of}
 use Rattle.table.specs.theory.Changes.{basic-ends, over-ends, over-low, over-apart, start-low, start-high, slot-ends, same-basic, same-over}
 
--- ---- zeroed bytes
+-- ---- cleared bytes
 
-abbrev zeroed : ℕ → List ℕ → List ℕ
-zeroed n t = replicate n 0 ++ drop n t
-
-pub zero-length : (n : ℕ) (t : List ℕ) → n ≤ length t → length (replicate n 0 ++ drop n t) ≡ length t
+pub zero-length : (n : ℕ) (t : List ℕ) → n ≤ length t → length (cleared n t) ≡ length t
 zero-length n t h = simp (length-append, length-replicate, length-drop) (omega arith)
 
-pub zero-bytes : (n : ℕ) (t : List ℕ) → Bytes t → Bytes (replicate n 0 ++ drop n t)
+pub zero-bytes : (n : ℕ) (t : List ℕ) → Bytes t → Bytes (cleared n t)
 zero-bytes zero t b i = b i
 zero-bytes (suc n) t b zero = omega arith
 zero-bytes (suc n) [] b (suc i) = rw (drop-nil n) at (zero-bytes n [] b i)
 zero-bytes (suc n) (x ∷ t) b (suc i) = zero-bytes n t (λ j. b (suc j)) i
 
-zero-bit : (n : ℕ) (t : List ℕ) (i : ℕ) → i < 8 * n → bitAt (replicate n 0 ++ drop n t) i ≡ 0
-unfolding bitAt
-zero-bit n t i h =
-    let l : i / 8 < n = omega arith in
-    let m : i / 8 < length {A = ℕ} (replicate n 0) = omega (arith, length-replicate {A = ℕ} n 0) in
-    let e : getD (replicate n 0 ++ drop n t) (i / 8) 0 ≡ 0 = List·getD-append (replicate n 0) (drop n t) 0 (i / 8) m ∙ getD-replicate n (i / 8) 0 0 l in
-    rw (e, zero-div (2 ^ (7 - i % 8)))
-
-pub zero-field : (n : ℕ) (t : List ℕ) (o m : ℕ) → o + m ≤ 8 * n → field (replicate n 0 ++ drop n t) o m ≡ 0
-unfolding field
-zero-field n t o zero h = refl
-zero-field n t o (suc m) h = ap₂ (λ (x y : ℕ). x * 2 + y) (zero-field n t o m (omega arith)) (zero-bit n t (o + m) (omega arith))
+pub zero-field : (n : ℕ) (t : List ℕ) (o m : ℕ) → o + m ≤ 8 * n → field (cleared n t) o m ≡ 0
+zero-field n t o m h =
+    field-none (cleared n t) o m (λ i a b.
+    List·getD-append (replicate n 0) (drop n t) 0 (i / 8) (omega (arith, length-replicate {A = ℕ} n 0)) ∙ replicate-at {A = ℕ} n (i / 8) 0)
 
 padded-none : (n : ℕ) → padded n [] ≡ tabulate n (λ k. 0)
 padded-none zero = refl
@@ -77,7 +69,7 @@ module _ (g : Layout) (F : Proper g) where
       (link-ends j)
 
   pub read-link : (t : List ℕ) (j v : ℕ) → j < g .nob → g .bits ≤ 8 * length t → v < 2 ^ g .link
-      → readOverflow g (putField t (linkAt g j) (g .link) v) j ≡ mkOverflow (readOverflow g t j .counter) v (readOverflow g t j .slots)
+      → readOverflow g (putField t (linkAt g j) (g .link) v) j ≡ withLink v (readOverflow g t j)
   unfolding readOverflow linkAt overflowSlots
   read-link t j v h l f =
       let at = blockAt (g .overflow) j + g .overflow .counter in
@@ -130,18 +122,18 @@ module _ (g : Layout) (F : Proper g) where
         ∙ linked-rest n j (omega arith) (omega arith)
 
     linked-read : (n j : ℕ) → j < n → n ≤ g .nob
-        → readOverflow g (linked g n t) j ≡ mkOverflow (readOverflow g t j .counter) (newOverflow g j .link) (readOverflow g t j .slots)
+        → readOverflow g (linked g n t) j ≡ withLink (newOverflow g j .link) (readOverflow g t j)
     unfolding linked
     linked-read zero j h l = absurd (omega arith)
     linked-read (suc n) j h l = pick (λ m. linked-read n j m (omega arith)) (decLe n j)
       where
-        pick : (j < n → readOverflow g (linked g n t) j ≡ mkOverflow (readOverflow g t j .counter) (newOverflow g j .link) (readOverflow g t j .slots))
-            → Dec (n ≤ j) → readOverflow g (linked g (suc n) t) j ≡ mkOverflow (readOverflow g t j .counter) (newOverflow g j .link) (readOverflow g t j .slots)
+        pick : (j < n → readOverflow g (linked g n t) j ≡ withLink (newOverflow g j .link) (readOverflow g t j))
+            → Dec (n ≤ j) → readOverflow g (linked g (suc n) t) j ≡ withLink (newOverflow g j .link) (readOverflow g t j)
         pick ih (yes m) =
             let e : j ≡ n = omega arith in
             rw e
             (read-link (linked g n t) n (newOverflow g n .link) (omega arith) (omega (arith, room, linked-length n t)) (new-link-fits n (omega arith))
-            ∙ ap (λ (o : Overflow). mkOverflow (o .counter) (newOverflow g n .link) (o .slots)) (linked-rest n n (omega arith) (omega arith)))
+            ∙ ap (withLink (newOverflow g n .link)) (linked-rest n n (omega arith) (omega arith)))
         pick ih (no m) =
             same-over g F (linked g n t) (linked g (suc n) t) (blockAt (g .overflow) n) (g .overflow .bits) j (turn n (omega arith)) (inl (over-apart g F j n (omega arith)))
             ∙ ih (omega arith)
@@ -151,7 +143,7 @@ module _ (g : Layout) (F : Proper g) where
   fits-bytes : g .bits ≤ 8 * g .bytes
   fits-bytes = omega (arith, F .bytes-is)
 
-  zero-basic : (t : List ℕ) (i : ℕ) → i < g .lists → readBasic g (zeroed (g .bytes) t) i ≡ mkBasic 0 0 0
+  zero-basic : (t : List ℕ) (i : ℕ) → i < g .lists → readBasic g (cleared (g .bytes) t) i ≡ emptyBasic
   unfolding readBasic basicSlots
   zero-basic t i h =
       let a = basic-ends g F i h in
@@ -165,26 +157,29 @@ module _ (g : Layout) (F : Proper g) where
         rest = zero-field (g .bytes) t (blockAt (g .basic) i + g .basic .counter + g .link) (restBits g) (omega arith) k;
       }
 
-  zero-counter : (t : List ℕ) (j : ℕ) → j < g .nob → readOverflow g (zeroed (g .bytes) t) j .counter ≡ 0
-  unfolding readOverflow
-  zero-counter t j h =
-      zero-field (g .bytes) t (blockAt (g .overflow) j) (g .overflow .counter) (omega (arith, over-ends g F j h, F .overflow-is, fits-bytes))
-
-  zero-slots : (t : List ℕ) (j : ℕ) → j < g .nob → readOverflow g (zeroed (g .bytes) t) j .slots ≡ padded (g .sio) []
-  unfolding readOverflow
-  zero-slots t j h =
-      tab-ext (g .sio) (λ q. 0) (λ q. field (zeroed (g .bytes) t) (overflowSlots g j + q * g .slot) (g .slot))
-      (λ q m. zero-field (g .bytes) t (overflowSlots g j + q * g .slot) (g .slot) (omega (arith, slot-ends g F j q m, over-ends g F j h, fits-bytes)))
-      ∙ sym (padded-none (g .sio))
+  zero-overflow : (t : List ℕ) (j : ℕ) → j < g .nob → readOverflow g (cleared (g .bytes) t) j ≡ emptyBlock g 0
+  unfolding readOverflow linkAt
+  zero-overflow t j h =
+      let a = over-ends g F j h in
+      let b = F .overflow-is in
+      let f = fits-bytes in
+      λ k. record {
+        counter = zero-field (g .bytes) t (blockAt (g .overflow) j) (g .overflow .counter) (omega arith) k;
+        link = zero-field (g .bytes) t (blockAt (g .overflow) j + g .overflow .counter) (g .link) (omega arith) k;
+        slots =
+            (tab-ext (g .sio) (λ q. 0) (λ q. field (cleared (g .bytes) t) (overflowSlots g j + q * g .slot) (g .slot))
+            (λ q m. zero-field (g .bytes) t (overflowSlots g j + q * g .slot) (g .slot) (omega (arith, slot-ends g F j q m)))
+            ∙ sym (padded-none (g .sio))) k;
+      }
 
   module _ (t : List ℕ) (long : g .bytes ≤ length t) where
-    new-room : g .bits ≤ 8 * length (zeroed (g .bytes) t)
+    new-room : g .bits ≤ 8 * length (cleared (g .bytes) t)
     new-room = omega (arith, long, fits-bytes, zero-length (g .bytes) t long)
 
-    new-decode : decode g (linked g (g .nob) (zeroed (g .bytes) t)) ≡ newState g
+    new-decode : decode g (linked g (g .nob) (cleared (g .bytes) t)) ≡ newState g
     unfolding decode newState
     new-decode =
-        let z = zeroed (g .bytes) t in
+        let z = cleared (g .bytes) t in
         let u = linked g (g .nob) z in
         let o : Only z u (g .overflow .start) (g .nob * g .overflow .bits) = linked-only z new-room (g .nob) (omega arith) in
         λ k. record {
@@ -192,18 +187,18 @@ module _ (g : Layout) (F : Proper g) where
               (only-field z u (g .overflow .start) (g .nob * g .overflow .bits) 0 (g .basic .start) o (inl (omega (arith, start-low g F)))
               ∙ zero-field (g .bytes) t 0 (g .basic .start) (omega (arith, start-low g F, start-high g F, fits-bytes))) k;
           basic =
-              tab-ext (g .lists) (λ i. mkBasic 0 0 0) (readBasic g u)
+              tab-ext (g .lists) (λ i. emptyBasic) (readBasic g u)
               (λ i h. same-basic g F z u (g .overflow .start) (g .nob * g .overflow .bits) i o (inl (basic-ends g F i h)) ∙ zero-basic t i h) k;
           overflow =
               tab-ext (g .nob) (newOverflow g) (readOverflow g u)
               (λ j h. linked-read z new-room (g .nob) j h (omega arith)
-              ∙ ap₂ (λ (c : ℕ) (es : List ℕ). mkOverflow c (newOverflow g j .link) es) (zero-counter t j h) (zero-slots t j h)) k;
+              ∙ ap (withLink (newOverflow g j .link)) (zero-overflow t j h)) k;
         }
 
-    pub new-bytes : Bytes t → linked g (g .nob) (replicate (g .bytes) 0 ++ drop (g .bytes) t) ≡ newBytes g t
+    pub new-bytes : Bytes t → linked g (g .nob) (cleared (g .bytes) t) ≡ newBytes g t
     unfolding newBytes
     new-bytes b =
-        let z = zeroed (g .bytes) t in
+        let z = cleared (g .bytes) t in
         let u = linked g (g .nob) z in
         let o : Only z u (g .overflow .start) (g .nob * g .overflow .bits) = linked-only z new-room (g .nob) (omega arith) in
         written-of g F z u (zero-bytes (g .bytes) t b) new-room

@@ -1,17 +1,14 @@
 // A new table in lent bytes: zeros, and the free blocks in one chain.
+use bits::zero_bytes;
 use keys::BlockNumber;
 use settings::Laid;
 use settings::Layout;
 use settings::Refusal;
 use settings::Settings;
 use table::MakeAnswer;
-use table_read::blocks::link_at;
+use table_store::put_overflow_link;
 ghost use mathlib.Core.Path.{_≡_};
-ghost use mathlib.Core.List.{_++_};
-ghost use Prim.Native.Nat.{_^_, _≤_, _<_};
-ghost use lib.ListN.{length, drop, replicate};
-ghost use Rattle.bits.specs.Put.{putField};
-ghost use Rattle.table.specs.Decode.{linkAt};
+ghost use Prim.Native.Nat.{_<_};
 ghost use Rattle.table.specs.Table.{Table};
 ghost use Rattle.table.specs.New.{newOverflow};
 ghost use Rattle.table_make.specs.NewSteps.{linked};
@@ -26,23 +23,12 @@ pub fn make(s: Settings, t: &mut [u8]) -> MakeAnswer
             if t.len() < g.bytes {
                 return MakeAnswer::Refused(Refusal::Short);
             }
-            zero(t, g.bytes);
+            let n = g.bytes;
+            zero_bytes(&mut t[..n]);
             link_free(t, g);
             MakeAnswer::Made
         }
         Laid::Refused(why) => MakeAnswer::Refused(why),
-    }
-}
-
-// The first n bytes become zero.
-fn zero(t: &mut [u8], n: usize)
-    requires { ⌜ n ≤ length (now t) ⌝ }
-    ensures { λ _. ⌜ now (t .exit) ≡ replicate n 0 ++ drop n (now (t .entry)) ⌝ }
-{
-    let mut i: usize = 0;
-    while i < n {
-        t[i] = 0;
-        i += 1;
     }
 }
 
@@ -53,7 +39,8 @@ fn link_free(t: &mut [u8], g: Layout)
 {
     let mut j: usize = 0;
     while j < g.nob {
-        put_link(t, g, BlockNumber(j), free_link(g, BlockNumber(j)));
+        let link = free_link(g, BlockNumber(j));
+        put_overflow_link(t, g, BlockNumber(j), link.0);
         j += 1;
     }
 }
@@ -68,12 +55,4 @@ fn free_link(g: Layout, j: BlockNumber) -> BlockNumber
         return j;
     }
     BlockNumber(next)
-}
-
-// The link of overflow block j becomes v.
-pub fn put_link(t: &mut [u8], g: Layout, j: BlockNumber, v: BlockNumber)
-    requires { ⌜ Table g (now t) × (j .0 < g .nob) × (v .0 < 2 ^ g .link) ⌝ }
-    ensures { λ _. ⌜ now (t .exit) ≡ putField (now (t .entry)) (linkAt g (j .0)) (g .link) (v .0) ⌝ }
-{
-    bits::put(t, link_at(g, j), g.link, v.0 as u64);
 }

@@ -1,4 +1,5 @@
 -- Words of contracts between functions.
+pub mod Places
 pub mod Steps
 pub mod Spots
 pub mod Rows

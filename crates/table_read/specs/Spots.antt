@@ -1,6 +1,6 @@
--- Where an entry stands among a list's overflow blocks. Only contracts of functions cite these; the calls' own do not.
+-- A list's overflow blocks, and where an entry stands among them. Only contracts of functions cite these; the calls' own do not.
 use Prim.Native.Nat.{ℕ, _-_, _<_}
-use mathlib.Core.Bool.{cond}
+use mathlib.Core.Bool.{Bool, cond}
 use mathlib.Core.List.{List, [], _∷_}
 use mathlib.Core.Option.{Option, none, some}
 use lib.ListN.{length}
@@ -8,6 +8,7 @@ use lib.Dec.{ltb}
 use Rattle.settings.specs.declared.layout.Layout.{Layout}
 use Rattle.table.specs.State.{Overflow}
 use Rattle.table.specs.Follow.{follow, gather}
+use Rattle.table.specs.Take.{occurs}
 use Rattle.table_read.specs.Steps.{Followed}
 use Rattle.table_read.specs.declared.lists.Spot.{Spot}
 
@@ -24,6 +25,10 @@ module _ (g : Layout) where
   -- the list's overflow blocks from block b on
   unfoldable pub blocksFrom : List Overflow → ℕ → List ℕ
   blocksFrom os b = blocksIn (follow g (g .nob) os b)
+
+  -- whether f is one of the blocks from b on, of which at most n are followed
+  unfoldable pub hasBlock : ℕ → List Overflow → ℕ → ℕ → Bool
+  hasBlock n os b f = ltb 0 (occurs f (blocksIn (follow g n os b)))
 
   -- place q of the blocks, counted through them
   abbrev pub spotIn : List ℕ → ℕ → Spot

@@ -1,3 +1,4 @@
+pub mod Places
 pub mod Reads
 pub mod Rows
 pub mod Walks

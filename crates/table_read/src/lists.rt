@@ -1,21 +1,22 @@
 // A list's blocks: following them to the last, and the slots of each.
-use crate::blocks::basic_slots;
 use crate::blocks::overflow_front;
-use crate::blocks::overflow_link;
-use crate::blocks::overflow_slots;
+use crate::blocks::step_of;
+use crate::places::basic_slots;
+use crate::places::overflow_slots;
 use crate::slots::Slots;
 use crate::slots::least;
 use keys::BlockNumber;
 use keys::ListNumber;
 use keys::SlotNumber;
 use settings::Layout;
+use table::Step;
 ghost use mathlib.Core.Path.{_≡_};
 ghost use Prim.Native.Nat.{_<_, _≤_};
 ghost use Rattle.settings.specs.Proper.{Proper};
 ghost use Rattle.table.specs.Decode.{decode};
 ghost use Rattle.table.specs.Table.{Table};
-ghost use Rattle.table_read.specs.Spots.{blocksFrom, spotIn, Reaches};
-ghost use Rattle.table_read.specs.Steps.{lastFrom, lastAs, basicRun, displacedRun, overflowRun};
+ghost use Rattle.table_read.specs.Spots.{blocksFrom, spotIn, Reaches, hasBlock};
+ghost use Rattle.table_read.specs.Steps.{lastFrom, lastAs, basicRun, displacedRun, overflowRun, Followed};
 
 // Where a list ends: in its last overflow block, or nowhere, if there is damage.
 pub enum Last {
@@ -35,14 +36,11 @@ pub fn follow(t: &[u8], g: Layout, first: BlockNumber) -> Last
         if b.0 >= g.nob {
             return Last::Damage;
         }
-        let front = overflow_front(t, g, b);
-        if front.counter < g.sio {
-            return Last::Block(b);
+        match step_of(overflow_front(t, g, b), g.sio) {
+            Step::Last => return Last::Block(b),
+            Step::Further(next) => b = next,
+            Step::Damage => return Last::Damage,
         }
-        if front.counter > g.sio {
-            return Last::Damage;
-        }
-        b = BlockNumber(front.link);
         k += 1;
     }
     Last::Damage
@@ -101,11 +99,34 @@ pub fn spot_of(t: &[u8], g: Layout, first: BlockNumber, p: usize) -> Spot
     let mut b = first;
     let mut q = p;
     while q >= g.sio {
-        b = BlockNumber(overflow_link(t, g, b));
+        let Step::Further(next) = step_of(overflow_front(t, g, b), g.sio) else {
+            break;
+        };
+        b = next;
         q -= g.sio;
     }
     Spot {
         block: b,
         slot: SlotNumber(q),
     }
+}
+
+// Whether block f is one of the list's, from block `first` on.
+pub fn list_has_block(t: &[u8], g: Layout, first: BlockNumber, f: BlockNumber) -> bool
+    requires { ⌜ Table g (now t) × Followed g (g .nob) (decode g (now t) .overflow) (first .0) ⌝ }
+    ensures { λ r. ⌜ r ≡ hasBlock g (g .nob) (decode g (now (t .entry)) .overflow) (first .0) (f .0) ⌝ }
+{
+    let mut b = first;
+    let mut q: usize = 0;
+    while q < g.nob {
+        if b.0 == f.0 {
+            return true;
+        }
+        let Step::Further(next) = step_of(overflow_front(t, g, b), g.sio) else {
+            return false;
+        };
+        b = next;
+        q += 1;
+    }
+    false
 }

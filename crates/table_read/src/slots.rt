@@ -11,9 +11,8 @@ ghost use Prim.Native.Nat.{ℕ, _+_, _-_, _*_, _/_, _%_, _^_, _≤_, _<_, min};
 ghost use lib.ListN.{length, getD};
 ghost use lib.Dec.{eqb};
 ghost use Rattle.bits.specs.Field.{field};
-ghost use Rattle.bits.specs.Put.{putField};
 ghost use Rattle.settings.specs.Proper.{Proper};
-ghost use Rattle.keys.specs.Key.{keyNumber};
+ghost use Rattle.keys.specs.Key.{keyNumber, keyOf};
 ghost use Rattle.table.specs.State.{labelOf};
 ghost use Rattle.table_read.specs.Steps.{shown, View, First, Run, slotsIn};
 ghost use Rattle.table_read.specs.Rows.{Row};
@@ -87,29 +86,27 @@ fn holds(t: &[u8], at: usize, n: usize, high: u64, low: u64) -> bool
     bits::get(t, at, n - 64) == high
 }
 
-// The first slot from `from` on that holds the number, slot by slot; count if none does.
+// The first slot from `from` on that holds the entry, slot by slot; their count if none does.
 fn scan_from(
     t: &[u8],
-    start: usize,
+    b: Slots,
     from: SlotNumber,
-    count: usize,
     slot: usize,
     bie: usize,
-    high: u64,
-    low: u64,
+    entry: Key,
 ) -> SlotNumber
-    requires { ⌜ Row (now t) start slot bie count × (high * 2 ^ 64 + low < 2 ^ bie) × (from .0 < 2 ^ 16) ⌝ }
-    requires { ⌜ ((k : ℕ) → k < from .0 → k < count → field (now t) (start + k * slot) bie ≡ high * 2 ^ 64 + low → ⊥) ⌝ }
-    ensures { λ r. ⌜ First (now (t .entry)) start slot bie (high * 2 ^ 64 + low) count (r .0) ⌝ }
+    requires { ⌜ Row (now t) (b .start) slot bie (b .count) × (keyNumber entry < 2 ^ bie) × (from .0 < 2 ^ 16) ⌝ }
+    requires { ⌜ ((k : ℕ) → k < from .0 → k < b .count → field (now t) (b .start + k * slot) bie ≡ keyNumber entry → ⊥) ⌝ }
+    ensures { λ r. ⌜ First (now (t .entry)) (b .start) slot bie (keyNumber entry) (b .count) (r .0) ⌝ }
 {
     let mut j = from.0;
-    while j < count {
-        if holds(t, start + j * slot, bie, high, low) {
+    while j < b.count {
+        if holds(t, b.start + j * slot, bie, entry.high, entry.low) {
             return SlotNumber(j);
         }
         j += 1;
     }
-    SlotNumber(count)
+    SlotNumber(b.count)
 }
 
 // How many slots are looked at for the first `count`: of a small block all, since a fixed number of turns can be foreseen.
@@ -123,57 +120,38 @@ pub fn looked_at(count: usize, room: usize) -> usize
     count
 }
 
-// The first slot that holds the number, where none before slot `from` does, and that slot most likely; count if none does.
+// The first slot that holds the entry, where none before slot `from` does, and that slot most likely; their count if none
+// does.
 pub fn confirm(
     t: &[u8],
-    start: usize,
+    b: Slots,
     from: SlotNumber,
-    count: usize,
     slot: usize,
     bie: usize,
-    high: u64,
-    low: u64,
+    entry: Key,
 ) -> SlotNumber
-    requires { ⌜ Row (now t) start slot bie count × (high * 2 ^ 64 + low < 2 ^ bie) × (from .0 < count) ⌝ }
-    requires { ⌜ ((k : ℕ) → k < from .0 → field (now t) (start + k * slot) bie ≡ high * 2 ^ 64 + low → ⊥) ⌝ }
-    ensures { λ r. ⌜ First (now (t .entry)) start slot bie (high * 2 ^ 64 + low) count (r .0) ⌝ }
+    requires { ⌜ Row (now t) (b .start) slot bie (b .count) × (keyNumber entry < 2 ^ bie) × (from .0 < b .count) ⌝ }
+    requires { ⌜ ((k : ℕ) → k < from .0 → field (now t) (b .start + k * slot) bie ≡ keyNumber entry → ⊥) ⌝ }
+    ensures { λ r. ⌜ First (now (t .entry)) (b .start) slot bie (keyNumber entry) (b .count) (r .0) ⌝ }
 {
-    if holds(&t[..], start + from.0 * slot, bie, high, low) {
+    if holds(&t[..], b.start + from.0 * slot, bie, entry.high, entry.low) {
         return from;
     }
-    scan_from(
-        &t[..],
-        start,
-        SlotNumber(from.0 + 1),
-        count,
-        slot,
-        bie,
-        high,
-        low,
-    )
+    scan_from(&t[..], b, SlotNumber(from.0 + 1), slot, bie, entry)
 }
 
-// The first of `count` slots that holds the number, from 0; count if none does. A window of each slot is looked at first.
-// The block has room for `room` slots.
-pub fn scan(
-    t: &[u8],
-    start: usize,
-    count: usize,
-    room: usize,
-    slot: usize,
-    bie: usize,
-    high: u64,
-    low: u64,
-) -> SlotNumber
-    requires { ⌜ Row (now t) start slot bie room × (count ≤ room) × (high * 2 ^ 64 + low < 2 ^ bie) ⌝ }
-    ensures { λ r. ⌜ First (now (t .entry)) start slot bie (high * 2 ^ 64 + low) count (r .0) ⌝ }
+// The first of the slots, as they stand, that holds the entry; their count if none does. A window of each slot is looked
+// at first. The block has room for `room` slots.
+pub fn scan(t: &[u8], b: Slots, room: usize, slot: usize, bie: usize, entry: Key) -> SlotNumber
+    requires { ⌜ Row (now t) (b .start) slot bie room × (b .count ≤ room) × (keyNumber entry < 2 ^ bie) ⌝ }
+    ensures { λ r. ⌜ First (now (t .entry)) (b .start) slot bie (keyNumber entry) (b .count) (r .0) ⌝ }
 {
-    let n = looked_at(count, room);
-    let from = SlotNumber(candidate(t, start, n, slot, bie, high, low));
-    if from.0 >= count {
-        return SlotNumber(count);
+    let n = looked_at(b.count, room);
+    let from = SlotNumber(candidate(t, b.start, n, slot, bie, entry.high, entry.low));
+    if from.0 >= b.count {
+        return SlotNumber(b.count);
     }
-    scan_from(t, start, from, count, slot, bie, high, low)
+    scan_from(t, b, from, slot, bie, entry)
 }
 
 // The first of the slots that holds the entry, where their first bits are what they count as.
@@ -193,86 +171,66 @@ fn scan_seen(t: &[u8], b: Slots, slot: usize, bie: usize, entry: Key) -> SlotNum
     SlotNumber(j)
 }
 
-// Whether slot 0, whose first `link` bits count as `head`, holds the number. Its last bits, which are not displaced, are
+// Whether slot 0 holds the entry, where its first bits are what they count as. Its last bits, which are not displaced, are
 // looked at first.
-fn first_holds(
-    t: &[u8],
-    start: usize,
-    link: usize,
-    head: u64,
-    bie: usize,
-    high: u64,
-    low: u64,
-) -> bool
-    requires { ⌜ (start + bie ≤ 8 * length (now t)) × (start + bie ≤ 2 ^ 27) × (bie ≤ 128) × (high * 2 ^ 64 + low < 2 ^ bie) ⌝ }
-    requires { ⌜ (link < bie) × (link ≤ 16) × (head < 2 ^ link) ⌝ }
-    ensures { λ r. ⌜ r ≡ eqb (field (putField (now (t .entry)) start link head) start bie) (high * 2 ^ 64 + low) ⌝ }
+fn first_holds(t: &[u8], b: Slots, bie: usize, entry: Key) -> bool
+    requires { ⌜ View (now t) b (b .start) bie × (bie ≤ 128) × (keyNumber entry < 2 ^ bie) × (b .link < bie) ⌝ }
+    ensures { λ r. ⌜ r ≡ eqb (field (shown (now (t .entry)) b) (b .start) bie) (keyNumber entry) ⌝ }
 {
-    let m = least(bie - link, 57);
-    if bits::get_short(t, start + (bie - m), m) != low % pow(m) {
+    let m = least(bie - b.link, 57);
+    if bits::get_short(t, b.start + (bie - m), m) != entry.low % pow(m) {
         return false;
     }
-    let b = Slots {
-        start: start,
-        count: 1,
-        link: link,
-        head: head,
-    };
-    let number = Key {
-        high: high,
-        low: low,
-    };
-    same_entry(&t[..], b, start, bie, number)
+    same_entry(&t[..], b, b.start, bie, entry)
 }
 
-// The same as `scan` of the slots of a basic block that overflows, whose first `link` bits count as `head`. Unless they
-// reach past the entry of slot 0, the other slots are read as they stand.
+// The same as `scan` of the slots of a basic block that overflows, where their first bits are what they count as. Unless
+// those reach past the entry of slot 0, the other slots are read as they stand. The entry comes in two numbers, since this
+// is called from two places and stays a function.
 pub fn scan_displaced(
     t: &[u8],
-    start: usize,
-    count: usize,
-    room: usize,
-    link: usize,
-    head: u64,
+    b: Slots,
     slot: usize,
     bie: usize,
     high: u64,
     low: u64,
 ) -> SlotNumber
-    requires { ⌜ Row (now t) start slot bie room × (count ≤ room) × (high * 2 ^ 64 + low < 2 ^ bie) ⌝ }
-    requires { ⌜ (start + link ≤ 8 * length (now t)) × (link ≤ 16) × (head < 2 ^ link) ⌝ }
-    ensures { λ r. ⌜ First (putField (now (t .entry)) start link head) start slot bie (high * 2 ^ 64 + low) count (r .0) ⌝ }
+    requires { ⌜ Row (now t) (b .start) slot bie (b .count) × (0 < b .count) × (high * 2 ^ 64 + low < 2 ^ bie) ⌝ }
+    requires { ⌜ (b .start + b .link ≤ 8 * length (now t)) × (b .link ≤ 16) × (b .head < 2 ^ b .link) ⌝ }
+    ensures { λ r. ⌜ First (shown (now (t .entry)) b) (b .start) slot bie (high * 2 ^ 64 + low) (b .count) (r .0) ⌝ }
 {
-    if count == 0 {
+    let entry = Key { high, low };
+    if b.link >= bie {
+        return scan_seen(&t[..], b, slot, bie, entry);
+    }
+    if first_holds(t, b, bie, entry) {
         return SlotNumber(0);
     }
-    if link >= bie {
-        let b = Slots {
-            start: start,
-            count: count,
-            link: link,
-            head: head,
-        };
-        let number = Key {
-            high: high,
-            low: low,
-        };
-        return scan_seen(&t[..], b, slot, bie, number);
-    }
-    if first_holds(t, start, link, head, bie, high, low) {
-        return SlotNumber(0);
-    }
-    let j = scan(
-        &t[..],
-        start + slot,
-        count - 1,
-        room - 1,
-        slot,
-        bie,
-        high,
-        low,
-    );
+    let others = Slots {
+        start: b.start + slot,
+        count: b.count - 1,
+        link: 0,
+        head: 0,
+    };
+    let j = scan(&t[..], others, others.count, slot, bie, entry);
     SlotNumber(1 + j.0)
+}
+
+// The entry of n bits from bit `at` on, among the slots.
+pub fn entry_at(t: &[u8], b: Slots, at: usize, n: usize) -> Key
+    requires { ⌜ View (now t) b at n × (n ≤ 128) ⌝ }
+    ensures { λ r. ⌜ r ≡ keyOf (field (shown (now (t .entry)) b) at n) ⌝ }
+{
+    if n <= 64 {
+        return Key {
+            high: 0,
+            low: seen(t, b, at, n),
+        };
+    }
+    Key {
+        high: seen(t, b, at, n - 64),
+        low: seen(t, b, at + (n - 64), 64),
+    }
 }
 
 // The label of val bits from bit `at` on, among the slots.

@@ -5,32 +5,31 @@ use mathlib.Core.Option.{Option, none, some}
 use Prim.Native.Nat.{ℕ, suc, _+_, _-_, _*_, _^_, _≤_, _<_}
 use native.Mathlib.Omega.{arith}
 use native.Mathlib.Decide.{decLe}
-use lib.ListN.{length, getD, take, drop, length-append, List·getD-append, drop-of-length-le}
+use lib.ListN.{length, getD, drop, length-append, List·getD-append, drop-of-length-le}
 use lib.Seq.{getD-append-add, drop-cons}
 use lib.Dec.{ltb}
 use borrow.Author.Tests.{lt-ltb, le-ltb, ltb-true, ltb-false}
-use Rattle.bits.specs.Field.{field}
-use Rattle.bits.specs.theory.Fields.{field-lt, field-fits, field-cat}
+use Rattle.laws.specs.Cases.{cases}
+use Rattle.bits.specs.theory.Fields.{field-lt}
 use Rattle.settings.specs.Proper.{Proper}
 use Rattle.settings.specs.Sizes.{bie, lists}
 use Rattle.settings.specs.Layout.{layoutOf}
 use Rattle.keys.specs.Key.{keyNumber, keyOf, rebuilt}
-use Rattle.settings.specs.theory.Cases.{cases}
-use Rattle.keys.specs.theory.Keys.{number-key, key-from}
+use Rattle.keys.specs.theory.Keys.{number-key}
 use Rattle.settings.specs.declared.settings.Settings.{Settings}
 use Rattle.keys.specs.declared.Key.{Key}
 use Rattle.settings.specs.declared.layout.Layout.{Layout}
 use Rattle.settings.specs.declared.refusal.Refusal.the-variants as refusal
-use Rattle.table.specs.State.{Basic, Overflow, State, mkBasic, basicAt, overflowAt, unpack, entryOf}
-use Rattle.table.specs.Decode.{readBasic, decode}
+use Rattle.table.specs.State.{Basic, Overflow, State, basicAt, overflowAt, unpack, entryOf, emptyBasic}
+use Rattle.table.specs.Decode.{decode}
 use Rattle.table.specs.Table.{Table}
 use Rattle.table.specs.Follow.{Seen, contentOf, content}
 use Rattle.table.specs.Record.{recordFrom, recordIn}
-use Rattle.table_read.specs.Steps.{shown, View, Run, slotsIn, basicRun, displacedRun, overflowRun, lastFrom, Followed, Overflows, gatherFrom}
+use Rattle.table_read.specs.Steps.{shown, slotsIn, basicRun, displacedRun, overflowRun, lastFrom, Followed, Overflows, gatherFrom}
 use Rattle.table_record.specs.RecordSteps.{slotNth, nthOf, nthIn, Bounded, recordsFrom}
-use Rattle.table.specs.theory.Arrays.{length-tab}
-use Rattle.table_read.specs.theory.Reads.{slots-length, slot-inside, entry-in, unpack-length, basic-slots-in, displaced-slots-in, overflow-slots-in, link-lt}
-use Rattle.table_read.specs.theory.Walks.{turn, followed, content-short, content-bad, content-long}
+use Rattle.table_read.specs.theory.Reads.{slots-length, entry-in, unpack-length, basic-slots-in, displaced-slots-in, link-lt}
+use Rattle.table_read.specs.theory.Walks.{turn, followed, content-short, content-bad, content-long, Turn}
+use Rattle.table_read.specs.theory.Finds.{block-last, block-more}
 use Rattle.table_read.specs.declared.slots.Slots.{Slots}
 use Rattle.table.specs.declared.answers.RecordAnswer.{RecordAnswer}
 use Rattle.table.specs.declared.answers.RecordAnswer.the-variants as answer
@@ -84,54 +83,16 @@ module _ (g : Layout) where
 
 -- ---- a slot's entry
 
--- a field of up to 128 bits as a key, of one number and of two
-module _ (s : List ℕ) (at n : ℕ) where
-  pub short-key : n ≤ 64 → (k : Key) → k .high ≡ 0 → k .low ≡ field s at n → k ≡ keyOf (field s at n)
-  unfolding keyNumber
-  short-key h k e f = key-from k (omega (arith, field-fits s at n 64 h)) (omega arith)
-
-  pub long-key : 64 < n → (k : Key) → k .high ≡ field s at (n - 64) → k .low ≡ field s (at + (n - 64)) 64 → k ≡ keyOf (field s at n)
-  unfolding keyNumber
-  long-key h k e f =
-      let z : n - 64 + 64 ≡ n = omega arith in
-      let w : field s at n ≡ field s at (n - 64) * 2 ^ 64 + field s (at + (n - 64)) 64 = ap (field s at) (sym z) ∙ field-cat s at (n - 64) 64 in
-      key-from k (omega (arith, field-lt s (at + (n - 64)) 64)) (omega arith)
-
-module _ (g : Layout) (F : Proper g) (t : List ℕ) (b : Slots) (j : ℕ) (l : j < b .count) where
-  pub entry-view : Run g t b → View t b (b .start + j * g .slot) (g .bie)
-  entry-view R =
-      let h = slot-inside g t b j l in
-      record {
-        from = omega arith;
-        ends = omega (arith, R .ends, F .slot-is);
-        near = omega (arith, R .near, F .slot-is);
-        block = R .block;
-        link = R .link;
-        fits = R .fits;
-      }
-
-  pub entry-bound : (k : Key) → k ≡ keyOf (entryOf g (getD (slotsIn g t b) j 0)) → keyNumber k < 2 ^ g .bie
-  entry-bound k e =
-      rw (e, number-key (entryOf g (getD (slotsIn g t b) j 0)), entry-in g t b F j l) (field-lt (shown t b) (b .start + j * g .slot) (g .bie))
+pub entry-bound : (g : Layout) → Proper g → (t : List ℕ) (b : Slots) (j : ℕ) → j < b .count → (k : Key) → k ≡ keyOf (entryOf g (getD (slotsIn g t b) j 0)) → keyNumber k < 2 ^ g .bie
+entry-bound g F t b j l k e =
+    rw (e, number-key (entryOf g (getD (slotsIn g t b) j 0)), entry-in g t b F j l) (field-lt (shown t b) (b .start + j * g .slot) (g .bie))
 
 -- ---- the slots of an overflow block, and those of the blocks behind it
 
 module _ (g : Layout) (t : List ℕ) (T : Table g t) (k b c : ℕ) (run : Slots) (f : Followed g k (decode g t .overflow) b)
     (count-is : c ≡ overflowAt (decode g t .overflow) b .counter) (run-is : run ≡ overflowRun g b c) where
-  row-is : slotsIn g t run ≡ take (suc (overflowAt (decode g t .overflow) b .counter)) (overflowAt (decode g t .overflow) b .slots)
-  row-is =
-      ap (slotsIn g t) run-is
-      ∙ overflow-slots-in g t T b c (turn g (decode g t .overflow) k b f .low)
-      ∙ ap (λ (n : ℕ). take (suc n) (overflowAt (decode g t .overflow) b .slots)) count-is
-
-  row-last : c < g .sio → gatherFrom g k (decode g t .overflow) b ≡ slotsIn g t run
-  row-last h = turn g (decode g t .overflow) k b f .last (omega arith) ∙ sym row-is
-
-  row-more : g .sio ≤ c → gatherFrom g k (decode g t .overflow) b
-      ≡ slotsIn g t run ++ gatherFrom g (k - 1) (decode g t .overflow) (overflowAt (decode g t .overflow) b .link)
-  row-more h =
-      let u = turn g (decode g t .overflow) k b f in
-      u .more (omega (arith, u .count)) ∙ ap (_++ gatherFrom g (k - 1) (decode g t .overflow) (overflowAt (decode g t .overflow) b .link)) (sym row-is)
+  row : Turn g (decode g t .overflow) k b
+  row = turn g (decode g t .overflow) k b f
 
   pub nth-in-block : (m : ℕ) → m < run .count → nthOf g (slotsIn g t run) m ≡ nthOf g (gatherFrom g k (decode g t .overflow) b) m
   nth-in-block m h =
@@ -139,13 +100,13 @@ module _ (g : Layout) (t : List ℕ) (T : Table g t) (k b c : ℕ) (run : Slots)
       pick l (decLe (g .sio) c)
     where
       pick : m < length (slotsIn g t run) → Dec (g .sio ≤ c) → nthOf g (slotsIn g t run) m ≡ nthOf g (gatherFrom g k (decode g t .overflow) b) m
-      pick l (yes p) = rw (row-more p) (sym (nth-first g _ _ m l))
-      pick l (no p) = rw (row-last (omega arith))
+      pick l (yes p) = rw (block-more g t T k b c run row count-is run-is p) (sym (nth-first g _ _ m l))
+      pick l (no p) = rw (block-last g t T k b c run row count-is run-is (omega arith))
 
   pub nth-past-last : (m : ℕ) → run .count ≤ m → c < g .sio → nth.Past (m - run .count) ≡ nthOf g (gatherFrom g k (decode g t .overflow) b) m
   nth-past-last m h l =
       let e = slots-length g t run in
-      sym (ap (λ (es : List ℕ). nthOf g es m) (row-last l) ∙ nth-past g (slotsIn g t run) m (omega arith) ∙ ap (λ (k : ℕ). nth.Past (m - k)) e)
+      sym (ap (λ (es : List ℕ). nthOf g es m) (block-last g t T k b c run row count-is run-is l) ∙ nth-past g (slotsIn g t run) m (omega arith) ∙ ap (λ (k : ℕ). nth.Past (m - k)) e)
 
   pub nth-past-block : (m : ℕ) → run .count ≤ m → g .sio ≤ c
       → nthOf g (gatherFrom g (k - 1) (decode g t .overflow) (overflowAt (decode g t .overflow) b .link)) (m - run .count) ≡ nthOf g (gatherFrom g k (decode g t .overflow) b) m
@@ -153,7 +114,7 @@ module _ (g : Layout) (t : List ℕ) (T : Table g t) (k b c : ℕ) (run : Slots)
       let e = slots-length g t run in
       let d : m - run .count ≡ m - length (slotsIn g t run) = omega arith in
       sym
-      (ap (λ (es : List ℕ). nthOf g es m) (row-more l)
+      (ap (λ (es : List ℕ). nthOf g es m) (block-more g t T k b c run row count-is run-is l)
       ∙ nth-second g (slotsIn g t run) _ m (omega arith)
       ∙ ap (nthOf g (gatherFrom g (k - 1) (decode g t .overflow) (overflowAt (decode g t .overflow) b .link))) (sym d))
 
@@ -244,7 +205,7 @@ module _ (s : Settings) where
         → recordsFrom s st i n ≡ onNth i r (λ m. recordsFrom s st (suc i) m)
     unfolding recordsFrom content
     records-turn g e i n h r w =
-        ap (λ (bs : List Basic). recordFrom s i bs (st .overflow) n) (drop-cons (st .basic) i (mkBasic 0 0 0) h)
+        ap (λ (bs : List Basic). recordFrom s i bs (st .overflow) n) (drop-cons (st .basic) i emptyBasic h)
         ∙ record-turn i (basicAt (st .basic) i) (drop (suc i) (st .basic)) (st .overflow) n (contentOf (layoutOf s) (basicAt (st .basic) i) (st .overflow)) refl
         ∙ ap (λ (x : Nth). onNth i x (λ m. recordFrom s (suc i) (drop (suc i) (st .basic)) (st .overflow) m))
         (ap (λ (x : Layout). nthIn x (contentOf x (basicAt (st .basic) i) (st .overflow)) n) e ∙ sym w)
@@ -258,7 +219,3 @@ module _ (s : Settings) (g : Layout) (e : layoutOf s ≡ g) where
   pub bie-is : g .bie ≡ bie s
   unfolding layoutOf
   bie-is = sym (ap (λ (x : Layout). x .bie) e)
-
-pub basic-count : (g : Layout) (t : List ℕ) → length (decode g t .basic) ≡ g .lists
-unfolding decode
-basic-count g t = length-tab (g .lists) (readBasic g t)

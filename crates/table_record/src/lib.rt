@@ -9,22 +9,23 @@ use settings::Layout;
 use settings::Refusal;
 use settings::Settings;
 use table::RecordAnswer;
+use table::Step;
 use table_read::blocks::basic_counter;
 use table_read::blocks::basic_head;
-use table_read::blocks::overflow_counter;
+use table_read::blocks::overflow_front;
 use table_read::blocks::overflow_link;
+use table_read::blocks::step_of;
 use table_read::lists::Last;
 use table_read::lists::basic_run;
 use table_read::lists::displaced_run;
 use table_read::lists::follow;
 use table_read::lists::overflow_run;
 use table_read::slots::Slots;
+use table_read::slots::entry_at;
 use table_read::slots::label_in;
-use table_read::slots::seen;
 ghost use mathlib.Core.Path.{_≡_};
-ghost use Prim.Native.Nat.{_^_, _≤_, _<_};
+ghost use Prim.Native.Nat.{_^_, _<_};
 ghost use lib.ListN.{getD};
-ghost use Rattle.bits.specs.Field.{field};
 ghost use Rattle.settings.specs.Proper.{Proper};
 ghost use Rattle.settings.specs.Sizes.{bie};
 ghost use Rattle.settings.specs.Legal.{Legal};
@@ -35,7 +36,7 @@ ghost use Rattle.table.specs.Table.{Table};
 ghost use Rattle.table.specs.Follow.{content};
 ghost use Rattle.table.specs.Record.{recordIn};
 ghost use Rattle.table.specs.Calls.{recordAnswer};
-ghost use Rattle.table_read.specs.Steps.{shown, View, Run, slotsIn, Followed, Overflows, gatherFrom};
+ghost use Rattle.table_read.specs.Steps.{Run, slotsIn, Followed, Overflows, gatherFrom};
 ghost use Rattle.table_record.specs.RecordSteps.{Ready, Bounded, nthOf, nthIn};
 ghost use Rattle.table.specs.declared.answers.RecordAnswer.the-variants as answer;
 
@@ -63,7 +64,7 @@ pub fn record(s: Settings, t: &[u8], n: u64) -> RecordAnswer
 }
 
 // Record n. It follows lists only up to that record's list.
-pub fn record_in(s: Settings, t: &[u8], g: Layout, n: u64) -> RecordAnswer
+fn record_in(s: Settings, t: &[u8], g: Layout, n: u64) -> RecordAnswer
     requires { ⌜ Ready s g (now t) ⌝ }
     ensures { λ r. ⌜ r ≡ recordIn s (decode g (now (t .entry))) n ⌝ }
 {
@@ -134,17 +135,17 @@ fn nth_blocks(t: &[u8], g: Layout, first: BlockNumber, n: u64) -> Nth
     let mut m = n;
     let mut q: usize = 0;
     while q < g.nob {
-        let c = overflow_counter(t, g, b);
-        let run = overflow_run(g, b, c);
+        let front = overflow_front(t, g, b);
+        let run = overflow_run(g, b, front.counter);
         let count = run.count as u64;
         if m < count {
             return nth_of(t, g, run, m);
         }
         m -= count;
-        if c < g.sio {
+        let Step::Further(next) = step_of(front, g.sio) else {
             return Nth::Past(m);
-        }
-        b = BlockNumber(overflow_link(t, g, b));
+        };
+        b = next;
         q += 1;
     }
     Nth::Past(m)
@@ -171,22 +172,5 @@ fn entry_in(t: &[u8], g: Layout, b: Slots, j: SlotNumber) -> Key
     requires { ⌜ Proper g × Run g (now t) b × (j .0 < b .count) ⌝ }
     ensures { λ r. ⌜ r ≡ keyOf (entryOf g (getD (slotsIn g (now (t .entry)) b) (j .0) 0)) ⌝ }
 {
-    seen_key(t, b, b.start + j.0 * g.slot, g.bie)
-}
-
-// The field of n bits from bit `at` on, where the first bits of the slots are what they count as.
-fn seen_key(t: &[u8], b: Slots, at: usize, n: usize) -> Key
-    requires { ⌜ View (now t) b at n × (n ≤ 128) ⌝ }
-    ensures { λ r. ⌜ r ≡ keyOf (field (shown (now (t .entry)) b) at n) ⌝ }
-{
-    if n <= 64 {
-        return Key {
-            high: 0,
-            low: seen(t, b, at, n),
-        };
-    }
-    Key {
-        high: seen(t, b, at, n - 64),
-        low: seen(t, b, at + (n - 64), 64),
-    }
+    entry_at(t, b, b.start + j.0 * g.slot, g.bie)
 }

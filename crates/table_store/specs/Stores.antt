@@ -1,24 +1,18 @@
--- What the stores leave in a table's bytes: each is a field put at its place.
-use Prim.Native.Nat.{ℕ, _+_, _*_, _^_, _<_}
+-- What the stores leave in a table's bytes: each is a field put at its place; and a row of them, a state stored.
+use Prim.Native.Nat.{ℕ, _^_, _<_}
 use mathlib.Core.Path.{_≡_}
 use mathlib.Core.List.{List}
 use Rattle.bits.specs.Field.{field}
 use Rattle.bits.specs.Put.{putField}
 use Rattle.settings.specs.declared.layout.Layout.{Layout}
-use Rattle.table.specs.Decode.{blockAt, basicSlots, linkAt, overflowSlots}
+use Rattle.table.specs.Decode.{blockAt, basicSlots, linkAt, decode}
+use Rattle.table.specs.State.{State}
+use Rattle.table.specs.Table.{Table, Only}
 
 -- an entry and a label that a slot holds
 pub record Slotted (g : Layout) (e label : ℕ) : Type 0 where
   pub entry-fits : e < 2 ^ g .bie
   pub label-fits : label < 2 ^ g .val
-
-module _ (g : Layout) where
-  -- where slot p of a block begins
-  unfoldable pub basicSlot : ℕ → ℕ → ℕ
-  basicSlot i p = basicSlots g i + p * g .slot
-
-  unfoldable pub overflowSlot : ℕ → ℕ → ℕ
-  overflowSlot j p = overflowSlots g j + p * g .slot
 
 module _ (g : Layout) (t : List ℕ) where
   unfoldable pub freePut : ℕ → List ℕ
@@ -41,10 +35,16 @@ module _ (g : Layout) (t : List ℕ) where
   slotPut at x = putField t at (g .slot) x
 
   -- overflow block j zeroed, but for its link
-  unfoldable pub renewed : ℕ → ℕ → List ℕ
-  renewed j l = putField (putField t (blockAt (g .overflow) j) (g .overflow .bits) 0) (linkAt g j) (g .link) l
+  unfoldable pub emptied : ℕ → ℕ → List ℕ
+  emptied j l = putField (putField t (blockAt (g .overflow) j) (g .overflow .bits) 0) (linkAt g j) (g .link) l
 
 -- u is t with the slot x stored at bit `at` where the L bits from `base` on count as h; these bits themselves stay, and r is what they would be
 pub record Poked (g : Layout) (t u : List ℕ) (base h at x r : ℕ) : Type 0 where
   pub head : r ≡ field (slotPut g (putField t base (g .link) h) at x) base (g .link)
   pub bytes : u ≡ putField (slotPut g (putField t base (g .link) h) at x) base (g .link) (field t base (g .link))
+
+-- u is the table t with the state st in it, and nothing else changed
+pub record Stored (g : Layout) (t u : List ℕ) (st : State) : Type 0 where
+  pub table : Table g u
+  pub only : Only t u 0 (g .bits)
+  pub state : decode g u ≡ st

@@ -1,1 +1,3 @@
 pub mod StoreLaws
+pub mod PlaceLaws
+pub mod Fronts

@@ -32,7 +32,7 @@ pub fn admit_to(s: Settings, g: Layout, t: &[u8], text: &[u8]) -> Parsed
 }
 
 // The same, or refusal 1.
-pub fn admit(s: Settings, t: &[u8], text: &[u8]) -> Parsed
+fn admit(s: Settings, t: &[u8], text: &[u8]) -> Parsed
     ensures { λ r. ⌜ r ≡ admittedOf s (now (t .entry)) (now (text .entry)) ⌝ }
 {
     match s.layout() {

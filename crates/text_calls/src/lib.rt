@@ -2,7 +2,6 @@
 mod calls;
 
 pub use calls::add_text;
-pub use calls::admit;
 pub use calls::admit_to;
 pub use calls::delete_text;
 pub use calls::find_text;

@@ -1,37 +1,23 @@
 -- Fields and the numerals in them: what a field gives where some of its digits are read already, by the class of the next byte.
 use Prim.Native.Nat.{ℕ, zero, suc, _+_, _*_, _≤_, _<_, _^_}
-use native.Mathlib.Nat.{zero-add, add-zero, pow-suc, pow-le-pow-right, lt-of-lt-of-le}
-use native.Mathlib.Numerals.{add-one}
+use native.Mathlib.Nat.{zero-add, add-zero, pow-le-pow-right, lt-of-lt-of-le}
 use native.Mathlib.Omega.{arith}
 use mathlib.Core.Path.{_≡_, refl, sym, _∙_}
 use mathlib.Core.Logic.{_⊎_, inl, inr, ⊎-elim}
-use mathlib.Core.Bool.{Bool, true, false, cond, not, _&&_}
+use mathlib.Core.Bool.{Bool, true, false, cond, not, _&&_, and-true, and-false}
 use mathlib.Core.List.{List, [], _∷_}
 use mathlib.Core.Option.{Option, none, some}
 use lib.ListN.{length, drop, getD, drop-of-length-le}
-use lib.Arith.{digits-lt}
 use lib.Bits.{bitOr, or-add-and, or-lt, and-le-l, and-le-r}
-use lib.Seq.{drop-cons}
 use lib.Dec.{leb, ltb, eqb, lit<, lit≤}
 use borrow.Author.Tests.{ltb-true, ltb-false, leb-true, eqb-true, eqb-false, lt-ltb, le-ltb, le-leb, lt-leb, eq-eqb, ne-eqb}
-use Rattle.settings.specs.theory.Cases.{cases, both-true}
+use Rattle.laws.specs.Cases.{cases, both-true, cond-same}
+use Rattle.laws.specs.Lists.{drop-next}
 use Rattle.text_read.specs.Class.{classOf, colon, dot, within as between}
 use Rattle.text_read.specs.Numerals.{digits, number, group, decimal, noLeadingZero}
 use Rattle.text_read.specs.ReaderSteps.{classAt, Five, byLength, until, numeralOf, groupIn, decimalIn}
 use Rattle.text_read.specs.declared.reader.Numeral.{Numeral}
 use Rattle.text_read.specs.declared.reader.Numeral.the-variants as numeral
-
-pub and-false : (b : Bool) → b && false ≡ false
-and-false true = refl
-and-false false = refl
-
-and-true : (b : Bool) → b && true ≡ b
-and-true true = refl
-and-true false = refl
-
--- the text from i on, where it does not end there
-pub next : (s : List ℕ) (i : ℕ) → i < length s → drop i s ≡ getD s i 0 ∷ drop (i + 1) s
-next s i h = rw (add-one, drop-cons s i 0)
 
 -- The field by places ---------------------------------------------------------------------------------------------------
 
@@ -55,7 +41,7 @@ module _ (k : ℕ) (s : List ℕ) (i : ℕ) where
   -- the field ends where a byte of class k stands, or the text ends
   field-stop : classAt k s i ≡ k → until k (drop i s) ≡ []
   field-stop e = cases (ltb i (length s))
-      (λ t. let h : i < length s = ltb-true i (length s) t in rw (next s i h) (until-stop k (getD s i 0) (drop (i + 1) s) (sym (class-here k s i h) ∙ e)))
+      (λ t. let h : i < length s = ltb-true i (length s) t in rw (drop-next s i 0 h) (until-stop k (getD s i 0) (drop (i + 1) s) (sym (class-here k s i h) ∙ e)))
       (λ t. let h : length s ≤ i = ltb-false i (length s) t in rw (drop-of-length-le s h) (unfold until in refl))
 
   -- elsewhere it goes on
@@ -65,14 +51,10 @@ module _ (k : ℕ) (s : List ℕ) (i : ℕ) where
   field-more : (classAt k s i ≡ k → ⊥) → until k (drop i s) ≡ getD s i 0 ∷ until k (drop (i + 1) s)
   field-more n =
       let h : i < length s = within n in
-      rw (next s i h) (until-go k (getD s i 0) (drop (i + 1) s) (λ e. n (class-here k s i h ∙ e)))
+      rw (drop-next s i 0 h) (until-go k (getD s i 0) (drop (i + 1) s) (λ e. n (class-here k s i h ∙ e)))
 
   class-more : (classAt k s i ≡ k → ⊥) → classOf (getD s i 0) ≡ classAt k s i
   class-more n = sym (class-here k s i (within n))
-
--- a digit more
-pub digit-more : (b n v k : ℕ) → v < b ^ n → k < b → v * b + k < b ^ (n + 1)
-digit-more b n v k h l = rw (add-one, pow-suc) (digits-lt h l)
 
 -- at most m digits
 pub digit-most : (b n m v : ℕ) → 0 < b → v < b ^ n → n ≤ m → v < b ^ m
@@ -265,10 +247,6 @@ digit-above a b c d h la lb lc =
     (λ t. absurd (omega (arith, or-lt 4 (bitOr (bitOr a b) c) d (or-lt 4 (bitOr a b) c (or-lt 4 a b la lb) lc) (omega (arith, ltb-false 15 d t)))))
 
 -- Decimals --------------------------------------------------------------------------------------------------------------
-
-cond-same : (b : Bool) (t : Bool) → cond b t t ≡ t
-cond-same true t = refl
-cond-same false t = refl
 
 abbrev empty : List ℕ → Bool
 empty [] = true

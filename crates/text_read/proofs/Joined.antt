@@ -11,7 +11,7 @@ use mathlib.Core.Option.{Option, none, some}
 use lib.ListN.{length, replicate}
 use lib.Dec.{leb, ltb, lit<}
 use borrow.Author.Tests.{ltb-true, leb-true, lt-ltb, le-ltb}
-use Rattle.settings.specs.theory.Cases.{both-true}
+use Rattle.laws.specs.Cases.{both-true}
 use Rattle.keys.specs.Key.{keyOf}
 use Rattle.settings.specs.declared.refusal.Refusal.the-variants as refusal
 use Rattle.text_read.specs.declared.Parsed.the-variants as parsed
@@ -20,7 +20,8 @@ use Rattle.text_read.specs.Numerals.{digits, number, group}
 use Rattle.text_read.specs.Reading.{push, dotted, orElse, groups, filled, joined}
 use Rattle.text_read.specs.Answers.{keyed}
 use Rattle.text_read.specs.ReaderSteps.{numberOf, made, Sized, dottedFrom, filledWith, filledBy}
-use Rattle.text_read.proofs.Fields.{digit-more, digit-most}
+use Rattle.text_read.specs.theory.Joined.{digit-more, Small, joined-append}
+use Rattle.text_read.proofs.Fields.{digit-most}
 use Rattle.text_read.proofs.Splits.{halves, dotted-halves, dotted-below}
 use Rattle.text_read.specs.declared.reader.Groups.{Groups}
 
@@ -33,10 +34,6 @@ number-bound (x ∷ f) n v d h =
     let p = both-true (ltb (classOf x) 16) (digits 16 f) d in
     let e : n + suc (length f) ≡ n + 1 + length f = omega arith in
     rw e (number-bound f (n + 1) (v * 16 + classOf x) (p .1) (digit-more 16 n v (classOf x) h (ltb-true (classOf x) 16 (p .0))))
-
-abbrev Small : List ℕ → Type 0
-Small [] = Unit {0}
-Small (g ∷ l) = (g < 65536) × Small l
 
 abbrev AllSmall : Option (List ℕ) → Type 0
 AllSmall none = Unit {0}
@@ -85,18 +82,6 @@ groups-small end (f ∷ []) = go (group f) (group-one f) end
 groups-small end (f ∷ g ∷ fs) = push-small (group f) (groups end (g ∷ fs)) (group-one f) (groups-small end (g ∷ fs))
 
 -- The number --------------------------------------------------------------------------------------------------------------
-
-pub joined-lt : (l : List ℕ) (n v : ℕ) → Small l → v < 65536 ^ n → joined v l < 65536 ^ (n + length l)
-unfolding joined
-joined-lt [] n v k h = rw (add-zero n) h
-joined-lt (g ∷ l) n v k h =
-    let e : n + suc (length l) ≡ n + 1 + length l = omega arith in
-    rw e (joined-lt l (n + 1) (v * 65536 + g) (k .1) (digit-more 65536 n v g h (k .0)))
-
-pub joined-append : (v : ℕ) (a b : List ℕ) → joined v (a ++ b) ≡ joined (joined v a) b
-unfolding joined
-joined-append v [] b = refl
-joined-append v (g ∷ a) b = joined-append (v * 65536 + g) a b
 
 shift : (v g w : ℕ) → (v * 65536 + g) * w ≡ v * (w * 65536) + g * w
 shift v g w = omega (arith, add-mul (v * 65536) g w, mul-right-comm v 65536 w, mul-assoc v w 65536)

@@ -3,43 +3,32 @@ use Prim.Native.Nat.{ℕ, suc, _+_, _*_, _/_, _%_, _≤_, _<_}
 use native.Mathlib.Nat.{zero-add}
 use native.Mathlib.Omega.{arith}
 use mathlib.Core.Path.{_≡_, refl, sym, ap, _∙_}
-use mathlib.Core.Bool.{Bool, true, false, cond, _&&_, false≢true}
+use mathlib.Core.Bool.{Bool, true, false, cond, _&&_, and-false}
 use mathlib.Core.List.{List, [], _∷_, _++_}
 use mathlib.Core.Option.{Option, none, some}
 use lib.ListN.{length, drop, getD, length-append, drop-of-length-le}
 use lib.Dec.{leb, eqb, lit<}
 use borrow.Author.Tests.{eqb-true, eqb-false, leb-true, leb-false, eq-eqb, ne-eqb, le-ltb, le-leb, lt-leb}
+use Rattle.laws.specs.Cases.{cases, both-true, never}
+use Rattle.laws.specs.Lists.{drop-next}
 use Rattle.keys.specs.Key.{keyOf}
-use Rattle.settings.specs.theory.Cases.{cases, both-true}
 use Rattle.settings.specs.declared.refusal.Refusal.the-variants as refusal
 use Rattle.text_read.specs.Class.{classOf, colon}
 use Rattle.text_read.specs.Numerals.{digits, group, decimal}
 use Rattle.text_read.specs.Reading.{split, push, decimals, twoGroups, dotted, orElse, groups, part, Cut, whole, parted, behind, begins, tail, cut, eight, filled, groupsOfCut, groupsOf, joined}
 use Rattle.text_read.specs.Answers.{keyed, readingOf}
 use Rattle.text_read.specs.ReaderSteps.{until, dottedFrom, numberOf, made, Sized, toEnd, toGap, partOfCut, partFrom, filledWith, filledBy, afterGap, Fine, headAnswer}
-use Rattle.text_read.proofs.Fields.{next, and-false}
 use Rattle.text_read.proofs.Splits.{past, later, split-eq, until-all, past-class, alone, followed, Past, halves, dotted-halves, dotted-colon}
-use Rattle.text_read.proofs.Joined.{groups-small, joined-lt, made-number, made-sized, filled-key}
+use Rattle.text_read.specs.theory.Joined.{joined-lt}
+use Rattle.text_read.proofs.Joined.{groups-small, made-number, made-sized, filled-key}
+use Rattle.text_read.specs.theory.Cuts.{behinds, behinds-nil, behind-behinds}
+use Rattle.text_read.specs.theory.Options.{push-none}
 use Rattle.text_read.specs.declared.Parsed.{Parsed}
 use Rattle.text_read.specs.declared.Parsed.the-variants as parsed
 use Rattle.text_read.specs.declared.reader.Part.{Part}
 use Rattle.text_read.specs.declared.reader.Part.the-variants as answer
 
 -- The first "::" ----------------------------------------------------------------------------------------------------------
-
-behinds : List ℕ → Cut → Cut
-behinds [] q = q
-behinds (x ∷ f) q = behind x (behinds f q)
-
-behinds-whole : (f : List ℕ) → behinds f whole ≡ whole
-unfolding behinds behind
-behinds-whole [] = refl
-behinds-whole (x ∷ f) = rw (behinds-whole f)
-
-behinds-parted : (f l r : List ℕ) → behinds f (parted l r) ≡ parted (f ++ l) r
-unfolding behinds behind
-behinds-parted [] l r = refl
-behinds-parted (x ∷ f) l r = rw (behinds-parted f l r)
 
 -- where it stands, if f is the first field and p what stands past it
 cutPast : List ℕ → List ℕ → Cut
@@ -48,20 +37,20 @@ cutPast f (c ∷ []) = whole
 cutPast f (c ∷ y ∷ r) = cond (eqb (classOf y) colon) (parted f r) (behinds f (behind c (cut (y ∷ r))))
 
 behind-past : (x : ℕ) (f p : List ℕ) → behind x (cutPast f p) ≡ cutPast (x ∷ f) p
-unfolding cutPast behind behinds
+unfolding cutPast behind
 behind-past x f [] = refl
 behind-past x f (c ∷ []) = refl
 behind-past x f (c ∷ y ∷ r) = go (eqb (classOf y) colon)
   where
     go : (b : Bool) → behind x (cond b (parted f r) (behinds f (behind c (cut (y ∷ r)))))
-        ≡ cond b (parted (x ∷ f) r) (behind x (behinds f (behind c (cut (y ∷ r)))))
+        ≡ cond b (parted (x ∷ f) r) (behinds (x ∷ f) (behind c (cut (y ∷ r))))
     go true = refl
-    go false = refl
+    go false = behind-behinds x f (behind c (cut (y ∷ r)))
 
 cut-here : (x : ℕ) (t : List ℕ) → cond (begins t) (parted [] (tail t)) (behind x (cut t)) ≡ cutPast [] (x ∷ t)
-unfolding begins tail cutPast behinds cut behind
+unfolding begins tail cutPast cut behind
 cut-here x [] = refl
-cut-here x (y ∷ t) = refl
+cut-here x (y ∷ t) = rw (behinds-nil (behind x (cut (y ∷ t))))
 
 cut-eq : (t : List ℕ) → cut t ≡ cutPast (until colon t) (past colon t)
 unfolding cut until past cutPast
@@ -85,7 +74,7 @@ cut-drop [] l r h = let z : _≡_ {A = ℕ} 0 1 = cc in absurd (omega arith)
 cut-drop (x ∷ t) l r h = go (eqb (classOf x) colon && begins t) refl (cut-drop t) h
   where
     here : (t : List ℕ) → begins t ≡ true → (drop 2 (x ∷ t) ≡ tail t) × (2 ≤ length (x ∷ t))
-    here [] b = unfold begins in absurd (false≢true b)
+    here [] b = unfold begins in never b
     here (y ∷ t) b = unfold tail in (refl, omega arith)
 
     go : (b : Bool) → (eqb (classOf x) colon && begins t) ≡ b → ((l r : List ℕ) → cut t ≡ parted l r → (drop (length l + 2) t ≡ r) × (length l + 2 ≤ length t))
@@ -115,11 +104,6 @@ groups-more : (e : Bool) (t : List ℕ) (c : ℕ) (r : List ℕ) → past colon 
 unfolding later
 groups-more e t c r p = rw (split-eq colon t, p) (groups-cons e (until colon t) r)
 
-push-none : (o : Option ℕ) → push o none ≡ none
-unfolding push
-push-none none = refl
-push-none (some v) = refl
-
 empty-none : groups true (split colon []) ≡ none
 unfolding split groups orElse group digits dotted decimals decimal push twoGroups
 empty-none = refl
@@ -137,20 +121,20 @@ no-group = refl
 
 holed-none : (e : Bool) (fs : List (List ℕ)) → holed fs ≡ true → groups e fs ≡ none
 unfolding holed groups
-holed-none e [] h = absurd (false≢true h)
-holed-none e (f ∷ []) h = absurd (false≢true h)
+holed-none e [] h = never h
+holed-none e (f ∷ []) h = never h
 holed-none e ([] ∷ g ∷ fs) h = rw no-group (unfold push in refl)
 holed-none e ((x ∷ f) ∷ g ∷ fs) h = rw (holed-none e (g ∷ fs) h) (push-none (group (x ∷ f)))
 
 holed-next : (f : List ℕ) (fs : List (List ℕ)) → holed fs ≡ true → holed (f ∷ fs) ≡ true
 unfolding holed
-holed-next f [] h = absurd (false≢true h)
+holed-next f [] h = never h
 holed-next [] (g ∷ fs) h = refl
 holed-next (x ∷ f) (g ∷ fs) h = h
 
 holed-begins : (t : List ℕ) → begins t ≡ true → holed (split colon t) ≡ true
 unfolding begins split holed
-holed-begins [] b = absurd (false≢true b)
+holed-begins [] b = never b
 holed-begins (y ∷ t) b = rw (b, split-eq colon t)
 
 holed-gap : (t l r : List ℕ) → cut t ≡ parted l r → holed (later colon (past colon t)) ≡ true
@@ -215,10 +199,10 @@ module _ (v n : ℕ) (t : List ℕ) (at : ℕ) where
       bad-more e t' c r u p = groups-more e t' c r p ∙ rw (u, g) (unfold push in refl)
 
       by-cut : (c : ℕ) (r : List ℕ) → past colon t ≡ c ∷ r → (q : Cut) → partOfCut v n t at (behinds (until colon t) (behind c q)) ≡ answer.Bad
-      by-cut c r p whole = unfold behind partOfCut toEnd in rw (behinds-whole (until colon t), bad-more true t c r refl p)
+      by-cut c r p whole = unfold behind behinds partOfCut toEnd in rw (bad-more true t c r refl p)
       by-cut c r p (parted l r') =
           let k = followed colon c l t (past-class colon t c r p) in
-          unfold behind partOfCut toGap in rw (behinds-parted (until colon t) (c ∷ l) r', bad-more false (until colon t ++ c ∷ l) c l (k .0) (k .1))
+          unfold behind behinds partOfCut toGap in rw (bad-more false (until colon t ++ c ∷ l) c l (k .0) (k .1))
 
       by-past : (p : List ℕ) → past colon t ≡ p → partOfCut v n t at (cutPast (until colon t) p) ≡ toEnd v n (dotted t)
       by-past [] p = unfold cutPast partOfCut in rw (groups-one true t p, g, until-all colon t p) (unfold orElse in refl)
@@ -258,8 +242,8 @@ module _ (v n : ℕ) (t : List ℕ) (at : ℕ) where
       part-more h = rw (cut-eq t, p) (unfold cutPast in rw (ne-eqb (classOf y) colon h) (by-cut (cut (y ∷ r))))
         where
           by-cut : (q : Cut) → partOfCut v n t at (behinds (until colon t) (behind c q)) ≡ partOfCut (v * 65536 + g) (n + 1) (y ∷ r) (at + length (until colon t) + 1) q
-          by-cut whole = unfold behind partOfCut in rw (behinds-whole (until colon t), groups-more true t c (y ∷ r) p, e) (toEnd-push v n g (groups true (split colon (y ∷ r))))
-          by-cut (parted l r') = unfold behind partOfCut in rw (behinds-parted (until colon t) (c ∷ l) r', more, place) (toGap-push v n (at + length (until colon t) + 1 + length l + 2) g (groups false (split colon l)))
+          by-cut whole = unfold behind behinds partOfCut in rw (groups-more true t c (y ∷ r) p, e) (toEnd-push v n g (groups true (split colon (y ∷ r))))
+          by-cut (parted l r') = unfold behind behinds partOfCut in rw (more, place) (toGap-push v n (at + length (until colon t) + 1 + length l + 2) g (groups false (split colon l)))
             where
               place : at + length (until colon t ++ c ∷ l) + 2 ≡ at + length (until colon t) + 1 + length l + 2
               place = omega (arith, length-append (until colon t) (c ∷ l))
@@ -303,7 +287,7 @@ module _ (v n : ℕ) (s : List ℕ) (i g end : ℕ) (e : group (until colon (dro
     pub turn-more : (classOf (getD s (end + 1) 0) ≡ colon → ⊥) → partFrom v n (drop i s) i ≡ partFrom (v * 65536 + g) (n + 1) (drop (end + 1) s) (end + 1)
     turn-more c =
         part-more v n (drop i s) i g e (getD s end 0) (getD s (end + 1) 0) (drop (end + 1 + 1) s) (p .two h) c
-        ∙ rw (sym (next s (end + 1) h), p .size)
+        ∙ rw (sym (drop-next s (end + 1) 0 h), p .size)
 
 -- The dotted tail
 tail-halves : (v n : ℕ) (t : List ℕ) (o : Option ℕ) → dottedFrom 0 0 t ≡ o → toEnd v n (dotted t) ≡ toEnd v n (halves o)
@@ -438,8 +422,8 @@ read-plain (x ∷ s) h = rw (cut-plain x s h) (go (cut s) (cut-plain x s h))
 
 pub read-open : (s : List ℕ) → (begins s && begins (tail s)) ≡ true → (2 ≤ length s) × (readingOf s ≡ afterGap 0 0 (drop 2 s))
 unfolding begins tail joined
-read-open [] h = absurd (false≢true h)
-read-open (x ∷ []) h = absurd (false≢true (sym (and-false (eqb (classOf x) colon)) ∙ h))
+read-open [] h = never h
+read-open (x ∷ []) h = never (sym (and-false (eqb (classOf x) colon)) ∙ h)
 read-open (x ∷ y ∷ s) h = (omega arith, unfold readingOf groupsOf cut begins tail afterGap in rw h (unfold groupsOfCut in (unfold part in filled-key [] (part true s))))
 
 -- by place
@@ -463,4 +447,4 @@ module _ (v n : ℕ) (s : List ℕ) (at : ℕ) where
       rw (drop-of-length-le s l) (after-empty v n)
 
   pub after-here : at < length s → afterGap v n (drop at s) ≡ tailAnswer v n (partFrom 0 0 (drop at s) at)
-  after-here h = rw (next s at h) (after-part v n (getD s at 0) (drop (at + 1) s) at)
+  after-here h = rw (drop-next s at 0 h) (after-part v n (getD s at 0) (drop (at + 1) s) at)

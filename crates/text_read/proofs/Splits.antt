@@ -10,12 +10,14 @@ use lib.ListN.{length, drop, getD, length-drop, drop-of-length-le}
 use lib.Seq.{drop-drop}
 use lib.Dec.{leb, ltb, eqb}
 use borrow.Author.Tests.{leb-true, eqb-true, eq-eqb, ne-eqb, le-ltb}
-use Rattle.settings.specs.theory.Cases.{both-true}
+use Rattle.laws.specs.Cases.{both-true}
+use Rattle.laws.specs.Lists.{drop-next}
+use Rattle.laws.specs.Options.{when-some}
 use Rattle.text_read.specs.Class.{classOf, colon, dot}
 use Rattle.text_read.specs.Numerals.{digits, number, noLeadingZero, group, decimal}
 use Rattle.text_read.specs.Reading.{onFirst, split, push, decimals, twoGroups, dotted}
 use Rattle.text_read.specs.ReaderSteps.{until, numeralOf, groupIn, decimalIn, bytes, four, dottedFrom}
-use Rattle.text_read.proofs.Fields.{next}
+use Rattle.text_read.specs.theory.Options.{push-none}
 use Rattle.text_read.specs.declared.reader.Numeral.the-variants as numeral
 
 -- The first field -------------------------------------------------------------------------------------------------------
@@ -136,9 +138,9 @@ past-of k s i end h e = record {
   within = omega (arith, field-length k (drop i s), length-drop i s);
   size = e;
   last = λ q. let l : length s ≤ end = omega arith in past-at k i s ∙ rw e (drop-of-length-le s l);
-  more = λ q. past-at k i s ∙ rw e (next s end q);
-  short = λ q. let l : length s ≤ end + 1 = omega arith in past-at k i s ∙ rw (e, next s end (omega arith), drop-of-length-le s l);
-  two = λ q. past-at k i s ∙ rw (e, next s end (omega arith), next s (end + 1) q);
+  more = λ q. past-at k i s ∙ rw e (drop-next s end 0 q);
+  short = λ q. let l : length s ≤ end + 1 = omega arith in past-at k i s ∙ rw (e, drop-next s end 0 (omega arith), drop-of-length-le s l);
+  two = λ q. past-at k i s ∙ rw (e, drop-next s end 0 (omega arith), drop-next s (end + 1) 0 q);
 }
 
 module _ (s : List ℕ) (i : ℕ) where
@@ -198,14 +200,10 @@ module _ (v n : ℕ) (t : List ℕ) where
     dotted-more c r p = rw (decimals-eq t, e, p, four-push) (unfold later in refl)
 
 -- a decimal is 255 at most
-cond-some : (b : Bool) (x v : ℕ) → cond b (some x) none ≡ some v → (b ≡ true) × (x ≡ v)
-cond-some true x v e = (refl, cc)
-cond-some false x v e = let z : _≡_ {A = ℕ} 0 1 = cc in absurd (omega arith)
-
 pub decimal-le : (f : List ℕ) (v : ℕ) → decimal f ≡ some v → v ≤ 255
 unfolding decimal
 decimal-le f v e =
-    let p = cond-some (digits 10 f && leb 1 (length f) && leb (length f) 3 && noLeadingZero f && leb (number 10 0 f) 255) (number 10 0 f) v e in
+    let p = when-some (digits 10 f && leb 1 (length f) && leb (length f) 3 && noLeadingZero f && leb (number 10 0 f) 255) (number 10 0 f) v e in
     omega (arith, leb-true (number 10 0 f) 255 (both-true (digits 10 f && leb 1 (length f) && leb (length f) 3 && noLeadingZero f) (leb (number 10 0 f) 255) (p .0) .1), p .1)
 
 abbrev Bytes : List ℕ → Type 0
@@ -272,10 +270,6 @@ no-decimals (f ∷ fs) h = go (digits 10 f) refl (no-decimals fs) h
   where
     go : (b : Bool) → digits 10 f ≡ b → (allDigits fs ≡ false → decimals fs ≡ none) → (b && allDigits fs) ≡ false → push (decimal f) (decimals fs) ≡ none
     go true e ih q = rw (ih q) (push-none (decimal f))
-      where
-        push-none : (o : Option ℕ) → push o none ≡ none
-        push-none none = unfold push in refl
-        push-none (some v) = unfold push in refl
     go false e ih q =
         let d : decimal f ≡ none = unfold decimal in rw e in
         rw d (unfold push in refl)

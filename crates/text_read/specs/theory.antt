@@ -2,6 +2,7 @@
 pub mod Options
 pub mod Bytes
 pub mod Numerals
+pub mod Joined
 pub mod Splits
 pub mod Cuts
 pub mod Dotted

@@ -284,7 +284,7 @@ fn wide(class: u8) -> u64
 }
 
 // The class of a byte. The table is lent, since the compiler builds a constant anew wherever it is named.
-pub fn class(table: &[u8; 256], byte: u8) -> u64
+pub(crate) fn class(table: &[u8; 256], byte: u8) -> u64
     requires { ⌜ Classes (now table) ⌝ }
     ensures { λ r. ⌜ r ≡ classOf byte ⌝ }
 {
@@ -292,7 +292,7 @@ pub fn class(table: &[u8; 256], byte: u8) -> u64
 }
 
 // The class of the byte at i; the end of the text is as good as a byte of the class `end`.
-pub fn class_at(table: &[u8; 256], text: &[u8], i: usize, end: u64) -> u64
+pub(crate) fn class_at(table: &[u8; 256], text: &[u8], i: usize, end: u64) -> u64
     requires { ⌜ Classes (now table) ⌝ }
     ensures { λ r. ⌜ r ≡ classAt end (now (text .entry)) i ⌝ }
 {

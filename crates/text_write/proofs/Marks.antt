@@ -12,10 +12,10 @@ use lib.Count.{trailingZeros}
 use lib.Dec.{leb, eqb}
 use lib.ListN.{length, drop, getD}
 use borrow.Author.Tests.{le-leb, lt-leb, leb-true, leb-false, eqb-true}
-use Rattle.settings.specs.theory.Cases.{cases}
+use Rattle.laws.specs.Cases.{cases}
+use Rattle.laws.specs.Lists.{drop-next}
 use Rattle.text_write.specs.Writing.{zeros, longest}
 use Rattle.text_write.specs.WriterSteps.{runMarks}
-use Rattle.text_write.specs.theory.Stores.{drop-next}
 use Rattle.text_write.specs.theory.LongestRun.{zeros-nil, zeros-more, zeros-none, zeros-run, longest-nil, here, there, by-longest}
 
 -- the bit of the first place
@@ -128,7 +128,7 @@ marks-found (suc k) n (g ∷ l) h o e p =
 pub marks-step : (g : List ℕ) (i j : ℕ) → j ≡ i + 1 → i < length g
     → runMarks 1 (drop i g) ≡ runMarks 1 (drop j g) * 2 + cond (eqb (getD g i 0) 0) 1 0
 marks-step g i j e h =
-    let d : drop i g ≡ getD g i 0 ∷ drop j g = drop-next g i h ∙ rw e in
+    let d : drop i g ≡ getD g i 0 ∷ drop j g = drop-next g i 0 h ∙ rw e in
     rw (d, marks-cons 1 (getD g i 0) (drop j g))
     (ap (λ (x : ℕ). runMarks 1 (drop j g) * 2 + x)
     (cases (eqb (getD g i 0) 0)

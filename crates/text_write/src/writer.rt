@@ -2,7 +2,7 @@
 // so that a refusal touches nothing. What stands in the array behind the text is of no account, so
 // four digits are stored where fewer count.
 ghost use mathlib.Core.Path.{_≡_};
-ghost use Prim.Native.Nat.{ℕ, _+_, _-_, _*_, _/_, _%_, _^_, _<_, _≤_};
+ghost use Prim.Native.Nat.{_+_, _-_, _*_, _/_, _%_, _<_, _≤_};
 ghost use mathlib.Core.List.{[], _∷_, _++_};
 ghost use mathlib.Core.Bool.{cond};
 ghost use lib.ListN.{length, take, drop, getD};
@@ -24,12 +24,6 @@ fn wide(x: u32) -> usize
     ensures { λ r. ⌜ r ≡ x ⌝ }
 {
     x as usize
-}
-
-fn low_byte(x: u32) -> u8
-    ensures { λ r. ⌜ r ≡ x % 256 ⌝ }
-{
-    (x % 256) as u8
 }
 
 // The group at a place of the eight.
@@ -73,10 +67,7 @@ fn put_four(text: &mut [u8], at: usize, x: u32)
     requires { ⌜ at + 4 ≤ length (now text) ⌝ }
     ensures { λ r. ⌜ take (at + 4) (now (text .exit)) ≡ take at (now (text .entry)) ++ unpacked x ⌝ }
 {
-    text[at] = low_byte(x);
-    text[at + 1] = low_byte(x / 256);
-    text[at + 2] = low_byte(x / 65536);
-    text[at + 3] = low_byte(x / 16777216);
+    bits::store_four(text, at, x as u64);
 }
 
 // A group and a colon. The group is moved up, so that its first digit that counts comes first.

@@ -5,7 +5,8 @@ use native.Mathlib.Omega.{arith}
 use denote.Ref.{now}
 use lib.Dec.{eqb}
 use borrow.Author.Needs.{needs}
-use Rattle.bits.specs.theory.Words.{eqb-both, four-same, same-four}
+use Rattle.laws.specs.Tests.{eqb-iff}
+use Rattle.bits.specs.theory.Words.{four-same, same-four}
 use Rattle.bits.proofs.four_is.Statement.{statement}
 use Rattle.bits.proofs.four_is.Tie as tie
 
@@ -18,7 +19,7 @@ returns c =
     let s = k .before in
     let a = s .args in
     ap (λ (x : ℕ). eqb x (a .q)) (c .low-first-four .ensures)
-    ∙ eqb-both _ _ _ _
+    ∙ eqb-iff _ _ _ _
     (four-same (now (a .s)) (a .i) (λ j. omega (arith, k .shared-slice-known .given j)) (a .q))
     (same-four (now (a .s)) (a .i) (λ j. omega (arith, k .shared-slice-known .given j)) (a .q) (s .pre .1))
 

@@ -5,7 +5,8 @@ use native.Mathlib.Omega.{arith}
 use denote.Ref.{now}
 use lib.Dec.{eqb}
 use borrow.Author.Needs.{needs}
-use Rattle.bits.specs.theory.Words.{eqb-both, word-same, same-word}
+use Rattle.laws.specs.Tests.{eqb-iff}
+use Rattle.bits.specs.theory.Words.{word-same, same-word}
 use Rattle.bits.proofs.word_is.Statement.{statement}
 use Rattle.bits.proofs.word_is.Tie as tie
 
@@ -17,7 +18,7 @@ returns c =
     let k = c .before in
     let a = k .before .args in
     ap (λ (x : ℕ). eqb x (a .q)) (c .low-first .ensures)
-    ∙ eqb-both _ _ _ _
+    ∙ eqb-iff _ _ _ _
     (word-same (now (a .s)) (a .i) (λ j. omega (arith, k .shared-slice-known .given j)) (a .q))
     (same-word (now (a .s)) (a .i) (λ j. omega (arith, k .shared-slice-known .given j)) (a .q) (omega arith))
 

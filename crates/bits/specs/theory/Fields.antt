@@ -2,11 +2,12 @@
 use mathlib.Core.Path.{_≡_, refl, sym, ap, ap₂, _∙_}
 use mathlib.Core.List.{List}
 use Prim.Native.Nat.{ℕ, zero, suc, _+_, _-_, _*_, _/_, _%_, _^_, _≤_, _<_}
-use native.Mathlib.Nat.{add-zero, add-suc, add-assoc, mod-lt, pow-suc, zero-lt-suc, lt-of-lt-of-le}
+use native.Mathlib.Nat.{add-zero, add-suc, add-assoc, mod-lt, pow-suc, zero-lt-suc, lt-of-lt-of-le, zero-div, zero-mod}
 use native.Mathlib.Omega.{arith}
-use lib.ListN.{length, getD}
+use lib.ListN.{length, getD, replicate}
 use lib.Seq.{ext-getD}
 use lib.Pow.{pow-pos, pow-mono, high, low}
+use Rattle.laws.specs.Lists.{replicate-at}
 use Rattle.bits.specs.Bytes.{Bytes}
 use Rattle.bits.specs.Field.{bitAt, field}
 use Rattle.bits.specs.theory.Numbers.{more-bits}
@@ -39,6 +40,20 @@ field-ext s t off (suc n) h =
     (field-ext s t off n (λ i a b. h i a (omega arith)))
     (h (off + n) (omega arith) (omega arith))
 
+-- zero bytes hold zeros
+bit-none : (s : List ℕ) (i : ℕ) → getD s (i / 8) 0 ≡ 0 → bitAt s i ≡ 0
+unfolding bitAt
+bit-none s i h = rw (h, zero-div, zero-mod 2)
+
+pub field-none : (s : List ℕ) (off n : ℕ) → ((i : ℕ) → off ≤ i → i < off + n → getD s (i / 8) 0 ≡ 0) → field s off n ≡ 0
+unfolding field
+field-none s off zero h = refl
+field-none s off (suc n) h =
+    omega (arith, field-none s off n (λ i a b. h i a (omega arith)), bit-none s (off + n) (h (off + n) (omega arith) (omega arith)))
+
+pub zero-field : (n off m : ℕ) → field (replicate n 0) off m ≡ 0
+zero-field n off m = field-none (replicate n 0) off m (λ i a b. replicate-at {A = ℕ} n (i / 8) 0)
+
 -- ---- fields side by side
 
 pub field-cat : (s : List ℕ) (off m n : ℕ) → field s off (m + n) ≡ field s off m * 2 ^ n + field s (off + m) n
@@ -47,6 +62,10 @@ field-cat s off m zero = ap (field s off) (add-zero m) ∙ omega arith
 field-cat s off m (suc n) =
     ap (field s off) (add-suc m n)
     ∙ rw pow-suc (omega (arith, field-cat s off m n, ap (bitAt s) (add-assoc off m n)))
+
+-- two numbers that hold the parts of a field
+pub field-parts : (s : List ℕ) (off m n w h l : ℕ) → m + n ≡ w → h ≡ field s off m → l ≡ field s (off + m) n → h * 2 ^ n + l ≡ field s off w
+field-parts s off m n w h l e p q = rw (p, q, ← e) (sym (field-cat s off m n))
 
 -- the first a bits of a field, and the n that follow them
 pub first-field : (s : List ℕ) (off a n : ℕ) → field s off (a + n) / 2 ^ n ≡ field s off a

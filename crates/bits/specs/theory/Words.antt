@@ -1,14 +1,11 @@
 -- The laws behind a load and a store of eight bytes at once, and behind reading and writing byte by byte.
 use mathlib.Core.Path.{_≡_, refl, sym, ap, _∙_}
-use mathlib.Core.Bool.{Bool, true, false, true≢false}
 use mathlib.Core.List.{List}
 use Prim.Native.Nat.{ℕ, _+_, _*_, _/_, _%_, _^_, _≤_, _<_}
 use native.Mathlib.Omega.{arith}
 use lib.ListN.{length, getD, set}
-use lib.Dec.{eqb}
 use lib.Pow.{mod-mod-pow}
 use lib.Pow as P
-use borrow.Author.Tests.{eq-eqb, ne-eqb, eqb-true}
 use Rattle.bits.specs.Bytes.{Bytes}
 use Rattle.bits.specs.Field.{field}
 use Rattle.bits.specs.Put.{replaced, putField}
@@ -186,17 +183,6 @@ pub turned-twice : (x : ℕ) → x < 2 ^ 64 → turned (turned x) ≡ x
 turned-twice x h = let d = turned-bytes x in rw (d .at0, d .at1, d .at2, d .at3, d .at4, d .at5, d .at6, d .at7) (bytes-of x h)
 
 -- ---- bytes compared as they stand
-
--- a test is true or false, and the equation is known in each case
-decided : {A : Type 0} (t : Bool) → (t ≡ true → A) → (t ≡ false → A) → A
-decided true f g = f refl
-decided false f g = g refl
-
-pub eqb-both : (a b c d : ℕ) → (a ≡ b → c ≡ d) → (c ≡ d → a ≡ b) → eqb a b ≡ eqb c d
-eqb-both a b c d f g =
-    decided (eqb a b)
-    (λ p. p ∙ sym (eq-eqb c d (f (eqb-true a b p))))
-    (λ p. p ∙ sym (ne-eqb c d (λ h. true≢false (sym (eq-eqb a b (g h)) ∙ p))))
 
 four-fits : (q : ℕ) → q < 2 ^ 32 → q * 4294967296 < 2 ^ 64
 four-fits q h = omega arith

@@ -1,28 +1,19 @@
 -- A call that is lent the first bytes of a memory: if these have room for the table, it is the same table that the memory holds; if not, the call
 -- is refused and nothing changes.
-use mathlib.Core.Path.{_≡_, refl, sym, ap, _∙_}
+use mathlib.Core.Path.{_≡_, refl, ap, _∙_}
 use mathlib.Core.Bool.{false}
-use mathlib.Core.List.{List, [], _∷_, _++_}
-use Prim.Native.Nat.{ℕ, zero, suc, _+_, _-_, _*_, _/_, _≤_, _<_}
-use native.Mathlib.Omega.{arith}
-use lib.ListN.{length, take, drop, length-append, List·getD-append, take-append-drop}
-use lib.Dec.{eqb, ltb}
+use mathlib.Core.List.{List, _++_}
+use Prim.Native.Nat.{ℕ, _+_, _-_, _<_}
+use lib.ListN.{length, take, drop, take-append-drop}
+use lib.Dec.{ltb}
 use borrow.Author.Tests.{lt-leb, ltb-true, ltb-false}
-use Rattle.bits.specs.Bytes.{Bytes}
-use Rattle.bits.specs.Field.{bitAt, field}
-use Rattle.bits.specs.theory.Fields.{field-ext}
+use Rattle.laws.specs.Cases.{cases}
 use Rattle.settings.specs.declared.settings.Settings.{Settings}
-use Rattle.settings.specs.declared.layout.Layout.{Layout}
 use Rattle.settings.specs.declared.refusal.Refusal.{Refusal}
 use Rattle.settings.specs.declared.refusal.Refusal.the-variants as refusal
-use Rattle.settings.specs.Proper.{Proper}
 use Rattle.settings.specs.Sizes.{tableBytes}
 use Rattle.settings.specs.Legal.{legal, Legal}
-use Rattle.settings.specs.Layout.{layoutOf}
-use Rattle.settings.specs.theory.Cases.{cases}
 use Rattle.settings.specs.theory.Legal.{legal-if}
-use Rattle.settings.specs.theory.Proper.{layout-proper}
-use Rattle.table.specs.Decode.{decode}
 use Rattle.table.specs.declared.answers.FindAnswer.{FindAnswer}
 use Rattle.table.specs.declared.answers.FindAnswer.the-variants as finding
 use Rattle.table.specs.declared.answers.AddAnswer.{AddAnswer}
@@ -33,10 +24,6 @@ use Rattle.plain_set.specs.Plain.{plainFind, plainAdd, plainDelete}
 use Rattle.table.specs.Calls.{opened, findAnswer, addAnswer, addBytes, deleteAnswer, deleteBytes}
 use Rattle.table.specs.Rebuilt.{Pair}
 use Rattle.plain_set.specs.Set.{refused, step, setStep}
-use Rattle.table.specs.Check.{fillZero}
-use Rattle.table.specs.theory.Decode.{image-decode}
-use Rattle.table.specs.theory.Formed.{decode-formed}
-use Rattle.table.specs.theory.Written.{image-inj}
 use Rattle.text_calls.specs.TextCalls.{findTextAnswer, addTextAnswer, addTextBytes, deleteTextAnswer, deleteTextBytes}
 use Rattle.demand3.specs.Claim.{Asked, find, add, delete, findText, addText, deleteText, Lending, tableAnswer, tableBytesAfter, memoryAfter, given, setAfter}
 use Rattle.plain_set.specs.theory.Refusals.{refused-settings, refused-short}

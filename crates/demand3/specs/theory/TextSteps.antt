@@ -8,6 +8,7 @@ use native.Mathlib.Omega.{arith}
 use lib.ListN.{length}
 use lib.Dec.{eqb, leb}
 use borrow.Author.Tests.{le-leb, eqb-true, eqb-false, eq-eqb, ne-eqb}
+use Rattle.laws.specs.Cases.{cases}
 use Rattle.settings.specs.declared.settings.Settings.{Settings}
 use Rattle.keys.specs.declared.Key.{Key}
 use Rattle.settings.specs.declared.refusal.Refusal.{Refusal}
@@ -15,7 +16,6 @@ use Rattle.settings.specs.declared.refusal.Refusal.the-variants as refusal
 use Rattle.settings.specs.Sizes.{tableBytes}
 use Rattle.settings.specs.Legal.{legal, Legal}
 use Rattle.keys.specs.Key.{keyNumber}
-use Rattle.settings.specs.theory.Cases.{cases}
 use Rattle.settings.specs.theory.Legal.{legal-if}
 use Rattle.table.specs.Rebuilt.{Pair}
 use Rattle.plain_set.specs.Set.{refused, step, setStep}

@@ -5,8 +5,8 @@ use native.Mathlib.Nat.{le-antisymm, mod-eq-of-lt}
 use native.Mathlib.Omega.{arith}
 use lib.ListN.{getD}
 use borrow.Author.Needs.{needs}
+use Rattle.settings.specs.theory.Arms.{at-least}
 use Rattle.settings.specs.Prime.{primeAbove}
-use Rattle.settings.specs.theory.Cases.{at-least}
 use Rattle.settings.specs.theory.Primes.{primes, prime-table}
 use Rattle.keys.proofs.Remainders.{folded-same}
 use Rattle.keys.proofs.remainder.Statement.{statement}

@@ -8,7 +8,8 @@ use lib.Arith.{lt-one, digits-lt}
 use lib.Dec.{ltb, eqb}
 use lib.Pow.{pow-pos, pow-mono, pow-add, shr-shr, split, high, low, mod-pow-add, mod-mod-pow}
 use borrow.Author.Tests.{eqb-true, eqb-false, le-ltb}
-use Rattle.settings.specs.theory.Cases.{cases, same-test}
+use Rattle.laws.specs.Cases.{cases}
+use Rattle.laws.specs.Tests.{ltb-iff}
 
 power-split : {k n : ℕ} → k ≤ n → 2 ^ n ≡ 2 ^ (n - k) * 2 ^ k
 power-split {k} {n} le = ap (λ (m : ℕ). 2 ^ m) (sym (sub-add-cancel le)) ∙ pow-add 2 (n - k) k
@@ -18,7 +19,7 @@ module _ (h : ℕ) {l n : ℕ} (fits : l < 2 ^ 64) (cut : 64 ≤ n) where
   pub below-high : ltb h (2 ^ (n - 64)) ≡ ltb (h * 2 ^ 64 + l) (2 ^ n)
   below-high =
       let p = power-split cut in
-      same-test h (2 ^ (n - 64)) (h * 2 ^ 64 + l) (2 ^ n) (λ k. omega arith) (λ k. omega arith)
+      ltb-iff h (2 ^ (n - 64)) (h * 2 ^ 64 + l) (2 ^ n) (λ k. omega arith) (λ k. omega arith)
 
   pub mod-high : (h * 2 ^ 64 + l) % 2 ^ n ≡ h % 2 ^ (n - 64) * 2 ^ 64 + l
   mod-high =

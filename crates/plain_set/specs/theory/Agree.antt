@@ -8,6 +8,8 @@ use lib.ListN.{length, getD}
 use lib.Seq.{ext-getD}
 use lib.Dec.{ltb}
 use borrow.Author.Tests.{ltb-true, ltb-false, ne-eqb}
+use Rattle.laws.specs.Folds.{count}
+use Rattle.laws.specs.Cases.{cases, true-both}
 use Rattle.bits.specs.Bytes.{Bytes}
 use Rattle.settings.specs.declared.settings.Settings.{Settings}
 use Rattle.settings.specs.declared.layout.Layout.{Layout}
@@ -15,23 +17,23 @@ use Rattle.settings.specs.Sizes.{bie, lists, tableBytes}
 use Rattle.settings.specs.Legal.{Legal}
 use Rattle.settings.specs.Layout.{layoutOf}
 use Rattle.keys.specs.Key.{entry, listNumber, rebuilt}
-use Rattle.settings.specs.theory.Cases.{cases}
 use Rattle.keys.specs.theory.Keys.{entry-rebuilt, list-rebuilt, rebuilt-below}
 use Rattle.table.specs.State.{Basic, Overflow, State}
 use Rattle.table.specs.Decode.{decode}
 use Rattle.table.specs.Follow.{contentOf, content}
 use Rattle.table.specs.Rebuilt.{Pair, slotsOf, pairsOf, rebuiltFrom, rebuiltPairs}
-use Rattle.plain_set.specs.Set.{count, hasKey}
+use Rattle.plain_set.specs.Set.{hasKey}
 use Rattle.plain_set.specs.Same.{NoKeyTwice}
-use Rattle.table.specs.Check.{stateSound, fillZero, tableSound}
+use Rattle.table.specs.Check.{fillZero, tableSound}
+use Rattle.table.specs.theory.Positions.{isEntry}
 use Rattle.plain_set.specs.Holds.{Holds}
-use Rattle.plain_set.specs.theory.Count.{and-both, count-ext, count-none}
+use Rattle.plain_set.specs.theory.Count.{count-ext, count-none}
 use Rattle.plain_set.specs.theory.Rep.{Rep, Single}
 use Rattle.plain_set.specs.theory.Change.{rep-content}
 use Rattle.plain_set.specs.theory.Tests.{allSlots, getD-each, length-each}
 use Rattle.plain_set.specs.theory.Check.{sound-check}
 use Rattle.plain_set.specs.theory.Keys.{layout-lists, entry-fits, number-below}
-use Rattle.plain_set.specs.theory.Rows.{isEntry, pairsFrom, RowsFit, count-key, count-above}
+use Rattle.plain_set.specs.theory.Rows.{pairsFrom, RowsFit, count-key, count-above}
 use Rattle.plain_set.specs.theory.Lists.{Stands}
 
 -- the bytes t hold the lists T, in the blocks B and with the free chain fs; the lists stand for the set ps; and "zero bits to the end of the byte"
@@ -106,7 +108,7 @@ module _ (s : Settings) (legal : Legal s) (t : List ℕ) (ps : List Pair) where
     pairs = λ f. ap (count f) (rep-rebuilt s (a .rep)) ∙ a .stands .pairs f;
     once = a .stands .once;
     sound =
-        and-both (stateSound (layoutOf s) (decode (layoutOf s) t)) (fillZero (layoutOf s) t)
+        true-both
         (sound-check (layoutOf s) (decode (layoutOf s) t) (record {
           T = a .T;
           B = a .B;

@@ -8,15 +8,16 @@ use lib.ListN.{length, set, drop, length-drop, length-set, drop-of-length-le}
 use lib.Seq.{set-getD, drop-append-le}
 use lib.Dec.{eqb, ltb}
 use borrow.Author.Tests.{eq-eqb, ne-eqb, lt-ltb, le-ltb, ltb-true, ltb-false}
+use Rattle.laws.specs.Cases.{cases}
+use Rattle.laws.specs.Sums.{occurs-head}
 use Rattle.settings.specs.declared.layout.Layout.{Layout}
 use Rattle.settings.specs.Proper.{Proper}
-use Rattle.settings.specs.theory.Cases.{cases}
-use Rattle.table.specs.Arrays.{padded}
-use Rattle.table.specs.State.{Basic, Overflow, State, mkBasic, mkOverflow, mkState, basicAt, overflowAt, unpack, headOf, restOf}
+use Rattle.table.specs.State.{Basic, Overflow, State, mkState, emptyBasic, basicAt, overflowAt, emptyBlock}
+use Rattle.table.specs.Updates.{withFront, withSlot, withBasicFront}
 use Rattle.table.specs.Follow.{lastOf}
-use Rattle.table.specs.Take.{Done, damage, noBlock, done, occurs, nextFree, taking}
-use Rattle.table.specs.Add.{append}
-use Rattle.plain_set.specs.theory.Blocks.{occurs-append, occurs-head}
+use Rattle.table.specs.Take.{occurs, nextFree, taking}
+use Rattle.table.specs.Add.{oneMore, basicMore, append}
+use Rattle.table.specs.Done.{Done, damage, noBlock, done}
 use Rattle.table.specs.theory.Formed.{Fits, all-nil, all-cons, all-append}
 use Rattle.plain_set.specs.theory.Pad.{padded-append, padded-append-le, length-snoc}
 use Rattle.plain_set.specs.theory.Slots.{unpack-set}
@@ -24,7 +25,8 @@ use Rattle.plain_set.specs.theory.Rep.{Holds, Chain}
 use Rattle.plain_set.specs.theory.Follow.{tail-length, tail-last}
 use Rattle.plain_set.specs.theory.Use.{noVacant, full-holds}
 use Rattle.plain_set.specs.theory.Update.{set-here, set-there, two-first, two-second, two-else, chain-frame, Standing, Edited}
-use Rattle.plain_set.specs.theory.Tails.{occurs-last, not-in, absent, apart, lastBlock, more, tail-append, tail-extend}
+use Rattle.plain_set.specs.theory.Tails.{occurs-last, not-in, absent, apart, lastBlock, tail-append, tail-extend}
+use Rattle.plain_set.specs.theory.Count.{count-append}
 
 -- Taking a block ---------------------------------------------------------------------------------------------------------
 
@@ -110,14 +112,13 @@ module _ {g : Layout} (F : Proper g) {st : State} {i : ℕ} {es : List ℕ} wher
     unfolding append
     append-basic {fs} k l =
         let b : Basic = basicAt (st .basic) i in
-        let body : List ℕ = set (unpack g (b .head) (b .rest)) (b .counter) x in
         rw (lt-ltb (b .counter) (g .sib) (omega arith)) (
           vacant k (omega arith),
           record {
             cs = [];
             ns = fs;
             edit = record {
-              block = mkBasic (suc (b .counter)) (headOf g body) (restOf g body);
+              block = basicMore g x b;
               us = st .overflow;
               free = st .free;
               is = refl;
@@ -145,14 +146,14 @@ module _ {g : Layout} (F : Proper g) {st : State} {i : ℕ} {es : List ℕ} wher
         let b : Basic = basicAt (st .basic) i in
         let os : List Overflow = st .overflow in
         let f : ℕ = st .free in
-        let v : Overflow = mkOverflow 0 (b .head) (padded (g .sio) (x ∷ [])) in
+        let v : Overflow = withSlot 0 x (emptyBlock g (b .head)) in
         rw (le-ltb (b .counter) (g .sib) (omega arith), taking-some _ k) (
           some-free (noVacant (g .sib) (g .sio) (length es)) f fs,
           record {
             cs = f ∷ [];
             ns = fs;
             edit = record {
-              block = mkBasic (suc (g .sib)) f (b .rest);
+              block = withBasicFront (suc (g .sib)) f b;
               us = set os f v;
               free = nextFree g os f;
               is = refl;
@@ -164,7 +165,7 @@ module _ {g : Layout} (F : Proper g) {st : State} {i : ℕ} {es : List ℕ} wher
                 refl,
                 k .hold .2 ∙ sym (padded-append-le (g .sib) es (x ∷ []) (omega arith)),
                 rw (drop-append-le (g .sib) es (x ∷ []) (omega arith), drop-of-length-le es {i = g .sib} (omega arith))
-                    (omega arith, omega (arith, F .sio-low), set-here os f v (omega (arith, k .len, free-low k))),
+                    (omega arith, omega (arith, F .sio-low), set-here os f v (omega (arith, k .len, free-low k)) ∙ rw (padded-append (g .sio) [] x (F .sio-low))),
               );
               fit = all-append (k .fit) (all-cons fx all-nil);
               chain =
@@ -186,7 +187,7 @@ module _ {g : Layout} (F : Proper g) {st : State} {i : ℕ} {es : List ℕ} wher
           let os : List Overflow = st .overflow in
           let h : Holds g (basicAt (st .basic) i) os (c ∷ cs) es = k .hold in
           let p : ℕ = lastOf c cs in
-          let v : Overflow = more (overflowAt os p) x in
+          let v : Overflow = oneMore x (overflowAt os p) in
           rw (lt-ltb (suc (overflowAt os p .counter)) (g .sio) l) (
             vacant k (omega (arith, tail-last g os c cs (drop (g .sib) es) (h .0) (h .5), length-drop (g .sib) es)),
             record {
@@ -196,7 +197,7 @@ module _ {g : Layout} (F : Proper g) {st : State} {i : ℕ} {es : List ℕ} wher
                 block = basicAt (st .basic) i;
                 us = set os p v;
                 free = st .free;
-                is = ap (λ (bs : List Basic). mkState (st .free) bs (set os p v)) (sym (set-getD (st .basic) i (mkBasic 0 0 0)));
+                is = ap (λ (bs : List Basic). mkState (st .free) bs (set os p v)) (sym (set-getD (st .basic) i emptyBasic));
                 len = simp length-set (k .len);
                 hold = (
                   h .0,
@@ -229,8 +230,8 @@ module _ {g : Layout} (F : Proper g) {st : State} {i : ℕ} {es : List ℕ} wher
           let h : Holds g (basicAt (st .basic) i) os (c ∷ cs) es = k .hold in
           let f : ℕ = st .free in
           let p : ℕ = lastOf c cs in
-          let v : Overflow = mkOverflow (g .sio) f (overflowAt os p .slots) in
-          let u : Overflow = mkOverflow 0 (overflowAt os p .link) (padded (g .sio) (x ∷ [])) in
+          let v : Overflow = withFront (g .sio) f (overflowAt os p) in
+          let u : Overflow = withSlot 0 x (emptyBlock g (overflowAt os p .link)) in
           let us : List Overflow = set (set os p v) f u in
           rw (le-ltb (suc (overflowAt os p .counter)) (g .sio) (omega arith), taking-some _ k) (
             some-free (noVacant (g .sib) (g .sio) (length es)) f fs,
@@ -241,7 +242,7 @@ module _ {g : Layout} (F : Proper g) {st : State} {i : ℕ} {es : List ℕ} wher
                 block = basicAt (st .basic) i;
                 us = us;
                 free = nextFree g os f;
-                is = ap (λ (bs : List Basic). mkState (nextFree g os f) bs us) (sym (set-getD (st .basic) i (mkBasic 0 0 0)));
+                is = ap (λ (bs : List Basic). mkState (nextFree g os f) bs us) (sym (set-getD (st .basic) i emptyBasic));
                 len = simp length-set (k .len);
                 hold = (
                   h .0,
@@ -265,7 +266,7 @@ module _ {g : Layout} (F : Proper g) {st : State} {i : ℕ} {es : List ℕ} wher
                     (next-chain fs k);
                 others = λ j z.
                     two-else os p f v u j (apart j p (c ∷ cs) (omega arith) (occurs-last c cs)) (λ q. absent f j fs (omega arith) (sym q));
-                same = λ j. omega (arith, occurs-append j cs (f ∷ []));
+                same = λ j. omega (arith, count-append (eqb j) cs (f ∷ []));
               };
             },
           )

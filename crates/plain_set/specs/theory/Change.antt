@@ -10,16 +10,20 @@ use lib.ListN.{length, getD, set, take, length-set}
 use lib.Seq.{getD-set-same, set-getD, set-set}
 use lib.Pow.{pow-pos}
 use lib.Dec.{eqb}
+use Rattle.laws.specs.Folds.{sumBelow}
+use Rattle.laws.specs.Cases.{never}
+use Rattle.laws.specs.Tests.{eqb-iff}
+use Rattle.laws.specs.Sums.{sum-ext}
 use Rattle.settings.specs.declared.layout.Layout.{Layout}
 use Rattle.settings.specs.Proper.{Proper}
 use Rattle.table.specs.State.{State, basicAt}
 use Rattle.table.specs.Follow.{seen, content}
-use Rattle.table.specs.Take.{Done, damage, noBlock, done}
 use Rattle.table.specs.Add.{append}
-use Rattle.table.specs.Delete.{poke, shrink}
-use Rattle.table.specs.Arrays.{sumBelow}
+use Rattle.table.specs.Delete.{shrink, takeOut}
+use Rattle.table.specs.Done.{Done, damage, noBlock, done}
+use Rattle.table.specs.Store.{storeAt}
 use Rattle.table.specs.theory.Formed.{all-getD, Fits}
-use Rattle.plain_set.specs.theory.Count.{never, eqb-iff, sum, sum-at, sumBelow-ext, sumBelow-list}
+use Rattle.plain_set.specs.theory.Count.{sum, sum-at, sumBelow-list}
 use Rattle.plain_set.specs.theory.Blocks.{blocks-total}
 use Rattle.plain_set.specs.theory.Swap.{swapOut}
 use Rattle.plain_set.specs.theory.Rep.{Rep, Stores}
@@ -27,7 +31,7 @@ use Rattle.plain_set.specs.theory.Follow.{content-holds}
 use Rattle.plain_set.specs.theory.Use.{blocksFor, usedBy, noRoom, blocks-holds}
 use Rattle.plain_set.specs.theory.Update.{Standing, Edit, rep-standing, rep-edit}
 use Rattle.plain_set.specs.theory.Append.{Appended, append-local}
-use Rattle.plain_set.specs.theory.Delete.{poke-local, Shrunk, shrink-local}
+use Rattle.plain_set.specs.theory.Delete.{store-local, Shrunk, shrink-local}
 
 module _ (g : Layout) where
   -- a change that was done, and the lists after it
@@ -52,7 +56,7 @@ module _ {g : Layout} (F : Proper g) {st : State} {T B : List (List ℕ)} {fs : 
     where
       used : usedBy g T ≡ sum length B
       used =
-          sumBelow-ext (g .lists) (λ i. blocksFor (g .sib) (g .sio) (length (getD T i []))) (λ i. length (getD B i []))
+          sum-ext (g .lists) (λ i. blocksFor (g .sib) (g .sio) (length (getD T i []))) (λ i. length (getD B i []))
           (λ i h. blocks-holds F (basicAt (st .basic) i) (st .overflow) (getD B i []) (getD T i []) (r .each i h))
           ∙ ap (λ (n : ℕ). sumBelow n (λ i. length (getD B i []))) (sym (r .blocks))
           ∙ sumBelow-list length B []
@@ -90,14 +94,14 @@ module _ {g : Layout} (F : Proper g) {st : State} {T B : List (List ℕ)} {fs : 
 
     -- the last slot of list i moved into place p, and its own place off
     pub delete-done : (p : ℕ) → p < length (getD T i [])
-        → Ended g (shrink g (poke g st i (getD B i []) p (getD (getD T i []) (length (getD T i []) - 1) 0)) i (getD B i []))
+        → Ended g (takeOut g st i (seen (getD B i []) (getD T i [])) p)
         (set T i (swapOut (getD T i []) p))
     delete-done p l =
         let es : List ℕ = getD T i [] in
         let x : ℕ = getD es (length es - 1) 0 in
         let fx : Fits (g .slot) x = all-getD (r .fits i h) (pow-pos (g .slot)) (length es - 1) in
-        let u : State = poke g st i (getD B i []) p x in
-        let w : Edit g st i (getD B i []) fs (getD B i []) fs (set es p x) u = poke-local p x l fx (getD B i []) (rep-standing r h) in
+        let u : State = storeAt g st i (getD B i []) p x in
+        let w : Edit g st i (getD B i []) fs (getD B i []) fs (set es p x) u = store-local p x l fx (getD B i []) (rep-standing r h) in
         let r₁ : Rep g u (set T i (set es p x)) B fs = rw (set-getD B i []) at (rep-edit r h w) in
         let k : Standing g u i (getD B i []) fs (set es p x) =
         rw (getD-set-same T i (set es p x) [] (omega (arith, r .lists))) at (rep-standing r₁ h) in

@@ -9,20 +9,24 @@ use lib.ListN.{length, getD, drop, drop-of-length-le}
 use lib.Seq.{ext-getD}
 use lib.Dec.{eqb, ltb}
 use borrow.Author.Tests.{eq-eqb, ne-eqb, lt-ltb}
+use Rattle.laws.specs.Folds.{every, allZero}
+use Rattle.laws.specs.Cases.{both-true, true-both}
+use Rattle.laws.specs.Tests.{below-all}
+use Rattle.laws.specs.Sums.{occurs-head}
 use Rattle.settings.specs.declared.layout.Layout.{Layout}
-use Rattle.settings.specs.theory.Cases.{both-true}
 use Rattle.table.specs.Arrays.{padded}
 use Rattle.table.specs.State.{Basic, Overflow, State, basicAt, overflowAt}
 use Rattle.table.specs.Follow.{seen, contentOf, content}
 use Rattle.table.specs.Take.{occurs}
-use Rattle.table.specs.Check.{every, everyBelow, allZero, blocksOf, basicUnused, overflowUnused, freeZero, noEntryTwice, listSound, listsSound, chainFrom, freeChain, occursInLists, chainSound, stateSound}
-use Rattle.plain_set.specs.theory.Count.{and-both, one, one-le, sum}
-use Rattle.plain_set.specs.theory.Blocks.{occurs-head, below, blocks-total}
+use Rattle.table.specs.Check.{blocksOf, basicUnused, overflowUnused, freeZero, listSound, listsSound, chainFrom, freeChain, occursInLists, stateSound}
+use Rattle.table.specs.theory.Every.{lists-all}
+use Rattle.plain_set.specs.theory.Count.{one, one-le, sum}
+use Rattle.plain_set.specs.theory.Blocks.{below, blocks-total}
 use Rattle.plain_set.specs.theory.Pad.{length-padded, padded-zeros}
 use Rattle.plain_set.specs.theory.Rep.{Tail, Holds, Links, Chain, Rep, Sound}
 use Rattle.plain_set.specs.theory.Tails.{not-in}
 use Rattle.plain_set.specs.theory.Change.{rep-content}
-use Rattle.plain_set.specs.theory.Tests.{everyBelow-all, single-once, allBlocks, occursInLists-sum, getD-each, length-each, listsSound-all}
+use Rattle.plain_set.specs.theory.Tests.{single-once, allBlocks, occursInLists-sum, getD-each, length-each}
 
 module _ (g : Layout) where
   -- a full block has no unused slots
@@ -34,14 +38,14 @@ module _ (g : Layout) where
       → every (overflowUnused g os) (b ∷ bs) ≡ true
   tail-unused os b [] es d h =
       let e : suc (length es - 1) ≡ length es = omega arith in
-      and-both (overflowUnused g os b) true (rw (h .2, e) (padded-zeros (g .sio) es)) refl
+      true-both {a = overflowUnused g os b} (rw (h .2, e) (padded-zeros (g .sio) es)) refl
   tail-unused os b (c ∷ cs) es d h =
-      and-both (overflowUnused g os b) (every (overflowUnused g os) (c ∷ cs)) (rw (h .1) (padded-none (g .sio) es))
+      true-both {a = overflowUnused g os b} (rw (h .1) (padded-none (g .sio) es))
       (tail-unused os c cs (drop (g .sio) es) d (h .2))
 
   holds-unused : (b : Basic) (os : List Overflow) (bs : List ℕ) (es : List ℕ) → Holds g b os bs es
       → basicUnused g b bs && every (overflowUnused g os) bs ≡ true
-  holds-unused b os [] es h = and-both (basicUnused g b []) true (rw (h .2, h .1) (padded-zeros (g .sib) es)) refl
+  holds-unused b os [] es h = true-both {a = basicUnused g b []} (rw (h .2, h .1) (padded-zeros (g .sib) es)) refl
   holds-unused b os (c ∷ cs) es h = tail-unused os c cs (drop (g .sib) es) (h .0) (h .5)
 
   -- the walk along the free chain finds it
@@ -61,9 +65,9 @@ module _ (g : Layout) where
 
   -- free blocks are zeroed
   links-zero : (os : List Overflow) (f : ℕ) (fs : List ℕ) → Links g os f fs → every (freeZero g os) (f ∷ fs) ≡ true
-  links-zero os f [] h = and-both (freeZero g os f) true (rw h (padded-zeros (g .sio) [])) refl
+  links-zero os f [] h = true-both {a = freeZero g os f} (rw h (padded-zeros (g .sio) [])) refl
   links-zero os f (m ∷ ms) h =
-      and-both (freeZero g os f) (every (freeZero g os) (m ∷ ms)) (rw (h .0) (padded-zeros (g .sio) [])) (links-zero os m ms (h .1))
+      true-both {a = freeZero g os f} (rw (h .0) (padded-zeros (g .sio) [])) (links-zero os m ms (h .1))
 
   chain-zero : (os : List Overflow) (f : ℕ) (fs : List ℕ) → Chain g os f fs → every (freeZero g os) fs ≡ true
   chain-zero os f [] h = refl
@@ -79,11 +83,11 @@ module _ (g : Layout) where
   pub sound-check : (st : State) → Sound g st → stateSound g st ≡ true
   unfolding stateSound content
   sound-check st o =
-      and-both (listsSound g bs os) (chainSound g st (freeChain g st)) lists-fine
+      true-both lists-fine
       (rw (free-is st fs (r .chain) dis low (omega (arith, blocks-total (g .nob) (o .B) fs (r .once))))
-      (and-both (every (freeZero g os) fs) (everyBelow (g .nob) (λ j. eqb (occursInLists g j bs os + occurs j fs) 1))
+      (true-both
       (chain-zero os (st .free) fs (r .chain))
-      (everyBelow-all (g .nob) (λ j. eqb (occursInLists g j bs os + occurs j fs) 1)
+      (below-all (g .nob) (λ j. eqb (occursInLists g j bs os + occurs j fs) 1)
       (λ j l. eq-eqb (occursInLists g j bs os + occurs j fs) 1 (one-each j l)))))
     where
       bs : List Basic
@@ -130,13 +134,13 @@ module _ (g : Layout) where
           let cs : List ℕ = getD (o .B) i [] in
           let es : List ℕ = getD (o .T) i [] in
           let z = holds-unused b os cs es (r .each i l) in
-          and-both (basicUnused g b cs) (every (overflowUnused g os) cs && noEntryTwice g es)
+          true-both
           (both-true (basicUnused g b cs) (every (overflowUnused g os) cs) z .0)
-          (and-both (every (overflowUnused g os) cs) (noEntryTwice g es)
+          (true-both
           (both-true (basicUnused g b cs) (every (overflowUnused g os) cs) z .1)
           (single-once g es (o .single i l)))
 
       lists-fine : listsSound g bs os ≡ true
       lists-fine =
-          listsSound-all g bs os
+          lists-all g bs os
           (λ i l. let m : i < g .lists = omega (arith, r .basics) in rw (content-is i m) (list-fine i m))

@@ -9,22 +9,30 @@ use lib.ListN.{length, take, length-append, length-take}
 use lib.Seq.{length-take-le, take-all, drop-at}
 use lib.Dec.{eqb, ltb}
 use borrow.Author.Tests.{eqb-true, ltb-true, ltb-false}
+use Rattle.laws.specs.Folds.{every, everyBelow, allZero}
+use Rattle.laws.specs.Cases.{cases, both-true, never}
+use Rattle.laws.specs.Tests.{below-at}
 use Rattle.settings.specs.declared.layout.Layout.{Layout}
 use Rattle.settings.specs.Proper.{Proper}
-use Rattle.settings.specs.theory.Cases.{cases, both-true}
 use Rattle.table.specs.Arrays.{padded}
-use Rattle.table.specs.State.{Basic, Overflow, State, mkOverflow, basicAt, overflowAt, unpack}
-use Rattle.table.specs.Follow.{lastOf, Seen, cons?, follow, gather, contentOver, contentOf, content}
+use Rattle.table.specs.State.{Basic, Overflow, State, mkOverflow, basicAt, overflowAt, emptyBlock, unpack, ownSlots}
+use Rattle.table.specs.Follow.{lastOf, Seen, cons?, follow, gather, contentOver, contentOf, content, goOn, stepAt}
+use Rattle.table.specs.theory.Ways.{Way, way}
+use Rattle.table.specs.theory.Ways as ways
+use Rattle.table.specs.declared.step.Step.{Step}
+use Rattle.table.specs.declared.step.Step.the-variants.{Last, Further, Damage}
 use Rattle.table.specs.Take.{occurs}
 use Rattle.table.specs.Rebuilt.{slotsOf}
-use Rattle.table.specs.Check.{every, everyBelow, allZero, blocksOf, basicUnused, overflowUnused, freeZero, noEntryTwice, listSound, listsSound, chainFrom, freeChain, occursInLists, chainSound, stateSound}
-use Rattle.plain_set.specs.theory.Count.{never, one, sum}
+use Rattle.table.specs.Check.{blocksOf, basicUnused, overflowUnused, freeZero, noEntryTwice, listSound, listsSound, chainFrom, freeChain, occursInLists, chainSound, stateSound}
+use Rattle.plain_set.specs.theory.Count.{one, sum}
 use Rattle.table.specs.theory.Formed.{All, all-nil, Fits, Formed, overflow-fits}
-use Rattle.table.specs.theory.FormedCalls.{SeenFits, holds-none, holds-some, unpack-each}
+use Rattle.table.specs.theory.FormedCalls.{SeenFits, holds-none, holds-some}
 use Rattle.table.specs.theory.FormedCalls.{Holds as Whole, content-holds as content-formed}
+use Rattle.table.specs.theory.Every.{lists-at}
+use Rattle.table.specs.theory.FormedUpdates.{unpack-each}
 use Rattle.plain_set.specs.theory.Pad.{padded-id, padded-append-le, zeros-padded}
 use Rattle.plain_set.specs.theory.Rep.{Tail, Holds, Links, Chain, Single, Sound}
-use Rattle.plain_set.specs.theory.Tests.{everyBelow-at, once-single, allBlocks, allSlots, occursInLists-sum, getD-each, length-each, listsSound-at}
+use Rattle.plain_set.specs.theory.Tests.{once-single, allBlocks, allSlots, occursInLists-sum, getD-each, length-each}
 
 -- a block, by its fields
 overflow-eta : (o : Overflow) (n l : ℕ) (es : List ℕ) → o .counter ≡ n → o .link ≡ l → o .slots ≡ es → o ≡ mkOverflow n l es
@@ -48,20 +56,20 @@ module _ (g : Layout) where
   followed-cons os b (some []) w l e = absurd w
   followed-cons os b (some (c ∷ cs)) w l e = (refl, (l, e, w .0, w .1))
 
+  followed-step : (n : ℕ) (os : List Overflow) (b : ℕ) → b < g .nob → Followed os (overflowAt os b .link) (follow g n os (overflowAt os b .link))
+      → (s : Step) → Way (g .sio) (overflowAt os b .counter) (overflowAt os b .link) s
+      → Followed os b (goOn s (b ∷ []) (λ c. cons? b (follow g n os c)))
+  followed-step n os b l w Last (ways.ends e) = (refl, (l, e))
+  followed-step n os b l w (Further c) (ways.goes e) = followed-cons os b (follow g n os (overflowAt os b .link)) w l e
+  followed-step n os b l w Damage (ways.breaks e) = tt
+
   followed : (n : ℕ) (os : List Overflow) (b : ℕ) → Followed os b (follow g n os b)
   followed zero os b = tt
   followed (suc n) os b =
-      let o : Overflow = overflowAt os b in
       cases (ltb b (g .nob))
-      (λ e.
-      cases (ltb (o .counter) (g .sio))
-      (λ f. rw (e, f) (refl, (ltb-true b (g .nob) e, ltb-true (o .counter) (g .sio) f)))
-      (λ f.
-      cases (eqb (o .counter) (g .sio))
-      (λ k.
-      rw (e, f, k)
-      (followed-cons os b (follow g n os (o .link)) (followed n os (o .link)) (ltb-true b (g .nob) e) (eqb-true (o .counter) (g .sio) k)))
-      (λ k. rw (e, f, k) tt)))
+      (λ e. rw e
+      (followed-step n os b (ltb-true b (g .nob) e) (followed n os (overflowAt os b .link)) (stepAt g os b)
+      (way (g .sio) (overflowAt os b .counter) (overflowAt os b .link))))
       (λ e. rw e tt)
 
   path-first : (os : List Overflow) (c : ℕ) (cs : List ℕ) → Path os c cs → c < g .nob
@@ -124,7 +132,7 @@ module _ (g : Layout) where
 
   module _ (os : List Overflow) (sized : (j : ℕ) → j < g .nob → length (overflowAt os j .slots) ≡ g .sio) where
     free-block : (f l : ℕ) → f < g .nob → overflowAt os f .link ≡ l → freeZero g os f ≡ true
-        → overflowAt os f ≡ mkOverflow 0 l (padded (g .sio) [])
+        → overflowAt os f ≡ emptyBlock g l
     free-block f l h e z =
         let o : Overflow = overflowAt os f in
         overflow-eta o 0 l (padded (g .sio) []) (eqb-true (o .counter) 0 (both-true (eqb (o .counter) 0) (allZero (o .slots)) z .0)) e
@@ -223,7 +231,7 @@ module _ {g : Layout} (F : Proper g) where
         (λ e.
         rw e
         (λ h.
-        let all : List ℕ = unpack g (b .head) (b .rest) in
+        let all : List ℕ = ownSlots g b in
         let s : length all ≡ g .sib = unpack-each g (b .head) (b .rest) .long in
         let l : b .counter < suc (g .sib) = ltb-true (b .counter) (suc (g .sib)) e in
         let t : length (take (b .counter) all) ≡ b .counter = length-take-le (b .counter) all (omega arith) in
@@ -264,7 +272,7 @@ module _ {g : Layout} (F : Proper g) where
 
       ok-at : (i : ℕ) → i < g .lists → listSound g (basicAt bs i) os (contentOf g (basicAt bs i) os) ≡ true
       ok-at i l =
-          listsSound-at g bs os i (both-true (listsSound g bs os) (chainSound g st (freeChain g st)) h .0) (omega (arith, d .basic .long))
+          lists-at g bs os i (both-true (listsSound g bs os) (chainSound g st (freeChain g st)) h .0) (omega (arith, d .basic .long))
 
       not-above : (j : ℕ) (ns : List ℕ) → ((n : ℕ) → 0 < occurs n ns → n < g .nob) → g .nob ≤ j → occurs j ns ≡ 0
       not-above j ns f l =
@@ -294,7 +302,7 @@ module _ {g : Layout} (F : Proper g) where
                   (λ e.
                   let q : occursInLists g j bs os + occurs j fs ≡ 1 =
                   eqb-true (occursInLists g j bs os + occurs j fs) 1
-                  (everyBelow-at (g .nob) one-each j (both-true zeroed (everyBelow (g .nob) one-each) z .1) (ltb-true j (g .nob) e)) in
+                  (below-at (g .nob) one-each (both-true zeroed (everyBelow (g .nob) one-each) z .1) j (ltb-true j (g .nob) e)) in
                   omega (arith, occursInLists-sum g j bs os, ap one e))
                   (λ e.
                   let l = ltb-false j (g .nob) e in

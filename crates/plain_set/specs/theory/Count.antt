@@ -1,30 +1,15 @@
 -- Counting in lists: how many elements pass a test, and sums. `count` stands for membership, for "no element twice" and for equality as
 -- multisets alike.
-use mathlib.Core.Path.{_≡_, refl, sym, ap, _∙_}
+use mathlib.Core.Path.{_≡_, refl, ap}
 use mathlib.Core.Logic.{_≢_}
-use mathlib.Core.Bool.{Bool, true, false, true≢false, cond, _&&_}
+use mathlib.Core.Bool.{Bool, true, false, cond}
 use mathlib.Core.List.{List, [], _∷_, _++_}
 use Prim.Native.Nat.{ℕ, zero, suc, _+_, _≤_, _<_}
 use native.Mathlib.Omega.{arith}
 use lib.ListN.{length, getD, set, take}
-use lib.Dec.{eqb}
-use borrow.Author.Tests.{eq-eqb, ne-eqb, eqb-true, eqb-false}
-use Rattle.settings.specs.theory.Cases.{cases}
-use Rattle.table.specs.Arrays.{sumBelow}
-use Rattle.plain_set.specs.Set.{count}
+use Rattle.laws.specs.Folds.{count, sumBelow}
+use Rattle.laws.specs.Cases.{cases}
 use Rattle.table.specs.theory.Formed.{All, all-nil, all-cons}
-
--- a test does not go both ways
-pub never : {X : Type 0} → false ≡ true → X
-never e = absurd (true≢false (sym e))
-
-pub and-both : (a b : Bool) → a ≡ true → b ≡ true → a && b ≡ true
-and-both a b p q = rw (p, q)
-
--- two tests of equality that stand or fall together
-pub eqb-iff : (a b c d : ℕ) → (a ≡ b → c ≡ d) → (c ≡ d → a ≡ b) → eqb a b ≡ eqb c d
-eqb-iff a b c d f g =
-    cases (eqb a b) (λ e. e ∙ sym (eq-eqb c d (f (eqb-true a b e)))) (λ e. e ∙ sym (ne-eqb c d (λ q. eqb-false a b e (g q))))
 
 -- 1 where the test passes
 abbrev pub one : Bool → ℕ
@@ -106,24 +91,7 @@ module _ {A : Type 0} where
   sum-two g (x ∷ xs) (suc i) zero d hi hj ne = omega (arith, sum-at g xs i d (omega arith))
   sum-two g (x ∷ xs) (suc i) (suc j) d hi hj ne = omega (arith, sum-two g xs i j d (omega arith) (omega arith) (λ e. ne (ap suc e)))
 
--- sums over the numbers below n
-pub sumBelow-ext : (n : ℕ) (f g : ℕ → ℕ) → ((i : ℕ) → i < n → f i ≡ g i) → sumBelow n f ≡ sumBelow n g
-sumBelow-ext zero f g h = refl
-sumBelow-ext (suc n) f g h =
-    omega (arith, h 0 (omega arith), sumBelow-ext n (λ i. f (suc i)) (λ i. g (suc i)) (λ i l. h (suc i) (omega arith)))
-
-pub sumBelow-add : (n : ℕ) (f g : ℕ → ℕ) → sumBelow n (λ i. f i + g i) ≡ sumBelow n f + sumBelow n g
-sumBelow-add zero f g = omega arith
-sumBelow-add (suc n) f g = omega (arith, sumBelow-add n (λ i. f (suc i)) (λ i. g (suc i)))
-
-pub sumBelow-zero : (n : ℕ) → sumBelow n (λ i. 0) ≡ 0
-sumBelow-zero zero = refl
-sumBelow-zero (suc n) = omega (arith, sumBelow-zero n)
-
-pub sumBelow-one : (n : ℕ) → sumBelow n (λ i. 1) ≡ n
-sumBelow-one zero = refl
-sumBelow-one (suc n) = omega (arith, sumBelow-one n)
-
+-- a list's values by their places
 pub sumBelow-list : {A : Type 0} (g : A → ℕ) (xs : List A) (d : A) → sumBelow (length xs) (λ i. g (getD xs i d)) ≡ sum g xs
 sumBelow-list g [] d = refl
 sumBelow-list g (x ∷ xs) d = omega (arith, sumBelow-list g xs d)

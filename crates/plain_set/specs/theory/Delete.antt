@@ -1,4 +1,4 @@
--- Delete on one list: a slot overwritten (poke), and the last slot off (shrink).
+-- Delete on one list: a slot overwritten, and the last slot off.
 use mathlib.Core.Path.{_≡_, refl, sym, ap, ap₂, _∙_}
 use mathlib.Core.List.{List, [], _∷_}
 use Prim.Native.Nat.{ℕ, suc, _-_, _≤_, _<_}
@@ -8,34 +8,37 @@ use lib.Seq.{length-take-le, set-getD, drop-set-lt}
 use lib.Pow.{pow-pos}
 use lib.Dec.{ltb}
 use borrow.Author.Tests.{eq-eqb, ne-eqb, lt-ltb, le-ltb, ltb-true, ltb-false}
+use Rattle.laws.specs.Cases.{cases}
+use Rattle.laws.specs.Sums.{occurs-head}
 use Rattle.settings.specs.declared.layout.Layout.{Layout}
 use Rattle.settings.specs.Proper.{Proper}
-use Rattle.settings.specs.theory.Cases.{cases}
 use Rattle.table.specs.Arrays.{padded}
-use Rattle.table.specs.State.{Basic, Overflow, State, mkBasic, mkOverflow, mkState, basicAt, overflowAt, unpack, headOf, restOf}
+use Rattle.table.specs.State.{Basic, Overflow, State, mkState, emptyBasic, basicAt, overflowAt, emptyBlock, unpack, headOf, restOf}
+use Rattle.table.specs.Updates.{withLink, withFront, withBasicFront, withRest, overBasic, overOverflow}
 use Rattle.table.specs.Follow.{lastOf, prevOf}
-use Rattle.table.specs.Take.{Done, damage, noBlock, done, occurs, linkFree}
-use Rattle.table.specs.Delete.{pokeOverflow, poke, shrink}
+use Rattle.table.specs.Take.{occurs, linkFree, freed}
+use Rattle.table.specs.theory.FormedCalls.{prior-is}
+use Rattle.table.specs.Delete.{lastSlotOff, basicSlotOff, handedBack, shrinkAt, cannotFree, shrink}
+use Rattle.table.specs.Done.{Done, damage, noBlock, done}
+use Rattle.table.specs.Store.{slotIn, storeOverflow, storeAt}
 use Rattle.plain_set.specs.theory.Count.{one}
-use Rattle.plain_set.specs.theory.Blocks.{occurs-head}
 use Rattle.table.specs.theory.Formed.{Fits, all-set, all-take}
 use Rattle.plain_set.specs.theory.Pad.{padded-set, padded-set-out, padded-init, padded-init-out, drop-take, drop-set-ge}
 use Rattle.plain_set.specs.theory.Slots.{unpack-set}
 use Rattle.plain_set.specs.theory.Rep.{Holds, Chain}
 use Rattle.plain_set.specs.theory.Follow.{tail-last, last-link}
 use Rattle.plain_set.specs.theory.Update.{set-here, set-there, two-first, two-second, two-else, links-frame, chain-frame, Standing, Edit, Edited}
-use Rattle.plain_set.specs.theory.Tails.{occurs-last, apart, butLast, occurs-butLast, occurs-prev, lastBlock, less, tail-relink, tail-shrink, tail-drop, poke-else, poke-length, tail-poke}
+use Rattle.plain_set.specs.theory.Tails.{occurs-last, apart, butLast, occurs-butLast, occurs-prev, lastBlock, tail-relink, tail-shrink, tail-drop, store-else, store-length, tail-store}
 
--- Poke -------------------------------------------------------------------------------------------------------------------
+-- A slot overwritten -----------------------------------------------------------------------------------------------------
 
 module _ {g : Layout} {st : State} {i : ℕ} {es : List ℕ} (p x : ℕ) (l : p < length es) (fx : Fits (g .slot) x) where
-  poke-basic : {fs : List ℕ} → Standing g st i [] fs es → Edit g st i [] fs [] fs (set es p x) (poke g st i [] p x)
-  unfolding poke
-  poke-basic {fs} k =
+  store-basic : {fs : List ℕ} → Standing g st i [] fs es → Edit g st i [] fs [] fs (set es p x) (storeAt g st i [] p x)
+  unfolding storeAt
+  store-basic {fs} k =
       let b : Basic = basicAt (st .basic) i in
-      let body : List ℕ = set (unpack g (b .head) (b .rest)) p x in
       record {
-        block = mkBasic (b .counter) (headOf g body) (restOf g body);
+        block = slotIn g p x b;
         us = st .overflow;
         free = st .free;
         is = refl;
@@ -54,22 +57,22 @@ module _ {g : Layout} {st : State} {i : ℕ} {es : List ℕ} (p x : ℕ) (l : p 
       }
 
   -- the place is in the basic block of a list that overflows: the first bits of its slots are in the last block's link
-  poke-low : {c : ℕ} {cs fs : List ℕ} → Standing g st i (c ∷ cs) fs es → p < g .sib
-      → Edit g st i (c ∷ cs) fs (c ∷ cs) fs (set es p x) (poke g st i (c ∷ cs) p x)
-  unfolding poke
-  poke-low {c} {cs} {fs} k m =
+  store-low : {c : ℕ} {cs fs : List ℕ} → Standing g st i (c ∷ cs) fs es → p < g .sib
+      → Edit g st i (c ∷ cs) fs (c ∷ cs) fs (set es p x) (storeAt g st i (c ∷ cs) p x)
+  unfolding storeAt
+  store-low {c} {cs} {fs} k m =
       let b : Basic = basicAt (st .basic) i in
       let os : List Overflow = st .overflow in
       let h : Holds g b os (c ∷ cs) es = k .hold in
       let n : ℕ = lastOf c cs in
       let o : Overflow = overflowAt os n in
       let body : List ℕ = set (unpack g (o .link) (b .rest)) p x in
-      let v : Overflow = mkOverflow (o .counter) (headOf g body) (o .slots) in
+      let v : Overflow = withLink (headOf g body) o in
       let was : unpack g (o .link) (b .rest) ≡ padded (g .sib) es =
       ap (λ (d : ℕ). unpack g d (b .rest)) (last-link g os c cs (drop (g .sib) es) (h .0) (h .5)) ∙ h .4 in
       rw (lt-ltb p (g .sib) m)
       record {
-        block = mkBasic (b .counter) (b .head) (restOf g body);
+        block = withRest (restOf g body) b;
         us = set os n v;
         free = st .free;
         is = refl;
@@ -95,21 +98,21 @@ module _ {g : Layout} {st : State} {i : ℕ} {es : List ℕ} (p x : ℕ) (l : p 
       }
 
   -- the place is in an overflow block
-  poke-high : {c : ℕ} {cs fs : List ℕ} → Standing g st i (c ∷ cs) fs es → g .sib ≤ p
-      → Edit g st i (c ∷ cs) fs (c ∷ cs) fs (set es p x) (poke g st i (c ∷ cs) p x)
-  unfolding poke
-  poke-high {c} {cs} {fs} k m =
+  store-high : {c : ℕ} {cs fs : List ℕ} → Standing g st i (c ∷ cs) fs es → g .sib ≤ p
+      → Edit g st i (c ∷ cs) fs (c ∷ cs) fs (set es p x) (storeAt g st i (c ∷ cs) p x)
+  unfolding storeAt
+  store-high {c} {cs} {fs} k m =
       let os : List Overflow = st .overflow in
       let h : Holds g (basicAt (st .basic) i) os (c ∷ cs) es = k .hold in
       let q : ℕ = p - g .sib in
-      let us : List Overflow = pokeOverflow g os (c ∷ cs) q x in
+      let us : List Overflow = storeOverflow g os (c ∷ cs) q x in
       rw (le-ltb p (g .sib) m)
       record {
         block = basicAt (st .basic) i;
         us = us;
         free = st .free;
-        is = ap (λ (bs : List Basic). mkState (st .free) bs us) (sym (set-getD (st .basic) i (mkBasic 0 0 0)));
-        len = poke-length g os (c ∷ cs) q x ∙ k .len;
+        is = ap (λ (bs : List Basic). mkState (st .free) bs us) (sym (set-getD (st .basic) i emptyBasic));
+        len = store-length g os (c ∷ cs) q x ∙ k .len;
         hold = (
           h .0,
           omega (arith, length-set es p x),
@@ -117,21 +120,21 @@ module _ {g : Layout} {st : State} {i : ℕ} {es : List ℕ} (p x : ℕ) (l : p 
           h .3,
           h .4 ∙ sym (padded-set-out (g .sib) es p x m),
           rw (drop-set-ge (g .sib) es p x m)
-              (tail-poke g os c cs (drop (g .sib) es) (h .0) q x (h .5) (λ j. omega (arith, k .dis j))
+              (tail-store g os c cs (drop (g .sib) es) (h .0) q x (h .5) (λ j. omega (arith, k .dis j))
               (λ j z. omega (arith, k .len, k .low j (omega arith)))
               (omega (arith, length-drop (g .sib) es))),
         );
         fit = all-set (k .fit) p fx;
-        chain = chain-frame g os us (st .free) fs (λ j z. poke-else g os (c ∷ cs) q x j (omega (arith, k .dis j))) (k .chain);
-        others = λ j z. poke-else g os (c ∷ cs) q x j (omega arith);
+        chain = chain-frame g os us (st .free) fs (λ j z. store-else g os (c ∷ cs) q x j (omega (arith, k .dis j))) (k .chain);
+        others = λ j z. store-else g os (c ∷ cs) q x j (omega arith);
         same = λ j. refl;
       }
 
   -- all cases: the blocks stay
-  pub poke-local : (bs : List ℕ) {fs : List ℕ} → Standing g st i bs fs es → Edit g st i bs fs bs fs (set es p x) (poke g st i bs p x)
-  poke-local [] k = poke-basic k
-  poke-local (c ∷ cs) k =
-      cases (ltb p (g .sib)) (λ e. poke-low k (ltb-true p (g .sib) e)) (λ e. poke-high k (ltb-false p (g .sib) e))
+  pub store-local : (bs : List ℕ) {fs : List ℕ} → Standing g st i bs fs es → Edit g st i bs fs bs fs (set es p x) (storeAt g st i bs p x)
+  store-local [] k = store-basic k
+  store-local (c ∷ cs) k =
+      cases (ltb p (g .sib)) (λ e. store-low k (ltb-true p (g .sib) e)) (λ e. store-high k (ltb-false p (g .sib) e))
 
 -- Shrink -----------------------------------------------------------------------------------------------------------------
 
@@ -149,7 +152,7 @@ module _ {g : Layout} {st : State} {i : ℕ} {bs es : List ℕ} where
 
   -- a block l to the front of the free chain
   chain-put : (us : List Overflow) (fs : List ℕ) (l : ℕ) → Standing g st i bs fs es
-      → overflowAt us l ≡ mkOverflow 0 (linkFree g (st .free) l) (padded (g .sio) [])
+      → overflowAt us l ≡ emptyBlock g (linkFree g (st .free) l)
       → ((j : ℕ) → 0 < occurs j fs → overflowAt us j ≡ overflowAt (st .overflow) j)
       → Chain g us l (l ∷ fs)
   chain-put us [] l k e rest = (refl, e ∙ rw (eq-eqb (st .free) (g .nob) (k .chain)))
@@ -158,7 +161,7 @@ module _ {g : Layout} {st : State} {i : ℕ} {bs es : List ℕ} where
     (
       e
           ∙ rw (ne-eqb (st .free) (g .nob) (λ q. omega (arith, k .chain .0, k .low n (omega (arith, occurs-head n ns)))))
-          (ap (λ (m : ℕ). mkOverflow 0 m (padded (g .sio) [])) (k .chain .0)),
+          (ap (λ (m : ℕ). emptyBlock g m) (k .chain .0)),
       links-frame g (st .overflow) us n ns rest (k .chain .1),
     ),
   )
@@ -168,14 +171,13 @@ module _ {g : Layout} (F : Proper g) {st : State} {i : ℕ} {es : List ℕ} (m :
   unfolding shrink
   shrink-basic {fs} k =
       let b : Basic = basicAt (st .basic) i in
-      let body : List ℕ = set (unpack g (b .head) (b .rest)) (b .counter - 1) 0 in
       let t : length (take m es) ≡ m = length-take-le m es (omega arith) in
       let e : b .counter - 1 ≡ m = omega arith in
       record {
         cs = [];
         ns = fs;
         edit = record {
-          block = mkBasic (b .counter - 1) (headOf g body) (restOf g body);
+          block = basicSlotOff g b;
           us = st .overflow;
           free = st .free;
           is = refl;
@@ -197,12 +199,12 @@ module _ {g : Layout} (F : Proper g) {st : State} {i : ℕ} {es : List ℕ} (m :
   -- the last block keeps some slots
   shrink-keep : {c : ℕ} {cs fs : List ℕ} → Standing g st i (c ∷ cs) fs es → 0 < lastBlock (st .overflow) c cs .counter
       → Edited g st i (c ∷ cs) fs (take m es)
-      (mkState (st .free) (st .basic) (set (st .overflow) (lastOf c cs) (less (lastBlock (st .overflow) c cs))))
+      (overOverflow (lastOf c cs) lastSlotOff st)
   shrink-keep {c} {cs} {fs} k some-left =
       let os : List Overflow = st .overflow in
       let h : Holds g (basicAt (st .basic) i) os (c ∷ cs) es = k .hold in
       let n : ℕ = lastOf c cs in
-      let v : Overflow = less (overflowAt os n) in
+      let v : Overflow = lastSlotOff (overflowAt os n) in
       let t : length (take m es) ≡ m = length-take-le m es (omega arith) in
       let long = tail-last g os c cs (drop (g .sib) es) (h .0) (h .5) in
       let dl = length-drop (g .sib) es in
@@ -213,7 +215,7 @@ module _ {g : Layout} (F : Proper g) {st : State} {i : ℕ} {es : List ℕ} (m :
           block = basicAt (st .basic) i;
           us = set os n v;
           free = st .free;
-          is = ap (λ (bs : List Basic). mkState (st .free) bs (set os n v)) (sym (set-getD (st .basic) i (mkBasic 0 0 0)));
+          is = ap (λ (bs : List Basic). mkState (st .free) bs (set os n v)) (sym (set-getD (st .basic) i emptyBasic));
           len = simp length-set (k .len);
           hold = (
             h .0,
@@ -240,14 +242,12 @@ module _ {g : Layout} (F : Proper g) {st : State} {i : ℕ} {es : List ℕ} (m :
   -- the only overflow block is freed: the first bits of the basic block's slots go back
   shrink-back : {c : ℕ} {fs : List ℕ} → Standing g st i (c ∷ []) fs es → overflowAt (st .overflow) c .counter ≡ 0
       → Edited g st i (c ∷ []) fs (take m es)
-      (mkState c
-      (set (st .basic) i (mkBasic (g .sib) (overflowAt (st .overflow) c .link) (basicAt (st .basic) i .rest)))
-      (set (st .overflow) c (mkOverflow 0 (linkFree g (st .free) c) (padded (g .sio) []))))
+      (freed g c (overBasic i (withBasicFront (g .sib) (overflowAt (st .overflow) c .link)) st))
   shrink-back {c} {fs} k single =
       let b : Basic = basicAt (st .basic) i in
       let os : List Overflow = st .overflow in
       let h : Holds g b os (c ∷ []) es = k .hold in
-      let v : Overflow = mkOverflow 0 (linkFree g (st .free) c) (padded (g .sio) []) in
+      let v : Overflow = emptyBlock g (linkFree g (st .free) c) in
       let t : length (take m es) ≡ m = length-take-le m es (omega arith) in
       let long = tail-last g os c [] (drop (g .sib) es) (h .0) (h .5) in
       let sized : m ≡ g .sib = omega (arith, length-drop (g .sib) es, h .1) in
@@ -255,7 +255,7 @@ module _ {g : Layout} (F : Proper g) {st : State} {i : ℕ} {es : List ℕ} (m :
         cs = [];
         ns = c ∷ fs;
         edit = record {
-          block = mkBasic (g .sib) (overflowAt os c .link) (b .rest);
+          block = withBasicFront (g .sib) (overflowAt os c .link) b;
           us = set os c v;
           free = c;
           is = refl;
@@ -280,20 +280,14 @@ module _ {g : Layout} (F : Proper g) {st : State} {i : ℕ} {es : List ℕ} (m :
   -- the last of several overflow blocks is freed: its link goes to the one before
   shrink-free : {c d : ℕ} {ds fs : List ℕ} → Standing g st i (c ∷ d ∷ ds) fs es → lastBlock (st .overflow) d ds .counter ≡ 0
       → Edited g st i (c ∷ d ∷ ds) fs (take m es)
-      (mkState (lastOf d ds)
-      (st .basic)
-      (set
-      (set (st .overflow) (prevOf c d ds)
-      (mkOverflow (g .sio - 1) (lastBlock (st .overflow) d ds .link) (overflowAt (st .overflow) (prevOf c d ds) .slots)))
-      (lastOf d ds)
-      (mkOverflow 0 (linkFree g (st .free) (lastOf d ds)) (padded (g .sio) []))))
+      (freed g (lastOf d ds) (overOverflow (prevOf c d ds) (withFront (g .sio - 1) (lastBlock (st .overflow) d ds .link)) st))
   shrink-free {c} {d} {ds} {fs} k single =
       let os : List Overflow = st .overflow in
       let h : Holds g (basicAt (st .basic) i) os (c ∷ d ∷ ds) es = k .hold in
       let n : ℕ = lastOf d ds in
       let p : ℕ = prevOf c d ds in
-      let v : Overflow = mkOverflow (g .sio - 1) (overflowAt os n .link) (overflowAt os p .slots) in
-      let u : Overflow = mkOverflow 0 (linkFree g (st .free) n) (padded (g .sio) []) in
+      let v : Overflow = withFront (g .sio - 1) (overflowAt os n .link) (overflowAt os p) in
+      let u : Overflow = emptyBlock g (linkFree g (st .free) n) in
       let us : List Overflow = set (set os p v) n u in
       let t : length (take m es) ≡ m = length-take-le m es (omega arith) in
       let dl = length-drop (g .sib) es in
@@ -306,7 +300,7 @@ module _ {g : Layout} (F : Proper g) {st : State} {i : ℕ} {es : List ℕ} (m :
           block = basicAt (st .basic) i;
           us = us;
           free = n;
-          is = ap (λ (bs : List Basic). mkState n bs us) (sym (set-getD (st .basic) i (mkBasic 0 0 0)));
+          is = ap (λ (bs : List Basic). mkState n bs us) (sym (set-getD (st .basic) i emptyBasic));
           len = simp length-set (k .len);
           hold = (
             h .0,
@@ -335,15 +329,17 @@ module _ {g : Layout} (F : Proper g) {st : State} {i : ℕ} {es : List ℕ} (m :
 
   -- all cases
   pub shrink-local : (bs fs : List ℕ) → Standing g st i bs fs es → Shrunk g st i bs fs (take m es) (shrink g st i bs)
-  unfolding shrink
+  unfolding shrink cannotFree shrinkAt handedBack
   shrink-local [] fs k = shrink-basic k
   shrink-local (c ∷ []) fs k =
       let n : ℕ = overflowAt (st .overflow) c .counter in
       cases (ltb 0 n)
       (λ e. rw e (shrink-keep k (ltb-true 0 n e)))
-      (λ e. rw (e, le-ltb (g .nob) (st .free) (free-le fs k)) (shrink-back k (omega (arith, ltb-false 0 n e))))
+      (λ e. rw (e, le-ltb (g .nob) (st .free) (free-le fs k))
+      (shrink-back k (omega (arith, ltb-false 0 n e))))
   shrink-local (c ∷ d ∷ ds) fs k =
       let n : ℕ = lastBlock (st .overflow) d ds .counter in
       cases (ltb 0 n)
       (λ e. rw e (shrink-keep k (ltb-true 0 n e)))
-      (λ e. rw (e, le-ltb (g .nob) (st .free) (free-le fs k)) (shrink-free k (omega (arith, ltb-false 0 n e))))
+      (λ e. rw (e, le-ltb (g .nob) (st .free) (free-le fs k), prior-is c d ds)
+      (shrink-free k (omega (arith, ltb-false 0 n e))))

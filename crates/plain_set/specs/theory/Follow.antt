@@ -7,12 +7,13 @@ use native.Mathlib.Omega.{arith}
 use lib.ListN.{length, take, drop, take-append-drop, length-drop}
 use lib.Seq.{take-all}
 use borrow.Author.Tests.{eq-eqb, lt-ltb, le-ltb}
+use Rattle.laws.specs.Sums.{occurs-head}
 use Rattle.settings.specs.declared.layout.Layout.{Layout}
 use Rattle.table.specs.Arrays.{padded}
 use Rattle.table.specs.State.{Basic, Overflow, overflowAt, unpack}
 use Rattle.table.specs.Follow.{lastOf, seen, follow, gather, contentOf}
 use Rattle.table.specs.Take.{occurs}
-use Rattle.plain_set.specs.theory.Blocks.{occurs-head}
+use Rattle.table.specs.theory.Ways.{step-last, step-further}
 use Rattle.plain_set.specs.theory.Pad.{length-padded, take-padded, padded-take}
 use Rattle.plain_set.specs.theory.Rep.{Tail, Holds}
 
@@ -36,14 +37,16 @@ module _ (g : Layout) where
   follow-tail zero os b bs es d h low l = absurd (omega arith)
   follow-tail (suc n) os b [] es d h low l =
       let e : overflowAt os b .counter ≡ length es - 1 = ap (λ (o : Overflow). o .counter) (h .2) in
-      rw (lt-ltb b (g .nob) (low b (occurs-head b [])), lt-ltb (overflowAt os b .counter) (g .sio) (omega arith))
+      rw (
+        lt-ltb b (g .nob) (low b (occurs-head b [])),
+        step-last (g .sio) (overflowAt os b .counter) (overflowAt os b .link) (omega arith),
+      )
   follow-tail (suc n) os b (c ∷ cs) es d h low l =
       let e : overflowAt os b .counter ≡ g .sio = ap (λ (o : Overflow). o .counter) (h .1) in
       let k : overflowAt os b .link ≡ c = ap (λ (o : Overflow). o .link) (h .1) in
       rw (
         lt-ltb b (g .nob) (low b (occurs-head b (c ∷ cs))),
-        le-ltb (overflowAt os b .counter) (g .sio) (omega arith),
-        eq-eqb (overflowAt os b .counter) (g .sio) e,
+        step-further (g .sio) (overflowAt os b .counter) (overflowAt os b .link) e,
         k,
         follow-tail n os c cs (drop (g .sio) es) d (h .2) (λ j m. low j (omega arith)) (omega arith),
       )

@@ -4,12 +4,12 @@ use Prim.Native.Nat.{ℕ, _^_, _<_}
 use lib.Dec.{eqb}
 use lib.Pow.{shr-lt, high, low}
 use borrow.Author.Tests.{eqb-true, eq-eqb, eqb-false, ne-eqb}
+use Rattle.laws.specs.Cases.{cases}
 use Rattle.settings.specs.declared.settings.Settings.{Settings}
 use Rattle.settings.specs.Sizes.{bie, lists}
 use Rattle.settings.specs.Legal.{Legal}
 use Rattle.settings.specs.Layout.{layoutOf}
 use Rattle.keys.specs.Key.{entry, listNumber, rebuilt}
-use Rattle.settings.specs.theory.Cases.{cases}
 use Rattle.table.specs.State.{entryOf, labelOf, slotOf}
 use Rattle.table.specs.Rebuilt.{pairOf}
 use Rattle.plain_set.specs.Set.{hasKey}

@@ -8,27 +8,27 @@ use native.Mathlib.Omega.{arith}
 use lib.ListN.{length, getD, set, length-set}
 use lib.Dec.{eqb}
 use borrow.Author.Tests.{eq-eqb, eqb-true, ltb-true, ltb-false, lt-ltb}
+use Rattle.laws.specs.Folds.{count}
+use Rattle.laws.specs.Cases.{cases}
+use Rattle.laws.specs.Sums.{sum-ext}
 use Rattle.settings.specs.declared.settings.Settings.{Settings}
 use Rattle.settings.specs.declared.refusal.Refusal.the-variants as refusal
 use Rattle.settings.specs.Sizes.{lists, tableBytes}
 use Rattle.settings.specs.Legal.{Legal}
 use Rattle.settings.specs.Layout.{layoutOf}
 use Rattle.keys.specs.Key.{entry, listNumber}
-use Rattle.settings.specs.theory.Cases.{cases}
 use Rattle.table.specs.State.{entryOf, labelOf, slotOf}
 use Rattle.table.specs.Find.{position, isHeld, labelAt}
 use Rattle.table.specs.Rebuilt.{Pair, pair, pairOf}
-use Rattle.table.specs.Arrays.{sumBelow}
-use Rattle.plain_set.specs.Set.{key, Call, find, add, delete, Answer, held, nothing, added, gone, refused, count, hasKey, lookup, erase, Step}
-use Rattle.plain_set.specs.Set.{blocksUsed, listLength, noVacantSlot, allBlocksUsed, setStep}
+use Rattle.plain_set.specs.Set.{key, Call, find, add, delete, Answer, held, nothing, added, gone, refused, hasKey, lookup, erase, Step, blocksUsed, listLength, noVacantSlot, blocksNeeded, allBlocksUsed, setStep}
 use Rattle.table.specs.theory.Formed.{all-nil, all-cons, all-append}
-use Rattle.plain_set.specs.theory.Count.{one, count-append, count-at, sumBelow-ext}
+use Rattle.plain_set.specs.theory.Count.{one, count-append, count-at}
 use Rattle.plain_set.specs.theory.Use.{blocksFor, usedBy, noRoom}
 use Rattle.plain_set.specs.theory.Keys.{slot-fits, slot-entry, slot-label, number-below, key-of-entry}
 use Rattle.plain_set.specs.Same.{SamePairs, NoKeyTwice}
+use Rattle.table.specs.theory.Positions.{position-held, position-none}
 use Rattle.plain_set.specs.theory.SetLaws.{isPair, lookup-none, lookup-some, count-erase, goes-on}
 use Rattle.plain_set.specs.theory.Swap.{swapOut, count-swap, all-swap}
-use Rattle.plain_set.specs.theory.Rows.{position-held, position-none}
 use Rattle.plain_set.specs.theory.Rows.{pairsFrom, RowsFit, count-at-row, count-put, fit-put, count-key, count-list}
 
 -- Calls with a key -------------------------------------------------------------------------------------------------------
@@ -111,10 +111,10 @@ module _ (s : Settings) (legal : Legal s) (T : List (List ℕ)) (ps : List Pair)
   length-same : (i : ℕ) → i < lists s → listLength s ps i ≡ length (getD T i [])
   length-same i h = sym (w .pairs (λ p. eqb (listNumber s (p .key)) i)) ∙ count-list s T (w .long) (w .fit) legal i h
 
-  used-same : sumBelow (lists s) (λ i. blocksUsed s (listLength s ps i)) ≡ usedBy (layoutOf s) T
+  used-same : blocksNeeded s ps ≡ usedBy (layoutOf s) T
   unfolding blocksUsed blocksFor layoutOf
   used-same =
-      sumBelow-ext (lists s) (λ i. blocksUsed s (listLength s ps i)) (λ i. blocksUsed s (length (getD T i [])))
+      sum-ext (lists s) (λ i. blocksUsed s (listLength s ps i)) (λ i. blocksUsed s (length (getD T i [])))
       (λ i h. ap (blocksUsed s) (length-same i h))
 
   -- a legal key

@@ -1,42 +1,26 @@
 -- Bytes with more behind them hold the same table, and agree with the same set.
-use mathlib.Core.Path.{_≡_, refl, sym, ap, _∙_}
-use mathlib.Core.Bool.{false}
+use mathlib.Core.Path.{_≡_, sym, ap, _∙_}
 use mathlib.Core.List.{List, [], _∷_, _++_}
 use Prim.Native.Nat.{ℕ, zero, suc, _+_, _-_, _*_, _/_, _≤_, _<_}
 use native.Mathlib.Omega.{arith}
-use lib.ListN.{length, take, drop, length-append, List·getD-append, take-append-drop}
-use lib.Dec.{eqb, ltb}
-use borrow.Author.Tests.{lt-leb, ltb-true, ltb-false}
+use lib.ListN.{length, take, drop, length-append, List·getD-append}
+use lib.Dec.{eqb}
 use Rattle.bits.specs.Bytes.{Bytes}
 use Rattle.bits.specs.Field.{bitAt, field}
 use Rattle.bits.specs.theory.Fields.{field-ext}
 use Rattle.settings.specs.declared.settings.Settings.{Settings}
 use Rattle.settings.specs.declared.layout.Layout.{Layout}
-use Rattle.settings.specs.declared.refusal.Refusal.{Refusal}
-use Rattle.settings.specs.declared.refusal.Refusal.the-variants as refusal
 use Rattle.settings.specs.Proper.{Proper}
 use Rattle.settings.specs.Sizes.{tableBytes}
-use Rattle.settings.specs.Legal.{legal, Legal}
+use Rattle.settings.specs.Legal.{Legal}
 use Rattle.settings.specs.Layout.{layoutOf}
-use Rattle.settings.specs.theory.Cases.{cases}
-use Rattle.settings.specs.theory.Legal.{legal-if}
 use Rattle.settings.specs.theory.Proper.{layout-proper}
 use Rattle.table.specs.Decode.{decode}
-use Rattle.table.specs.declared.answers.FindAnswer.{FindAnswer}
-use Rattle.table.specs.declared.answers.FindAnswer.the-variants as finding
-use Rattle.table.specs.declared.answers.AddAnswer.{AddAnswer}
-use Rattle.table.specs.declared.answers.AddAnswer.the-variants as adding
-use Rattle.table.specs.declared.answers.DeleteAnswer.{DeleteAnswer}
-use Rattle.table.specs.declared.answers.DeleteAnswer.the-variants as deleting
-use Rattle.plain_set.specs.Plain.{plainFind, plainAdd, plainDelete}
-use Rattle.table.specs.Calls.{opened, findAnswer, addAnswer, addBytes, deleteAnswer, deleteBytes}
 use Rattle.table.specs.Rebuilt.{Pair}
-use Rattle.plain_set.specs.Set.{refused, step, setStep}
 use Rattle.table.specs.Check.{fillZero}
 use Rattle.table.specs.theory.Decode.{image-decode}
 use Rattle.table.specs.theory.Formed.{decode-formed}
 use Rattle.table.specs.theory.Written.{image-inj}
-use Rattle.plain_set.specs.theory.Refusals.{refused-settings, refused-short}
 use Rattle.plain_set.specs.theory.Agree.{Agree}
 use Rattle.plain_set.specs.theory.Stored.{bits-room}
 

@@ -7,16 +7,16 @@ use native.Mathlib.Omega.{arith}
 use lib.ListN.{replicate, length-replicate}
 use lib.Dec.{eqb, ltb}
 use borrow.Author.Tests.{eq-eqb, ne-eqb, eqb-true, eqb-false, lt-ltb, le-ltb, ltb-true, ltb-false}
+use Rattle.laws.specs.Cases.{cases}
+use Rattle.laws.specs.Lists.{replicate-at}
 use Rattle.settings.specs.declared.layout.Layout.{Layout}
-use Rattle.settings.specs.theory.Cases.{cases}
 use Rattle.table.specs.Arrays.{tabulate}
-use Rattle.table.specs.State.{Overflow, mkBasic, mkOverflow, overflowAt}
+use Rattle.table.specs.State.{Overflow, overflowAt, emptyBasic, absentBlock}
 use Rattle.table.specs.Take.{occurs}
 use Rattle.table.specs.New.{newOverflow, newState}
 use Rattle.table.specs.theory.Arrays.{length-tab, getD-tab}
 use Rattle.table.specs.theory.Formed.{all-nil}
 use Rattle.plain_set.specs.theory.Count.{one, sum}
-use Rattle.plain_set.specs.theory.Pad.{replicate-at}
 use Rattle.plain_set.specs.theory.Slots.{unpack-zero}
 use Rattle.plain_set.specs.theory.Rep.{Links, Chain, Rep}
 
@@ -60,7 +60,7 @@ module _ (g : Layout) where
   new-chain (suc n) e = (
     refl,
     new-links (tabulate (g .nob) (newOverflow g)) 0 n
-        (λ j l. getD-tab (g .nob) (newOverflow g) j (mkOverflow 0 0 []) l)
+        (λ j l. getD-tab (g .nob) (newOverflow g) j absentBlock l)
         (omega arith),
   )
 
@@ -69,12 +69,12 @@ module _ (g : Layout) where
   unfolding newState
   new-rep =
       record {
-        basics = length-tab (g .lists) (λ i. mkBasic 0 0 0);
+        basics = length-tab (g .lists) (λ i. emptyBasic);
         overs = length-tab (g .nob) (newOverflow g);
         lists = length-replicate (g .lists) [];
         blocks = length-replicate (g .lists) [];
         each = λ i h.
-            rw (getD-tab (g .lists) (λ i. mkBasic 0 0 0) i (mkBasic 0 0 0) h, replicate-at {A = List ℕ} (g .lists) i [])
+            rw (getD-tab (g .lists) (λ i. emptyBasic) i emptyBasic h, replicate-at {A = List ℕ} (g .lists) i [])
             (omega arith, refl, unpack-zero g);
         fits = λ i h. rw (replicate-at {A = List ℕ} (g .lists) i []) all-nil;
         chain = new-chain (g .nob) refl;

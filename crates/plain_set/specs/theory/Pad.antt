@@ -5,13 +5,13 @@ use mathlib.Core.List.{List, [], _∷_, _++_}
 use Prim.Native.Nat.{ℕ, zero, suc, _+_, _-_, _≤_, _<_}
 use native.Mathlib.Omega.{arith}
 use native.Mathlib.Nat.{sub-zero, zero-sub, suc-sub-suc}
-use lib.ListN.{length, getD, set, take, drop, replicate, length-append}
+use lib.ListN.{length, set, take, drop, length-append}
 use lib.Seq.{take-nil, drop-set-add}
 use lib.Dec.{eqb}
 use borrow.Author.Tests.{eqb-true}
-use Rattle.settings.specs.theory.Cases.{both-true}
+use Rattle.laws.specs.Folds.{allZero}
+use Rattle.laws.specs.Cases.{both-true}
 use Rattle.table.specs.Arrays.{padded}
-use Rattle.table.specs.Check.{allZero}
 
 pub length-padded : (n : ℕ) (es : List ℕ) → length (padded n es) ≡ n
 length-padded zero es = refl
@@ -97,12 +97,6 @@ padded-zeros (suc n) [] = padded-zeros n []
 padded-zeros (suc n) (x ∷ es) = padded-zeros n es
 
 module _ {A : Type 0} where
-  -- past its end too
-  pub replicate-at : (n i : ℕ) (a : A) → getD (replicate n a) i a ≡ a
-  replicate-at zero i a = refl
-  replicate-at (suc n) zero a = refl
-  replicate-at (suc n) (suc i) a = replicate-at n i a
-
   pub length-snoc : (l : List A) (x : A) → length (l ++ x ∷ []) ≡ suc (length l)
   length-snoc l x = omega (arith, length-append l (x ∷ []))
 

@@ -5,25 +5,30 @@ use mathlib.Core.List.{List, [], _∷_}
 use Prim.Native.Nat.{ℕ, suc, _+_, _-_, _≤_, _<_}
 use lib.ListN.{length, getD, drop}
 use lib.Dec.{eqb, ltb}
+use Rattle.laws.specs.Folds.{count}
 use Rattle.settings.specs.declared.layout.Layout.{Layout}
 use Rattle.table.specs.Arrays.{padded}
-use Rattle.table.specs.State.{Basic, Overflow, State, mkOverflow, basicAt, overflowAt, unpack, entryOf}
+use Rattle.table.specs.State.{Basic, Overflow, State, basicAt, overflowAt, emptyBlock, unpack, ownSlots, entryOf}
+use Rattle.table.specs.Updates.{withCounter, withSlots}
 use Rattle.table.specs.Take.{occurs}
-use Rattle.plain_set.specs.Set.{count}
 use Rattle.table.specs.theory.Formed.{All, Fits}
 use Rattle.plain_set.specs.theory.Count.{one, sum}
 
 module _ (g : Layout) where
+  -- an overflow block with the counter n, the link l and the slots ys
+  abbrev pub blockWith : ℕ → ℕ → List ℕ → Overflow
+  blockWith n l ys = withCounter n (withSlots ys (emptyBlock g l))
+
   -- the slots es stand in the overflow blocks b, bs: all full but the last, zeros behind; the last one's link holds d
   abbrev pub Tail : List Overflow → ℕ → List ℕ → List ℕ → ℕ → Type 0
-  Tail os b [] es d = (0 < length es) × (length es ≤ g .sio) × (overflowAt os b ≡ mkOverflow (length es - 1) d (padded (g .sio) es))
+  Tail os b [] es d = (0 < length es) × (length es ≤ g .sio) × (overflowAt os b ≡ blockWith (length es - 1) d (padded (g .sio) es))
   Tail os b (c ∷ cs) es d =
-      (g .sio < length es) × (overflowAt os b ≡ mkOverflow (g .sio) c (padded (g .sio) es)) × Tail os c cs (drop (g .sio) es) d
+      (g .sio < length es) × (overflowAt os b ≡ blockWith (g .sio) c (padded (g .sio) es)) × Tail os c cs (drop (g .sio) es) d
 
   -- the slots es stand in the basic block b and the overflow blocks bs; if there are any, their last link holds the first bits d of the basic
   -- block's slots
   abbrev pub Holds : Basic → List Overflow → List ℕ → List ℕ → Type 0
-  Holds b os [] es = (length es ≤ g .sib) × (b .counter ≡ length es) × (unpack g (b .head) (b .rest) ≡ padded (g .sib) es)
+  Holds b os [] es = (length es ≤ g .sib) × (b .counter ≡ length es) × (ownSlots g b ≡ padded (g .sib) es)
   Holds b os (c ∷ cs) es =
       (d : ℕ)
       × (g .sib < length es)
@@ -34,8 +39,8 @@ module _ (g : Layout) where
 
   -- zeroed blocks f, fs, each linked to the next and the last to itself
   abbrev pub Links : List Overflow → ℕ → List ℕ → Type 0
-  Links os f [] = overflowAt os f ≡ mkOverflow 0 f (padded (g .sio) [])
-  Links os f (n ∷ ns) = (overflowAt os f ≡ mkOverflow 0 n (padded (g .sio) [])) × Links os n ns
+  Links os f [] = overflowAt os f ≡ emptyBlock g f
+  Links os f (n ∷ ns) = (overflowAt os f ≡ emptyBlock g n) × Links os n ns
 
   -- the free chain fs, with the free start f
   abbrev pub Chain : List Overflow → ℕ → List ℕ → Type 0

@@ -1,4 +1,4 @@
--- Rows of slots: the place of an entry in a list, and the pairs that all lists together hold.
+-- Rows of slots: the pairs that all lists together hold.
 use mathlib.Core.Path.{_≡_, refl, sym, ap, _∙_}
 use mathlib.Core.Logic.{_≢_}
 use mathlib.Core.Bool.{Bool, true, false}
@@ -9,45 +9,19 @@ use lib.ListN.{length, getD, set, length-set}
 use lib.Seq.{set-set, getD-set-same, getD-set-other}
 use lib.Dec.{eqb}
 use borrow.Author.Tests.{eq-eqb, ne-eqb, eqb-true, eqb-false}
+use Rattle.laws.specs.Folds.{count}
+use Rattle.laws.specs.Cases.{cases}
 use Rattle.settings.specs.declared.settings.Settings.{Settings}
-use Rattle.settings.specs.declared.layout.Layout.{Layout}
 use Rattle.settings.specs.Sizes.{lists}
 use Rattle.settings.specs.Legal.{Legal}
 use Rattle.settings.specs.Layout.{layoutOf}
 use Rattle.keys.specs.Key.{entry, listNumber}
-use Rattle.settings.specs.theory.Cases.{cases}
-use Rattle.table.specs.State.{entryOf}
 use Rattle.table.specs.Rebuilt.{Pair, pairOf, pairsOf}
-use Rattle.table.specs.Find.{position}
-use Rattle.plain_set.specs.Set.{count, hasKey, listLength}
+use Rattle.plain_set.specs.Set.{hasKey, listLength}
 use Rattle.table.specs.theory.Formed.{All, Fits}
-use Rattle.plain_set.specs.theory.Count.{one, count-append, count-ext, count-none, count-every}
+use Rattle.table.specs.theory.Positions.{isEntry}
+use Rattle.plain_set.specs.theory.Count.{count-append, count-ext, count-none, count-every}
 use Rattle.plain_set.specs.theory.Keys.{number-below, number-of-slot, key-of-slot-below, key-test}
-
--- The place of an entry --------------------------------------------------------------------------------------------------
-
--- the test for an entry
-abbrev pub isEntry : Layout → ℕ → ℕ → Bool
-isEntry g e x = eqb (entryOf g x) e
-
-module _ (g : Layout) where
-  -- at the place of an entry that a list has, stands the entry
-  pub position-held : (e : ℕ) (es : List ℕ) (d : ℕ) → position g e es < length es → isEntry g e (getD es (position g e es) d) ≡ true
-  unfolding position
-  position-held e [] d h = absurd (omega arith)
-  position-held e (x ∷ es) d h =
-      cases (isEntry g e x) (λ q. rw q q)
-      (λ q. let below : suc (position g e es) < suc (length es) = rw q at h in rw q (position-held e es d (omega arith)))
-
-  -- where there is no place, no slot has the entry
-  pub position-none : (e : ℕ) (es : List ℕ) → length es ≤ position g e es → count (isEntry g e) es ≡ 0
-  unfolding position
-  position-none e [] h = refl
-  position-none e (x ∷ es) h =
-      cases (isEntry g e x) (λ q. absurd (let none : suc (length es) ≤ 0 = rw q at h in omega arith))
-      (λ q.
-      let past : suc (length es) ≤ suc (position g e es) = rw q at h in
-      omega (arith, ap one q, position-none e es (omega arith)))
 
 -- The pairs of all lists -------------------------------------------------------------------------------------------------
 

@@ -7,13 +7,14 @@ use Prim.Native.Nat.{ℕ, _+_, _≤_, _<_}
 use native.Mathlib.Omega.{arith}
 use lib.Dec.{eqb, leb}
 use borrow.Author.Tests.{eqb-true, le-leb}
+use Rattle.laws.specs.Folds.{count}
+use Rattle.laws.specs.Cases.{cases, both-true}
 use Rattle.settings.specs.declared.settings.Settings.{Settings}
 use Rattle.settings.specs.Sizes.{tableBytes}
 use Rattle.settings.specs.Legal.{legal, Legal}
-use Rattle.settings.specs.theory.Cases.{cases, both-true}
 use Rattle.settings.specs.theory.Legal.{legal-if}
 use Rattle.table.specs.Rebuilt.{Pair, pair}
-use Rattle.plain_set.specs.Set.{count, hasKey, lookup, erase, Step}
+use Rattle.plain_set.specs.Set.{hasKey, lookup, erase, Step}
 use Rattle.plain_set.specs.theory.Count.{one, count-mono}
 
 -- the test for one pair

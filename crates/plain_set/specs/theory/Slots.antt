@@ -11,7 +11,7 @@ use Rattle.table.specs.Arrays.{packed, unpacked, padded}
 use Rattle.table.specs.State.{restBits, unpack, headOf, restOf}
 use Rattle.table.specs.theory.Formed.{All, all-nil, all-cons, Each, each-set, Fits}
 use Rattle.table.specs.theory.Written.{packed-fits}
-use Rattle.table.specs.theory.FormedCalls.{unpack-each}
+use Rattle.table.specs.theory.FormedUpdates.{unpack-each}
 
 -- numbers of w bits that are packed come out again
 unpacked-packed : (w : ℕ) {xs : List ℕ} → All (Fits w) xs → unpacked w (length xs) (packed w xs) ≡ xs

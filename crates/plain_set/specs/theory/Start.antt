@@ -2,29 +2,28 @@
 use mathlib.Core.Path.{_≡_, refl, sym, ap, _∙_}
 use mathlib.Core.Bool.{true}
 use mathlib.Core.List.{List, [], _++_}
-use Prim.Native.Nat.{ℕ, zero, suc, _+_, _-_, _*_, _/_, _≤_}
-use native.Mathlib.Nat.{zero-div, zero-mod}
+use Prim.Native.Nat.{ℕ, zero, suc, _-_, _*_, _≤_}
 use native.Mathlib.Omega.{arith}
 use lib.ListN.{length, drop, replicate, length-append, length-replicate}
 use borrow.Author.Tests.{le-leb, eq-eqb}
+use Rattle.laws.specs.Folds.{count}
+use Rattle.laws.specs.Cases.{both-true}
+use Rattle.laws.specs.Lists.{replicate-at}
 use Rattle.bits.specs.Bytes.{Bytes}
-use Rattle.bits.specs.Field.{bitAt, field}
+use Rattle.bits.specs.theory.Fields.{zero-field}
 use Rattle.settings.specs.declared.settings.Settings.{Settings}
 use Rattle.settings.specs.Sizes.{lists, tableBytes}
 use Rattle.settings.specs.Legal.{legal, Legal}
 use Rattle.settings.specs.Layout.{layoutOf}
-use Rattle.settings.specs.theory.Cases.{both-true}
 use Rattle.settings.specs.theory.Legal.{legal-if}
 use Rattle.settings.specs.theory.Proper.{layout-proper}
 use Rattle.table.specs.Decode.{decode}
 use Rattle.table.specs.New.{newBytes}
 use Rattle.table.specs.Calls.{makeBytes}
 use Rattle.table.specs.Rebuilt.{rebuiltPairs}
-use Rattle.plain_set.specs.Set.{count}
 use Rattle.table.specs.Check.{stateSound, fillZero, tableSound}
 use Rattle.table.specs.theory.Formed.{all-nil, decode-formed}
 use Rattle.table.specs.theory.FormedCalls.{new-formed}
-use Rattle.plain_set.specs.theory.Pad.{replicate-at}
 use Rattle.plain_set.specs.theory.Rep.{Sound}
 use Rattle.plain_set.specs.theory.New.{upFrom, new-rep}
 use Rattle.plain_set.specs.theory.Checked.{check-sound}
@@ -67,16 +66,6 @@ sound-agree s legal t bytes room h =
         }
 
 -- A new table -----------------------------------------------------------------------------------------------------------------
-
--- zero bytes hold zeros
-zero-bit : (n i : ℕ) → bitAt (replicate n 0) i ≡ 0
-unfolding bitAt
-zero-bit n i = rw (replicate-at {A = ℕ} n (i / 8) 0, zero-div, zero-mod 2)
-
-zero-field : (n off m : ℕ) → field (replicate n 0) off m ≡ 0
-unfolding field
-zero-field n off zero = refl
-zero-field n off (suc m) = omega (arith, zero-field n off m, zero-bit n (off + m))
 
 -- empty lists have no pairs
 pairs-none : (s : Settings) (i n : ℕ) → pairsFrom s i (replicate n []) ≡ []

@@ -5,11 +5,11 @@ use mathlib.Core.List.{List}
 use Prim.Native.Nat.{ℕ, _^_, _<_}
 use lib.ListN.{length}
 use borrow.Author.Tests.{ltb-true}
+use Rattle.laws.specs.Cases.{cases}
 use Rattle.settings.specs.declared.settings.Settings.{Settings}
 use Rattle.settings.specs.Legal.{Legal}
 use Rattle.settings.specs.Layout.{layoutOf}
 use Rattle.keys.specs.Key.{entry, listNumber}
-use Rattle.settings.specs.theory.Cases.{cases}
 use Rattle.settings.specs.theory.Proper.{layout-proper}
 use Rattle.table.specs.State.{State, slotOf}
 use Rattle.table.specs.Find.{position, findSeen, findIn}

@@ -1,40 +1,25 @@
 -- A state that holds lists, written into bytes: the bytes agree with the set that the lists stand for.
-use mathlib.Core.Path.{_≡_, refl, _∙_}
+use mathlib.Core.Path.{_≡_}
 use mathlib.Core.Bool.{true}
 use mathlib.Core.List.{List}
-use Prim.Native.Nat.{ℕ, _-_, _*_, _^_, _≤_, _<_}
+use Prim.Native.Nat.{ℕ, _-_, _*_, _≤_}
 use native.Mathlib.Nat.{le-refl}
 use native.Mathlib.Omega.{arith}
 use lib.ListN.{length}
-use lib.Dec.{leb, ltb}
-use borrow.Author.Tests.{ltb-true, ltb-false, le-leb}
 use Rattle.bits.specs.Bytes.{Bytes}
 use Rattle.settings.specs.declared.settings.Settings.{Settings}
-use Rattle.keys.specs.declared.Key.{Key}
-use Rattle.settings.specs.declared.refusal.Refusal.{Refusal}
-use Rattle.settings.specs.declared.refusal.Refusal.the-variants as refusal
 use Rattle.settings.specs.Sizes.{tableBytes}
-use Rattle.settings.specs.Legal.{legal, Legal}
+use Rattle.settings.specs.Legal.{Legal}
 use Rattle.settings.specs.Layout.{layoutOf}
-use Rattle.keys.specs.Key.{keyNumber, entry, listNumber}
-use Rattle.settings.specs.theory.Cases.{cases}
-use Rattle.keys.specs.theory.Keys.{entry-below}
-use Rattle.settings.specs.theory.Legal.{legal-if}
 use Rattle.settings.specs.theory.Proper.{layout-proper}
 use Rattle.table.specs.State.{State}
-use Rattle.table.specs.Decode.{decode, written}
-use Rattle.table.specs.Calls.{findAnswer, adds, addAnswer, addBytes, deletes, deleteAnswer, deleteBytes}
+use Rattle.table.specs.Decode.{written}
 use Rattle.table.specs.Rebuilt.{Pair}
-use Rattle.plain_set.specs.Set.{Answer, refused, Step, step, setStep}
 use Rattle.table.specs.Check.{fillZero}
-use Rattle.table.specs.theory.Formed.{Formed, decode-formed}
-use Rattle.table.specs.theory.FormedCalls.{add-formed, delete-formed}
+use Rattle.table.specs.theory.Formed.{Formed}
 use Rattle.table.specs.theory.Written.{decode-written, written-length, written-bytes, written-outside}
 use Rattle.plain_set.specs.theory.Rep.{Stores}
-use Rattle.plain_set.specs.theory.Keys.{in-table}
-use Rattle.plain_set.specs.theory.Lists.{findKey, addKey, deleteKey, Stands, step-ok}
-use Rattle.plain_set.specs.theory.Refusals.{refused-key, refused-label}
-use Rattle.plain_set.specs.theory.StateSteps.{find-acts, add-acts, delete-acts}
+use Rattle.plain_set.specs.theory.Lists.{Stands}
 use Rattle.plain_set.specs.theory.Agree.{Agree}
 
 -- the table's bits are within the lent bytes

@@ -8,8 +8,8 @@ use lib.ListN.{length, getD, set, take, length-set}
 use lib.Seq.{getD-set-same, getD-set-other}
 use lib.Dec.{eqb}
 use borrow.Author.Tests.{eqb-true, eqb-false}
-use Rattle.settings.specs.theory.Cases.{cases}
-use Rattle.plain_set.specs.Set.{count}
+use Rattle.laws.specs.Folds.{count}
+use Rattle.laws.specs.Cases.{cases}
 use Rattle.table.specs.theory.Formed.{All, all-at, all-set, all-take}
 use Rattle.plain_set.specs.theory.Count.{one, count-set, count-init}
 

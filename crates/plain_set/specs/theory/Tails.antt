@@ -8,18 +8,20 @@ use lib.ListN.{length, set, take, drop, length-drop, length-set, drop-of-length-
 use lib.Seq.{length-take-le, drop-append-le, drop-set-lt}
 use lib.Dec.{eqb, ltb}
 use borrow.Author.Tests.{lt-ltb, ltb-true, ltb-false}
+use Rattle.laws.specs.Cases.{cases}
+use Rattle.laws.specs.Sums.{occurs-head}
 use Rattle.settings.specs.declared.layout.Layout.{Layout}
 use Rattle.settings.specs.Proper.{Proper}
-use Rattle.settings.specs.theory.Cases.{cases}
-use Rattle.table.specs.Arrays.{padded}
-use Rattle.table.specs.State.{Overflow, mkOverflow, overflowAt}
+use Rattle.table.specs.State.{Overflow, overflowAt, emptyBlock}
+use Rattle.table.specs.Updates.{withFront, withSlot, withLink}
 use Rattle.table.specs.Follow.{lastOf, prevOf}
 use Rattle.table.specs.Take.{occurs}
-use Rattle.table.specs.Delete.{pokeOverflow}
+use Rattle.table.specs.Delete.{lastSlotOff}
+use Rattle.table.specs.Store.{storeOverflow}
+use Rattle.table.specs.Add.{oneMore}
 use Rattle.plain_set.specs.theory.Count.{one}
-use Rattle.plain_set.specs.theory.Blocks.{occurs-head}
 use Rattle.plain_set.specs.theory.Pad.{padded-append, padded-append-le, padded-set, padded-set-out, padded-init, padded-init-out, length-snoc, drop-take, drop-set-ge}
-use Rattle.plain_set.specs.theory.Rep.{Tail}
+use Rattle.plain_set.specs.theory.Rep.{blockWith, Tail}
 use Rattle.plain_set.specs.theory.Follow.{tail-last}
 use Rattle.plain_set.specs.theory.Update.{set-here, set-there, tail-frame}
 
@@ -70,23 +72,12 @@ not-prev b c d ds dis e =
 abbrev pub lastBlock : List Overflow → ℕ → List ℕ → Overflow
 lastBlock os b bs = overflowAt os (lastOf b bs)
 
--- a block with the slot x more, and with its last slot less
-abbrev pub more : Overflow → ℕ → Overflow
-more o x = mkOverflow (suc (o .counter)) (o .link) (set (o .slots) (suc (o .counter)) x)
-
-abbrev pub less : Overflow → Overflow
-less o = mkOverflow (o .counter - 1) (o .link) (set (o .slots) (o .counter) 0)
-
--- a block with the slot x at place q
-abbrev pub poked : Overflow → ℕ → ℕ → Overflow
-poked o q x = mkOverflow (o .counter) (o .link) (set (o .slots) q x)
-
 module _ (g : Layout) where
   -- one slot more in the last block
   pub tail-append : (os us : List Overflow) (b : ℕ) (bs es : List ℕ) (d x : ℕ) → Tail g os b bs es d
       → ((j : ℕ) → occurs j (b ∷ bs) ≤ 1)
       → suc (lastBlock os b bs .counter) < g .sio
-      → lastBlock us b bs ≡ more (lastBlock os b bs) x
+      → lastBlock us b bs ≡ oneMore x (lastBlock os b bs)
       → ((j : ℕ) → j ≢ lastOf b bs → overflowAt us j ≡ overflowAt os j)
       → Tail g us b bs (es ++ x ∷ []) d
   tail-append os us b [] es d x h dis room e rest =
@@ -98,7 +89,7 @@ module _ (g : Layout) where
       )
   tail-append os us b (c ∷ cs) es d x h dis room e rest = (
     omega (arith, length-snoc es x),
-    rest b (not-last b c cs dis) ∙ h .1 ∙ ap (mkOverflow (g .sio) c) (sym (padded-append-le (g .sio) es (x ∷ []) (omega arith))),
+    rest b (not-last b c cs dis) ∙ h .1 ∙ ap (blockWith g (g .sio) c) (sym (padded-append-le (g .sio) es (x ∷ []) (omega arith))),
     rw (drop-append-le (g .sio) es (x ∷ []) (omega arith))
         (tail-append os us c cs (drop (g .sio) es) d x (h .2) (λ j. omega (arith, dis j)) room e rest),
   )
@@ -106,7 +97,7 @@ module _ (g : Layout) where
   -- other bits v in the last block's link
   pub tail-relink : (os us : List Overflow) (b : ℕ) (bs es : List ℕ) (d v : ℕ) → Tail g os b bs es d
       → ((j : ℕ) → occurs j (b ∷ bs) ≤ 1)
-      → lastBlock us b bs ≡ mkOverflow (lastBlock os b bs .counter) v (lastBlock os b bs .slots)
+      → lastBlock us b bs ≡ withLink v (lastBlock os b bs)
       → ((j : ℕ) → j ≢ lastOf b bs → overflowAt us j ≡ overflowAt os j)
       → Tail g us b bs es v
   tail-relink os us b [] es d v h dis e rest = (h .0, h .1, e ∙ rw (h .2))
@@ -121,7 +112,7 @@ module _ (g : Layout) where
       → ((j : ℕ) → occurs j (b ∷ bs) ≤ 1)
       → 0 < lastBlock os b bs .counter
       → length es ≡ suc m
-      → lastBlock us b bs ≡ less (lastBlock os b bs)
+      → lastBlock us b bs ≡ lastSlotOff (lastBlock os b bs)
       → ((j : ℕ) → j ≢ lastOf b bs → overflowAt us j ≡ overflowAt os j)
       → Tail g us b bs (take m es) d
   tail-shrink os us b [] es d m h dis some-left l e rest =
@@ -136,7 +127,7 @@ module _ (g : Layout) where
       let k : length (drop (g .sio) es) ≡ suc (m - g .sio) = omega (arith, length-drop (g .sio) es) in
       let long = tail-last g os c cs (drop (g .sio) es) d (h .2) in (
         omega arith,
-        rest b (not-last b c cs dis) ∙ h .1 ∙ ap (mkOverflow (g .sio) c) (sym (padded-init-out (g .sio) es m (omega arith))),
+        rest b (not-last b c cs dis) ∙ h .1 ∙ ap (blockWith g (g .sio) c) (sym (padded-init-out (g .sio) es m (omega arith))),
         rw (drop-take (g .sio) m es)
             (tail-shrink os us c cs (drop (g .sio) es) d (m - g .sio) (h .2) (λ j. omega (arith, dis j)) some-left k e rest),
       )
@@ -147,8 +138,8 @@ module _ {g : Layout} (F : Proper g) where
       → ((j : ℕ) → occurs j (b ∷ bs) ≤ 1)
       → suc (lastBlock os b bs .counter) ≡ g .sio
       → occurs f (b ∷ bs) ≡ 0
-      → lastBlock us b bs ≡ mkOverflow (g .sio) f (lastBlock os b bs .slots)
-      → overflowAt us f ≡ mkOverflow 0 (lastBlock os b bs .link) (padded (g .sio) (x ∷ []))
+      → lastBlock us b bs ≡ withFront (g .sio) f (lastBlock os b bs)
+      → overflowAt us f ≡ withSlot 0 x (emptyBlock g (lastBlock os b bs .link))
       → ((j : ℕ) → j ≢ lastOf b bs → j ≢ f → overflowAt us j ≡ overflowAt os j)
       → Tail g us b (bs ++ f ∷ []) (es ++ x ∷ []) d
   tail-extend os us b [] es d x f h dis full new e k rest =
@@ -156,13 +147,13 @@ module _ {g : Layout} (F : Proper g) where
         omega (arith, length-snoc es x),
         e ∙ rw (h .2, padded-append-le (g .sio) es (x ∷ []) (omega arith)),
         rw (drop-append-le (g .sio) es (x ∷ []) (omega arith), drop-of-length-le es {i = g .sio} (omega arith))
-            (omega arith, omega (arith, F .sio-low), k ∙ rw (h .2)),
+            (omega arith, omega (arith, F .sio-low), k ∙ rw (h .2, padded-append (g .sio) [] x (F .sio-low))),
       )
   tail-extend os us b (c ∷ cs) es d x f h dis full new e k rest = (
     omega (arith, length-snoc es x),
     rest b (not-last b c cs dis) (absent b f (c ∷ cs) new)
         ∙ h .1
-        ∙ ap (mkOverflow (g .sio) c) (sym (padded-append-le (g .sio) es (x ∷ []) (omega arith))),
+        ∙ ap (blockWith g (g .sio) c) (sym (padded-append-le (g .sio) es (x ∷ []) (omega arith))),
     rw (drop-append-le (g .sio) es (x ∷ []) (omega arith))
         (tail-extend os us c cs (drop (g .sio) es) d x f (h .2) (λ j. omega (arith, dis j)) full (omega arith) e k rest),
   )
@@ -172,7 +163,7 @@ module _ {g : Layout} (F : Proper g) where
       → ((j : ℕ) → occurs j (b ∷ c ∷ cs) ≤ 1)
       → lastBlock os c cs .counter ≡ 0
       → length es ≡ suc m
-      → overflowAt us (prevOf b c cs) ≡ mkOverflow (g .sio - 1) (lastBlock os c cs .link) (overflowAt os (prevOf b c cs) .slots)
+      → overflowAt us (prevOf b c cs) ≡ withFront (g .sio - 1) (lastBlock os c cs .link) (overflowAt os (prevOf b c cs))
       → ((j : ℕ) → j ≢ prevOf b c cs → j ≢ lastOf c cs → overflowAt us j ≡ overflowAt os j)
       → Tail g us b (butLast c cs) (take m es) d
   tail-drop os us b c [] es d m h dis single l e rest =
@@ -190,7 +181,7 @@ module _ {g : Layout} (F : Proper g) where
         omega (arith, h .2 .0, length-drop (g .sio) es),
         rest b (not-prev b c c₂ cs dis) (not-last b c (c₂ ∷ cs) dis)
             ∙ h .1
-            ∙ ap (mkOverflow (g .sio) c) (sym (padded-init-out (g .sio) es m (omega arith))),
+            ∙ ap (blockWith g (g .sio) c) (sym (padded-init-out (g .sio) es m (omega arith))),
         rw (drop-take (g .sio) m es)
             (tail-drop os us c c₂ cs (drop (g .sio) es) d (m - g .sio) (h .2) (λ j. omega (arith, dis j)) single k e rest),
       )
@@ -198,38 +189,38 @@ module _ {g : Layout} (F : Proper g) where
 -- A slot of the overflow part overwritten --------------------------------------------------------------------------------
 
 module _ (g : Layout) where
-  pub poke-else : (os : List Overflow) (bs : List ℕ) (q x j : ℕ) → occurs j bs ≡ 0
-      → overflowAt (pokeOverflow g os bs q x) j ≡ overflowAt os j
-  unfolding pokeOverflow
-  poke-else os [] q x j z = refl
-  poke-else os (b ∷ bs) q x j z =
+  pub store-else : (os : List Overflow) (bs : List ℕ) (q x j : ℕ) → occurs j bs ≡ 0
+      → overflowAt (storeOverflow g os bs q x) j ≡ overflowAt os j
+  unfolding storeOverflow
+  store-else os [] q x j z = refl
+  store-else os (b ∷ bs) q x j z =
       cases (ltb q (g .sio))
-      (λ e. rw e (set-there os b (poked (overflowAt os b) q x) j (λ p. absent b j bs z (sym p))))
-      (λ e. rw e (poke-else os bs (q - g .sio) x j (omega arith)))
+      (λ e. rw e (set-there os b (withSlot q x (overflowAt os b)) j (λ p. absent b j bs z (sym p))))
+      (λ e. rw e (store-else os bs (q - g .sio) x j (omega arith)))
 
-  pub poke-length : (os : List Overflow) (bs : List ℕ) (q x : ℕ) → length (pokeOverflow g os bs q x) ≡ length os
-  unfolding pokeOverflow
-  poke-length os [] q x = refl
-  poke-length os (b ∷ bs) q x =
-      cases (ltb q (g .sio)) (λ e. rw e (simp length-set)) (λ e. rw e (poke-length os bs (q - g .sio) x))
+  pub store-length : (os : List Overflow) (bs : List ℕ) (q x : ℕ) → length (storeOverflow g os bs q x) ≡ length os
+  unfolding storeOverflow
+  store-length os [] q x = refl
+  store-length os (b ∷ bs) q x =
+      cases (ltb q (g .sio)) (λ e. rw e (simp length-set)) (λ e. rw e (store-length os bs (q - g .sio) x))
 
-  pub tail-poke : (os : List Overflow) (b : ℕ) (bs es : List ℕ) (d q x : ℕ) → Tail g os b bs es d
+  pub tail-store : (os : List Overflow) (b : ℕ) (bs es : List ℕ) (d q x : ℕ) → Tail g os b bs es d
       → ((j : ℕ) → occurs j (b ∷ bs) ≤ 1)
       → ((j : ℕ) → 0 < occurs j (b ∷ bs) → j < length os)
       → q < length es
-      → Tail g (pokeOverflow g os (b ∷ bs) q x) b bs (set es q x) d
-  unfolding pokeOverflow
-  tail-poke os b [] es d q x h dis low l =
+      → Tail g (storeOverflow g os (b ∷ bs) q x) b bs (set es q x) d
+  unfolding storeOverflow
+  tail-store os b [] es d q x h dis low l =
       rw (lt-ltb q (g .sio) (omega arith)) (
         omega (arith, length-set es q x),
         omega (arith, length-set es q x),
-        set-here os b (poked (overflowAt os b) q x) (low b (occurs-head b []))
+        set-here os b (withSlot q x (overflowAt os b)) (low b (occurs-head b []))
             ∙ rw (h .2, length-set es q x, padded-set (g .sio) es q x l (omega arith)),
       )
-  tail-poke os b (c ∷ cs) es d q x h dis low l =
+  tail-store os b (c ∷ cs) es d q x h dis low l =
       cases (ltb q (g .sio))
       (λ e.
-      let v : Overflow = poked (overflowAt os b) q x in
+      let v : Overflow = withSlot q x (overflowAt os b) in
       rw e (
         omega (arith, length-set es q x),
         set-here os b v (low b (occurs-head b (c ∷ cs))) ∙ rw (h .1, padded-set (g .sio) es q x l (ltb-true q (g .sio) e)),
@@ -240,10 +231,10 @@ module _ (g : Layout) where
       let m : g .sio ≤ q = ltb-false q (g .sio) e in
       rw e (
         omega (arith, length-set es q x),
-        poke-else os (c ∷ cs) (q - g .sio) x b (omega (arith, dis b, occurs-head b []))
+        store-else os (c ∷ cs) (q - g .sio) x b (omega (arith, dis b, occurs-head b []))
             ∙ h .1
-            ∙ ap (mkOverflow (g .sio) c) (sym (padded-set-out (g .sio) es q x m)),
+            ∙ ap (blockWith g (g .sio) c) (sym (padded-set-out (g .sio) es q x m)),
         rw (drop-set-ge (g .sio) es q x m)
-            (tail-poke os c cs (drop (g .sio) es) d (q - g .sio) x (h .2) (λ j. omega (arith, dis j)) (λ j i. low j (omega arith))
+            (tail-store os c cs (drop (g .sio) es) d (q - g .sio) x (h .2) (λ j. omega (arith, dis j)) (λ j i. low j (omega arith))
             (omega (arith, length-drop (g .sio) es))),
       ))

@@ -1,6 +1,6 @@
 -- The parts of check's test: what holds of each element, "no entry twice" by counting, and the blocks and slots of all lists.
 use mathlib.Core.Path.{_≡_, refl, sym, ap, subst}
-use mathlib.Core.Bool.{Bool, true, false}
+use mathlib.Core.Bool.{true, false}
 use mathlib.Core.List.{List, [], _∷_}
 use mathlib.Core.Option.{Option}
 use Prim.Native.Nat.{ℕ, zero, suc, _<_}
@@ -8,25 +8,15 @@ use native.Mathlib.Omega.{arith}
 use lib.ListN.{length, getD}
 use lib.Dec.{eqb}
 use borrow.Author.Tests.{eq-eqb, eqb-true}
+use Rattle.laws.specs.Cases.{cases, never}
 use Rattle.settings.specs.declared.layout.Layout.{Layout}
-use Rattle.settings.specs.theory.Cases.{cases, both-true}
 use Rattle.table.specs.State.{Basic, Overflow, basicAt, entryOf}
 use Rattle.table.specs.Follow.{Seen, contentOf}
 use Rattle.table.specs.Take.{occurs}
 use Rattle.table.specs.Rebuilt.{slotsOf}
-use Rattle.table.specs.Check.{everyBelow, blocksOf, hasEntry, noEntryTwice, listSound, listsSound, occursInLists}
-use Rattle.plain_set.specs.theory.Count.{never, and-both, one, sum}
+use Rattle.table.specs.Check.{blocksOf, hasEntry, noEntryTwice, occursInLists}
+use Rattle.plain_set.specs.theory.Count.{one, sum}
 use Rattle.plain_set.specs.theory.Rep.{entries, Single}
-
-pub everyBelow-at : (n : ℕ) (f : ℕ → Bool) (j : ℕ) → everyBelow n f ≡ true → j < n → f j ≡ true
-everyBelow-at zero f j h l = absurd (omega arith)
-everyBelow-at (suc n) f zero h l = both-true (f 0) (everyBelow n (λ i. f (suc i))) h .0
-everyBelow-at (suc n) f (suc j) h l = everyBelow-at n (λ i. f (suc i)) j (both-true (f 0) (everyBelow n (λ i. f (suc i))) h .1) (omega arith)
-
-pub everyBelow-all : (n : ℕ) (f : ℕ → Bool) → ((j : ℕ) → j < n → f j ≡ true) → everyBelow n f ≡ true
-everyBelow-all zero f h = refl
-everyBelow-all (suc n) f h =
-    and-both (f 0) (everyBelow n (λ i. f (suc i))) (h 0 (omega arith)) (everyBelow-all n (λ i. f (suc i)) (λ j l. h (suc j) (omega arith)))
 
 module _ (g : Layout) where
   hasEntry-none : (e : ℕ) (es : List ℕ) → hasEntry g e es ≡ false → entries g e es ≡ 0
@@ -87,18 +77,3 @@ module _ (g : Layout) where
   pub occursInLists-sum : (j : ℕ) (bs : List Basic) (os : List Overflow) → occursInLists g j bs os ≡ sum (occurs j) (allBlocks bs os)
   occursInLists-sum j [] os = refl
   occursInLists-sum j (b ∷ bs) os = omega (arith, occursInLists-sum j bs os)
-
-  -- every list passes its test
-  pub listsSound-at : (bs : List Basic) (os : List Overflow) (i : ℕ) → listsSound g bs os ≡ true → i < length bs
-      → listSound g (basicAt bs i) os (contentOf g (basicAt bs i) os) ≡ true
-  listsSound-at [] os i h l = absurd (omega arith)
-  listsSound-at (b ∷ bs) os zero h l = both-true (listSound g b os (contentOf g b os)) (listsSound g bs os) h .0
-  listsSound-at (b ∷ bs) os (suc i) h l =
-      listsSound-at bs os i (both-true (listSound g b os (contentOf g b os)) (listsSound g bs os) h .1) (omega arith)
-
-  pub listsSound-all : (bs : List Basic) (os : List Overflow)
-      → ((i : ℕ) → i < length bs → listSound g (basicAt bs i) os (contentOf g (basicAt bs i) os) ≡ true) → listsSound g bs os ≡ true
-  listsSound-all [] os h = refl
-  listsSound-all (b ∷ bs) os h =
-      and-both (listSound g b os (contentOf g b os)) (listsSound g bs os) (h 0 (omega arith))
-      (listsSound-all bs os (λ i l. h (suc i) (omega arith)))

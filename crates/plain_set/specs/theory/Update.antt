@@ -9,22 +9,23 @@ use lib.ListN.{length, getD, set, drop, length-set}
 use lib.Seq.{getD-set-same, getD-set-other}
 use lib.Dec.{eqb, ltb}
 use borrow.Author.Tests.{eqb-true, eqb-false}
+use Rattle.laws.specs.Cases.{cases}
+use Rattle.laws.specs.Sums.{occurs-head}
 use Rattle.settings.specs.declared.layout.Layout.{Layout}
-use Rattle.settings.specs.theory.Cases.{cases}
-use Rattle.table.specs.State.{Basic, Overflow, State, mkBasic, mkOverflow, mkState, basicAt, overflowAt}
+use Rattle.table.specs.State.{Basic, Overflow, State, mkState, basicAt, overflowAt, emptyBasic, absentBlock}
 use Rattle.table.specs.Take.{occurs}
 use Rattle.table.specs.theory.Formed.{All, Fits}
 use Rattle.plain_set.specs.theory.Count.{one-le, sum, sum-set, sum-at, sum-two}
-use Rattle.plain_set.specs.theory.Blocks.{occurs-head, below}
+use Rattle.plain_set.specs.theory.Blocks.{below}
 use Rattle.plain_set.specs.theory.Rep.{Tail, Holds, Links, Chain, Rep}
 
 -- blocks after a store
 module _ (os : List Overflow) (l : ℕ) (v : Overflow) where
   pub set-here : l < length os → overflowAt (set os l v) l ≡ v
-  set-here h = getD-set-same os l v (mkOverflow 0 0 []) h
+  set-here h = getD-set-same os l v absentBlock h
 
   pub set-there : (j : ℕ) → j ≢ l → overflowAt (set os l v) j ≡ overflowAt os j
-  set-there j ne = getD-set-other os l j v (mkOverflow 0 0 []) ne
+  set-there j ne = getD-set-other os l j v absentBlock ne
 
 -- blocks after two stores, at p and at f
 module _ (os : List Overflow) (p f : ℕ) (v u : Overflow) where
@@ -124,7 +125,7 @@ module _ {g : Layout} {st : State} {T B : List (List ℕ)} {fs : List ℕ} (r : 
       here j z =
           rw (
             z,
-            getD-set-same (st .basic) i (w .block) (mkBasic 0 0 0) (omega (arith, r .basics)),
+            getD-set-same (st .basic) i (w .block) emptyBasic (omega (arith, r .basics)),
             getD-set-same B i cs [] (omega (arith, r .blocks)),
             getD-set-same T i es [] (omega (arith, r .lists)),
           )
@@ -133,7 +134,7 @@ module _ {g : Layout} {st : State} {T B : List (List ℕ)} {fs : List ℕ} (r : 
       there : (j : ℕ) → j < g .lists → j ≢ i
           → Holds g (basicAt (set (st .basic) i (w .block)) j) (w .us) (getD (set B i cs) j []) (getD (set T i es) j [])
       there j l ne =
-          rw (getD-set-other (st .basic) i j (w .block) (mkBasic 0 0 0) ne, getD-set-other B i j cs [] ne, getD-set-other T i j es [] ne)
+          rw (getD-set-other (st .basic) i j (w .block) emptyBasic ne, getD-set-other B i j cs [] ne, getD-set-other T i j es [] ne)
           (holds-frame g (st .overflow) (w .us) (basicAt (st .basic) j) (getD B j []) (getD T j [])
           (λ n m. w .others n (omega (arith, r .once n, one-le (ltb n (g .nob)), two n)))
           (r .each j l))

@@ -9,12 +9,12 @@ use native.Mathlib.Nat.{div-eq-of-lt, div-eq-of-lt-le}
 use lib.ListN.{length, getD}
 use lib.Dec.{eqb, ltb}
 use borrow.Author.Tests.{ltb-true, ltb-false}
+use Rattle.laws.specs.Folds.{sumBelow}
+use Rattle.laws.specs.Cases.{cases}
+use Rattle.laws.specs.Tests.{eqb-iff}
 use Rattle.settings.specs.declared.layout.Layout.{Layout}
 use Rattle.settings.specs.Proper.{Proper}
-use Rattle.settings.specs.theory.Cases.{cases}
 use Rattle.table.specs.State.{Basic, Overflow}
-use Rattle.table.specs.Arrays.{sumBelow}
-use Rattle.plain_set.specs.theory.Count.{eqb-iff}
 use Rattle.plain_set.specs.theory.Rep.{Holds}
 use Rattle.plain_set.specs.theory.Follow.{holds-length, holds-more}
 

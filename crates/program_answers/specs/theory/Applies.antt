@@ -1,6 +1,6 @@
 -- A command for a key comes to what the call with the key answers; a text that is read as the key asks for the same.
 use mathlib.Core.Path.{_≡_, refl, sym, ap, ap₂, _∙_}
-use mathlib.Core.Bool.{true, false, cond}
+use mathlib.Core.Bool.{true}
 use mathlib.Core.List.{List}
 use Prim.Native.Nat.{ℕ, _^_, _≤_, _<_}
 use native.Mathlib.Omega.{arith}
@@ -15,7 +15,7 @@ use Rattle.settings.specs.declared.layout.Layout.{Layout}
 use Rattle.settings.specs.declared.refusal.Refusal.{Refusal}
 use Rattle.table.specs.Decode.{decode}
 use Rattle.table.specs.Find.{findIn}
-use Rattle.table.specs.Calls.{findAnswer, addAnswer, addBytes, deleteAnswer, deleteBytes}
+use Rattle.table.specs.Calls.{findAnswer}
 use Rattle.table.specs.theory.Opened.{opened-on, keyed-on}
 use Rattle.table.specs.declared.answers.FindAnswer.{FindAnswer}
 use Rattle.table.specs.declared.answers.FindAnswer.the-variants as finding
@@ -23,10 +23,7 @@ use Rattle.table.specs.declared.answers.AddAnswer.{AddAnswer}
 use Rattle.table.specs.declared.answers.AddAnswer.the-variants as adding
 use Rattle.table.specs.declared.answers.DeleteAnswer.{DeleteAnswer}
 use Rattle.table.specs.declared.answers.DeleteAnswer.the-variants as deleting
-use Rattle.table_add.specs.Adds.{AddCall}
-use Rattle.table_delete.specs.DeleteSteps.{DeleteCall}
 use Rattle.text_read.specs.Answers.{readingOf}
-use Rattle.text_read.specs.declared.Parsed.{Parsed}
 use Rattle.text_read.specs.declared.Parsed.the-variants as parsed
 use Rattle.text_calls.specs.TextCalls.{byReading, withText, findTextAnswer, addTextAnswer, addTextBytes, deleteTextAnswer, deleteTextBytes}
 use Rattle.program_commands.specs.declared.command.Op.{Op}
@@ -37,6 +34,8 @@ use Rattle.program_answers.specs.Steps.{keyOutcome, keyBytes, Applied}
 use Rattle.program_answers.specs.theory.Program.{program-legal, program-layout}
 use Rattle.program_answers.specs.declared.outcome.Outcome.{Outcome}
 use Rattle.program_answers.specs.declared.outcome.Outcome.the-variants as outcome
+use Rattle.table_add.specs.Call.{AddCall}
+use Rattle.table_delete.specs.Call.{DeleteCall}
 
 -- The calls with a key -----------------------------------------------------------------------------------------------------
 

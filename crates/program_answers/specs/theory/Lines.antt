@@ -1,20 +1,18 @@
 -- What a line comes to, by what was parsed and read of it.
-use mathlib.Core.Path.{_≡_, refl, sym, ap, _∙_}
-use mathlib.Core.Bool.{true, false, cond}
+use mathlib.Core.Path.{_≡_, refl, sym, _∙_}
+use mathlib.Core.Bool.{true, false}
 use mathlib.Core.List.{List}
 use mathlib.Core.Option.{Option, none, some}
 use Prim.Native.Nat.{ℕ, _≤_, _<_}
 use native.Mathlib.Omega.{arith}
 use lib.ListN.{length}
-use Rattle.settings.specs.theory.Cases.{cases}
+use Rattle.laws.specs.Cases.{cases}
 use Rattle.keys.specs.declared.Key.{Key}
 use Rattle.settings.specs.declared.refusal.Refusal.{Refusal}
 use Rattle.settings.specs.declared.refusal.Refusal.the-variants as refusal
 use Rattle.text_read.specs.Reading.{groupsOf}
 use Rattle.text_read.specs.Answers.{keyed, readingOf}
-use Rattle.text_read.specs.declared.Parsed.{Parsed}
 use Rattle.text_read.specs.declared.Parsed.the-variants as parsed
-use Rattle.text_write.specs.Writing.{written}
 use Rattle.program_commands.specs.Command.{Command, mkCommand, commandOf}
 use Rattle.program_commands.specs.Steps.{spaceless, addressIn, requested, Asks, unreadFor}
 use Rattle.program_commands.specs.theory.Long.{long-none}

@@ -7,7 +7,7 @@ use native.Mathlib.Omega.{arith}
 use lib.ListN.{length, take, drop}
 use lib.Dec.{eqb, eqb·zero-suc, eqb·suc-suc}
 use borrow.Author.Tests.{eqb-true, eqb-false}
-use Rattle.settings.specs.theory.Cases.{cases}
+use Rattle.laws.specs.Cases.{cases}
 use Rattle.text_read.specs.Reading.{onFirst}
 use Rattle.program_lines.specs.Ends.{before}
 use Rattle.program_lines.specs.theory.Ends.{before-le}

@@ -1,21 +1,17 @@
 -- The laws of where a byte stands, and where a line ends.
-use mathlib.Core.Path.{_≡_, refl}
+use mathlib.Core.Path.{_≡_}
 use mathlib.Core.List.{List, [], _∷_}
-use mathlib.Core.Bool.{Bool, true, false, not, _&&_, and-eq-true-iff}
+use mathlib.Core.Bool.{Bool, true, not, _&&_, and-eq-true-iff}
 use Prim.Native.Nat.{ℕ, _+_, _≤_, _<_}
-use native.Mathlib.Numerals.{add-one}
 use native.Mathlib.Omega.{arith}
 use lib.ListN.{length, getD, drop, length-drop, drop-of-length-le}
 use lib.Seq.{drop-cons}
 use lib.Dec.{eqb, ltb, lit≤}
 use borrow.Author.Tests.{eq-eqb, ne-eqb, eqb-false, not-true, lt-ltb, le-ltb, ltb-true, ltb-false}
+use Rattle.laws.specs.Cases.{cases}
+use Rattle.laws.specs.Lists.{drop-next}
 use Rattle.program_lines.specs.Ends.{before, firstFrom, lineFeed, spanAt, afterAt}
 use Rattle.program_lines.specs.declared.Span.the-variants.{Line, Rest}
-
--- a test is true or false, and each case may use that it is
-cases : {A : Type 0} (t : Bool) → (t ≡ true → A) → (t ≡ false → A) → A
-cases true f g = f refl
-cases false f g = g refl
 
 -- ---- a byte that is b, one that is not, and past the end
 
@@ -26,7 +22,7 @@ module _ (b : ℕ) (s : List ℕ) (i : ℕ) where
 
   pub miss : i < length s → (getD s i 0 ≡ b → ⊥) → firstFrom b s i ≡ firstFrom b s (i + 1)
   unfolding before firstFrom
-  miss h n = rw (add-one, drop-cons s i 0 h) (simp (ne-eqb (getD s i 0) b n) (omega arith))
+  miss h n = rw (drop-next s i 0 h) (simp (ne-eqb (getD s i 0) b n) (omega arith))
 
   pub over : length s ≤ i → firstFrom b s i ≡ i
   unfolding before firstFrom

@@ -1,6 +1,5 @@
 -- The line that `next_in` found, or what is left where it found none.
 use mathlib.Core.Path.{sym, _∙_}
-use native.Mathlib.Omega.{arith}
 use denote.Ref.{now}
 use borrow.Author.Needs.{needs}
 use Rattle.program_stream.proofs.one_turn.Statement.{statement}

@@ -6,8 +6,8 @@ use Prim.Native.Nat.{ℕ, zero, suc, _+_, _≤_, _<_}
 use native.Mathlib.Nat.{le-refl, eq-or-lt-of-le}
 use native.Mathlib.Omega.{arith}
 use lib.Arith.{lt-of-le-ne}
+use Rattle.laws.specs.Cases.{cases}
 use Rattle.settings.specs.Least.{leastFrom}
-use Rattle.settings.specs.theory.Cases.{cases}
 
 module _ (P : ℕ → Bool) where
   apart : (k m : ℕ) → P k ≡ false → P m ≡ true → k ≡ m → ⊥

@@ -5,12 +5,12 @@ use Prim.Native.Nat.{ℕ, _*_, _≤_, _<_}
 use native.Mathlib.Omega.{arith}
 use lib.Dec.{leb, ltb}
 use borrow.Author.Tests.{leb-true, ltb-true, le-leb, lt-ltb}
+use Rattle.laws.specs.Cases.{cases, both-true}
 use Rattle.settings.specs.Prime.{primeAbove}
 use Rattle.settings.specs.Sizes.{slotBits, linkBits, tableBytes}
 use Rattle.settings.specs.Legal.{inRanges, fits, belowPrime, legal, Ranges, Legal}
 use Rattle.settings.specs.Layout.{layoutOf}
 use Rattle.settings.specs.Made.{laidOf}
-use Rattle.settings.specs.theory.Cases.{cases, both-true}
 use Rattle.settings.specs.declared.settings.Settings.{Settings}
 use Rattle.settings.specs.declared.layout.Layout.{Layout}
 use Rattle.settings.specs.declared.layout.Laid.the-variants as laid

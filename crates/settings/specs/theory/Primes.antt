@@ -9,10 +9,10 @@ use native.Mathlib.Omega.{arith}
 use lib.Dec.{T, leb, ltb, eqb, leb→le}
 use lib.ListN.{getD}
 use borrow.Author.Tests.{ltb-true, ltb-false, leb-true, le-leb, ne-eqb, eqb-true, eqb-false, not-true}
+use Rattle.laws.specs.Cases.{cases, both-true, never}
+use Rattle.laws.specs.Tables.{at}
 use Rattle.settings.specs.Prime.{noneDivides, isPrime, primeAbove}
-use Rattle.settings.specs.theory.Cases.{cases, both-true}
 use Rattle.settings.specs.theory.Least.{least-from, least-le, least-at}
-use Rattle.settings.specs.theory.Tables.{at}
 
 T-true : (t : Bool) → T t → t ≡ true
 T-true true h = refl
@@ -78,7 +78,7 @@ undivided-more d n none t e l h z =
     ⊎-elim (λ q. eqb-false (n % d) 0 t (rw q at z)) (λ q. none e l q z) (eq-or-lt-of-le k)
 
 trial-means : (turns n d : ℕ) → passesTrial turns n d ≡ true → Undivided d n → Undivided n n
-trial-means zero n d t none = absurd (true≢false (sym t))
+trial-means zero n d t none = never t
 trial-means (suc turns) n d t none =
     cases (ltb n (d * d)) (λ e. past-root n d (ltb-true n (d * d) e) none)
     (λ e.

@@ -7,6 +7,7 @@ use native.Mathlib.Omega.{arith}
 use lib.Dec.{eqb, ltb}
 use lib.ListN.{length}
 use borrow.Author.Tests.{ltb-true, eqb-true, eq-eqb, ne-eqb, lt-ltb}
+use Rattle.laws.specs.Sums.{occurs-head}
 use Rattle.settings.specs.declared.layout.Layout.{Layout}
 use Rattle.table.specs.State.{Overflow, State, overflowAt}
 use Rattle.table.specs.Follow.{cons?}
@@ -15,7 +16,7 @@ use Rattle.table.specs.Check.{chainFrom, freeChain}
 use Rattle.table.specs.Sound.{Linked, Chain}
 use Rattle.table.specs.theory.Formed.{All, all-nil, all-cons}
 use Rattle.table.specs.theory.FormedCalls.{either, Holds, holds-none, holds-some, Below}
-use Rattle.table.specs.theory.Occurs.{occurs-head, few-below}
+use Rattle.table.specs.theory.Occurs.{few-below}
 
 module _ (g : Layout) where
   -- blocks of the table from f to one that links to itself
@@ -65,8 +66,8 @@ module _ (g : Layout) where
         lt-ltb f (g .nob) h,
         ne-eqb (overflowAt os f .link) f (λ q.
             let e : c ≡ f = sym (l .0) ∙ q in
-            let again : occurs f (c ∷ cs) ≡ suc (occurs f cs) = rw e (occurs-head f cs) in
-            omega (arith, d f h, occurs-head f (c ∷ cs))),
+            let again : 0 < occurs f (c ∷ cs) = rw e (occurs-head f cs) in
+            omega (arith, d f h, occurs-head f [])),
         l .0,
         linked-chain n os c cs (l .1) (l .2) (λ j k. omega (arith, d j k)) (omega arith),
       )

@@ -1,8 +1,8 @@
 -- What a change of bits within one block, or of the free start, does to the decoded state.
 use mathlib.Core.Path.{_≡_}
 use mathlib.Core.Logic.{_≢_, _⊎_, inl, inr, ⊎-elim}
-use mathlib.Core.List.{List, []}
-use Prim.Native.Nat.{ℕ, zero, suc, _+_, _-_, _*_, _^_, _≤_, _<_}
+use mathlib.Core.List.{List}
+use Prim.Native.Nat.{ℕ, _+_, _*_, _^_, _≤_, _<_}
 use native.Mathlib.Omega.{arith}
 use native.Mathlib.Nat.{mul-le-mul-right}
 use native.Mathlib.Decide.{decLe}
@@ -10,23 +10,13 @@ use lib.ListN.{set}
 use Rattle.bits.specs.Field.{field}
 use Rattle.settings.specs.Proper.{Proper}
 use Rattle.settings.specs.declared.layout.Layout.{Layout}
-use Rattle.table.specs.State.{mkBasic, mkOverflow, mkState, basicAt, overflowAt, restBits}
+use Rattle.table.specs.State.{mkState, basicAt, overflowAt, restBits, emptyBasic, absentBlock}
 use Rattle.table.specs.Decode.{blockAt, basicSlots, linkAt, overflowSlots, readBasic, readOverflow, decode}
+use Rattle.table.specs.Table.{Only}
 use Rattle.table.specs.theory.Arrays.{getD-tab, tab-ext, tab-set}
-use Rattle.table.specs.theory.Decode.{Only, only-field}
-
--- a field that holds a number above 0 has bits
-some-bits : (x n : ℕ) → 0 < x → x < 2 ^ n → 0 < n
-some-bits x zero p q = absurd (omega arith)
-some-bits x (suc n) p q = omega arith
+use Rattle.table.specs.theory.Decode.{only-field}
 
 module _ (g : Layout) (F : Proper g) where
-  pub basic-some : 0 < g .basic .counter
-  basic-some = some-bits (suc (g .sib)) (g .basic .counter) (omega arith) (F .basic-holds)
-
-  pub over-some : 0 < g .overflow .counter
-  over-some = some-bits (g .sio) (g .overflow .counter) (F .sio-low) (F .overflow-holds)
-
   -- places
   pub basic-ends : (i : ℕ) → i < g .lists → blockAt (g .basic) i + g .basic .bits ≤ g .overflow .start
   unfolding blockAt
@@ -61,14 +51,6 @@ module _ (g : Layout) (F : Proper g) where
   -- no block ends past the largest table
   pub bits-high : g .bits ≤ 2 ^ 27
   bits-high = omega (arith, F .bytes-is, F .bytes-high)
-
-  pub basic-within : (i : ℕ) → i < g .lists → blockAt (g .basic) (suc i) ≤ 2 ^ 27
-  unfolding blockAt
-  basic-within i h = omega (arith, mul-le-mul-right (g .basic .bits) h, F .start-is, start-high, bits-high)
-
-  pub over-within : (j : ℕ) → j < g .nob → blockAt (g .overflow) (suc j) ≤ 2 ^ 27
-  unfolding blockAt
-  over-within j h = omega (arith, mul-le-mul-right (g .overflow .bits) h, F .bits-is, bits-high)
 
   -- a block is as before where nothing of it changed
   pub same-basic : (t u : List ℕ) (a n i : ℕ) → Only t u a n → (blockAt (g .basic) i + g .basic .bits ≤ a) ⊎ (a + n ≤ blockAt (g .basic) i) → readBasic g u i ≡ readBasic g t i
@@ -142,8 +124,8 @@ module _ (g : Layout) (F : Proper g) where
   -- what stands at a number in range
   pub at-over : (t : List ℕ) (j : ℕ) → j < g .nob → overflowAt (decode g t .overflow) j ≡ readOverflow g t j
   unfolding decode
-  at-over t j h = getD-tab (g .nob) (readOverflow g t) j (mkOverflow 0 0 []) h
+  at-over t j h = getD-tab (g .nob) (readOverflow g t) j absentBlock h
 
   pub at-basic : (t : List ℕ) (i : ℕ) → i < g .lists → basicAt (decode g t .basic) i ≡ readBasic g t i
   unfolding decode
-  at-basic t i h = getD-tab (g .lists) (readBasic g t) i (mkBasic 0 0 0) h
+  at-basic t i h = getD-tab (g .lists) (readBasic g t) i emptyBasic h

@@ -2,7 +2,7 @@
 use mathlib.Core.Path.{_≡_, refl, sym, ap, ap₂, _∙_}
 use mathlib.Core.Logic.{_⊎_, inl, inr, ⊎-elim}
 use mathlib.Core.List.{List, map}
-use Prim.Native.Nat.{ℕ, _+_, _-_, _*_, _^_, _≤_, _<_}
+use Prim.Native.Nat.{ℕ, _+_, _*_, _^_, _≤_}
 use native.Mathlib.Omega.{arith}
 use native.Mathlib.Nat.{zero-add}
 use native.Mathlib.Decide.{decLe}
@@ -17,6 +17,7 @@ use Rattle.settings.specs.declared.layout.Layout.{Layout}
 use Rattle.table.specs.Arrays.{tabulate, packed}
 use Rattle.table.specs.State.{restBits}
 use Rattle.table.specs.Decode.{blockAt, basicSlots, linkAt, overflowSlots, readBasic, readOverflow, decode, packBasic, packOverflow, image, written}
+use Rattle.table.specs.Table.{Only}
 use Rattle.table.specs.theory.Arrays.{tab-ext, map-tab, fields-packed}
 
 module _ (g : Layout) (F : Proper g) where
@@ -63,12 +64,6 @@ module _ (g : Layout) (F : Proper g) where
           ∙ ap (packed (g .overflow .bits))
           (tab-ext (g .nob) (λ i. packOverflow g (readOverflow g t i)) (λ i. field t (g .overflow .start + i * g .overflow .bits) (g .overflow .bits)) (λ i l. sym (pack-readO t i))
           ∙ sym (map-tab (g .nob) (packOverflow g) (readOverflow g t)))
-
--- u is t with nothing changed outside the n bits from a on
-pub record Only (t u : List ℕ) (a n : ℕ) : Type 0 where
-  pub long : length u ≡ length t
-  pub bytes : Bytes t → Bytes u
-  pub out : (j : ℕ) → (j < a) ⊎ (a + n ≤ j) → bitAt u j ≡ bitAt t j
 
 pub put-only : (t : List ℕ) (a n v : ℕ) → a + n ≤ 8 * length t → Only t (putField t a n v) a n
 put-only t a n v l = record { long = put-length t a n v; bytes = put-bytes t a n v; out = put-bit-out t a n v l }

@@ -1,34 +1,20 @@
--- What tests tell that run through a list, or through the numbers below a bound: both ways.
+-- What tests tell that run through a list: both ways.
 use mathlib.Core.Path.{_≡_, refl, sym}
 use mathlib.Core.Logic.{_≢_}
-use mathlib.Core.Bool.{Bool, true, false, true≢false, _&&_}
+use mathlib.Core.Bool.{Bool, true, false, true≢false}
 use mathlib.Core.List.{List, [], _∷_}
 use Prim.Native.Nat.{ℕ, zero, suc, _≤_, _<_}
 use native.Mathlib.Omega.{arith}
 use lib.Dec.{eqb}
 use lib.ListN.{length, getD, drop}
 use borrow.Author.Tests.{eqb-true, eqb-false, eq-eqb, ne-eqb}
+use Rattle.laws.specs.Folds.{every, allZero}
+use Rattle.laws.specs.Cases.{cases, both-true, true-both, never}
 use Rattle.settings.specs.declared.layout.Layout.{Layout}
-use Rattle.settings.specs.theory.Cases.{cases, both-true}
-use Rattle.table.specs.State.{entryOf}
+use Rattle.table.specs.State.{entryOf, Basic, Overflow, basicAt}
 use Rattle.table.specs.Take.{occurs}
-use Rattle.table.specs.Check.{every, everyBelow, allZero, hasEntry, noEntryTwice}
-
--- ---- two tests
-
-pub true-both : {a b : Bool} → a ≡ true → b ≡ true → (a && b) ≡ true
-true-both p q = rw (p, q)
-
--- ---- a test of each number below n
-
-pub below-at : (n : ℕ) (f : ℕ → Bool) (j : ℕ) → everyBelow n f ≡ true → j < n → f j ≡ true
-below-at zero f j e h = absurd (omega arith)
-below-at (suc n) f zero e h = both-true (f 0) (everyBelow n (λ i. f (suc i))) e .0
-below-at (suc n) f (suc j) e h = below-at n (λ i. f (suc i)) j (both-true (f 0) (everyBelow n (λ i. f (suc i))) e .1) (omega arith)
-
-pub below-all : (n : ℕ) (f : ℕ → Bool) → ((j : ℕ) → j < n → f j ≡ true) → everyBelow n f ≡ true
-below-all zero f h = refl
-below-all (suc n) f h = true-both (h 0 (omega arith)) (below-all n (λ i. f (suc i)) (λ j l. h (suc j) (omega arith)))
+use Rattle.table.specs.Check.{hasEntry, noEntryTwice, listSound, listsSound}
+use Rattle.table.specs.Follow.{contentOf}
 
 -- ---- a test of each number that stands in a list
 
@@ -63,14 +49,14 @@ zeros-all (x ∷ xs) (suc n) h = zeros-all xs n (λ k l. h (suc k) (omega arith)
 -- ---- no entry twice
 
 module _ (g : Layout) where
-  has-at : (e : ℕ) (xs : List ℕ) (q : ℕ) → hasEntry g e xs ≡ false → q < length xs → entryOf g (getD xs q 0) ≢ e
+  pub has-at : (e : ℕ) (xs : List ℕ) (q : ℕ) → hasEntry g e xs ≡ false → q < length xs → entryOf g (getD xs q 0) ≢ e
   has-at e [] q t h = absurd (omega arith)
   has-at e (x ∷ xs) zero t h =
       cases (eqb (entryOf g x) e) (λ c. absurd (true≢false (rw c at t))) (λ c. eqb-false (entryOf g x) e c)
   has-at e (x ∷ xs) (suc q) t h =
       cases (eqb (entryOf g x) e) (λ c. absurd (true≢false (rw c at t))) (λ c. has-at e xs q (rw c at t) (omega arith))
 
-  has-none : (e : ℕ) (xs : List ℕ) → ((q : ℕ) → q < length xs → entryOf g (getD xs q 0) ≢ e) → hasEntry g e xs ≡ false
+  pub has-none : (e : ℕ) (xs : List ℕ) → ((q : ℕ) → q < length xs → entryOf g (getD xs q 0) ≢ e) → hasEntry g e xs ≡ false
   has-none e [] h = refl
   has-none e (x ∷ xs) h =
       rw (ne-eqb (entryOf g x) e (h 0 (omega arith))) (has-none e xs (λ q l. h (suc q) (omega arith)))
@@ -80,11 +66,11 @@ module _ (g : Layout) where
   single-at (x ∷ xs) p zero t h l = absurd (omega arith)
   single-at (x ∷ xs) zero (suc q) t h l =
       cases (hasEntry g (entryOf g x) xs)
-      (λ c. absurd (true≢false (sym (rw c at t))))
+      (λ c. never (rw c at t))
       (λ c. λ d. has-at (entryOf g x) xs q c (omega arith) (sym d))
   single-at (x ∷ xs) (suc p) (suc q) t h l =
       cases (hasEntry g (entryOf g x) xs)
-      (λ c. absurd (true≢false (sym (rw c at t))))
+      (λ c. never (rw c at t))
       (λ c. single-at xs p q (rw c at t) (omega arith) (omega arith))
 
   pub single-all : (xs : List ℕ)
@@ -93,3 +79,16 @@ module _ (g : Layout) where
   single-all (x ∷ xs) h =
       rw (has-none (entryOf g x) xs (λ q l d. h 0 (suc q) (omega arith) (omega arith) (sym d)))
       (single-all xs (λ p q l m. h (suc p) (suc q) (omega arith) (omega arith)))
+
+  -- ---- the lists one by one, by their numbers
+
+  pub lists-at : (bs : List Basic) (os : List Overflow) (i : ℕ) → listsSound g bs os ≡ true → i < length bs
+      → listSound g (basicAt bs i) os (contentOf g (basicAt bs i) os) ≡ true
+  lists-at [] os i e h = absurd (omega arith)
+  lists-at (b ∷ bs) os zero e h = both-true (listSound g b os (contentOf g b os)) (listsSound g bs os) e .0
+  lists-at (b ∷ bs) os (suc i) e h = lists-at bs os i (both-true (listSound g b os (contentOf g b os)) (listsSound g bs os) e .1) (omega arith)
+
+  pub lists-all : (bs : List Basic) (os : List Overflow) → ((i : ℕ) → i < length bs → listSound g (basicAt bs i) os (contentOf g (basicAt bs i) os) ≡ true)
+      → listsSound g bs os ≡ true
+  lists-all [] os h = refl
+  lists-all (b ∷ bs) os h = true-both (h 0 (omega arith)) (lists-all bs os (λ i l. h (suc i) (omega arith)))

@@ -7,7 +7,7 @@ use lib.ListN.{length, getD, take, set, length-set}
 use Rattle.bits.specs.theory.Fields.{field-lt}
 use Rattle.settings.specs.declared.layout.Layout.{Layout}
 use Rattle.table.specs.Arrays.{tabulate}
-use Rattle.table.specs.State.{Basic, Overflow, State, mkBasic, mkOverflow, basicAt, overflowAt, restBits}
+use Rattle.table.specs.State.{Basic, Overflow, State, basicAt, overflowAt, restBits, emptyBasic, absentBlock}
 use Rattle.table.specs.Decode.{blockAt, basicSlots, linkAt, overflowSlots, readBasic, readOverflow, decode}
 use Rattle.table.specs.theory.Arrays.{length-tab}
 
@@ -92,10 +92,10 @@ module _ (g : Layout) where
 
   -- a block by its number
   pub basic-fits : {st : State} → Formed st → (i : ℕ) → i < g .lists → BasicFits (basicAt (st .basic) i)
-  basic-fits f i h = each-at (f .basic) (mkBasic 0 0 0) i h
+  basic-fits f i h = each-at (f .basic) emptyBasic i h
 
   pub overflow-fits : {st : State} → Formed st → (j : ℕ) → j < g .nob → OverflowFits (overflowAt (st .overflow) j)
-  overflow-fits f j h = each-at (f .overflow) (mkOverflow 0 0 []) j h
+  overflow-fits f j h = each-at (f .overflow) absentBlock j h
 
   -- what bits are decoded to is formed, whatever they are
   pub read-basic : (t : List ℕ) (i : ℕ) → BasicFits (readBasic g t i)
@@ -124,3 +124,11 @@ module _ (g : Layout) where
         basic = each-tab (readBasic g t) (λ i h. read-basic t i);
         overflow = each-tab (readOverflow g t) (λ j h. read-overflow t j);
       }
+
+module _ (g : Layout) (t : List ℕ) where
+  -- as many blocks are decoded as there are
+  pub basics : length (decode g t .basic) ≡ g .lists
+  basics = decode-formed g t .basic .long
+
+  pub overflows : length (decode g t .overflow) ≡ g .nob
+  overflows = decode-formed g t .overflow .long

@@ -1,44 +1,40 @@
 -- The calls keep a state formed, sound or not: every field that they write fits its bits.
-use mathlib.Core.Path.{_≡_, refl, ap, subst}
+use mathlib.Core.Path.{_≡_, refl, subst}
 use mathlib.Core.Bool.{Bool, true, false, cond}
 use mathlib.Core.List.{List, [], _∷_}
 use mathlib.Core.Option.{Option, none, some}
-use Prim.Native.Nat.{ℕ, zero, suc, _+_, _-_, _*_, _/_, _%_, _^_, _≤_, _<_}
-use native.Mathlib.Nat.{mod-lt}
+use Prim.Native.Nat.{ℕ, zero, suc, _-_, _^_, _≤_, _<_}
 use native.Mathlib.Omega.{arith}
 use lib.Dec.{eqb, ltb}
-use lib.ListN.{length, set}
-use lib.Pow.{pow-pos, shr-lt}
+use lib.ListN.{length}
+use lib.Pow.{pow-pos}
 use borrow.Author.Tests.{ltb-true, ltb-false, eqb-false}
 use Rattle.settings.specs.Proper.{Proper}
+use Rattle.laws.specs.Cases.{cases}
 use Rattle.settings.specs.declared.layout.Layout.{Layout}
-use Rattle.table.specs.Arrays.{unpacked, padded}
-use Rattle.table.specs.State.{Basic, Overflow, State, mkBasic, mkOverflow, basicAt, overflowAt, restBits, unpack, headOf, restOf, slotOf}
-use Rattle.table.specs.Follow.{lastOf, prevOf, Seen, cons?, follow, gather, contentOver, content}
+use Rattle.settings.specs.declared.refusal.Refusal.{Refusal}
+use Rattle.table.specs.State.{Basic, Overflow, State, absentBlock, basicAt, overflowAt, restBits, slotOf}
+use Rattle.table.specs.Updates.{withFront, withBasicFront, overBasic, overOverflow}
+use Rattle.table.specs.Follow.{lastOf, prevOf, Seen, cons?, follow, gather, contentOver, content, goOn, stepAt}
 use Rattle.table.specs.Find.{position, isHeld, labelAt, comparedIn}
-use Rattle.table.specs.Take.{Done, damage, noBlock, done, occurs, nextFree, taking, linkFree}
-use Rattle.table.specs.Add.{append, Adding, appended, addSeen, addIn}
-use Rattle.table.specs.Delete.{pokeOverflow, poke, shrink, Deleting, shrunk, deleteSeen, deleteIn}
+use Rattle.table.specs.Take.{occurs, nextFree, taking, freed}
+use Rattle.table.specs.Add.{extended, append, addSeen, addIn}
+use Rattle.table.specs.Delete.{priorOf, handedBack, shrinkAt, cannotFree, shrink, deleteSeen, deleteIn}
 use Rattle.table.specs.New.{newOverflow, newState}
-use Rattle.table.specs.theory.Formed.{
-  All,
-  all-nil,
-  all-cons,
-  all-getD,
-  all-take,
-  all-append,
-  Each,
-  each-at,
-  each-set,
-  each-tab,
-  Fits,
-  BasicFits,
-  OverflowFits,
-  Formed,
-  basic-fits,
-  overflow-fits,
-}
-use Rattle.table.specs.theory.Written.{join-fits, packed-fits}
+use Rattle.table.specs.Done.{Done, damage, noBlock, done, Answered, answered}
+use Rattle.table.specs.Store.{storeOverflow, storeAt}
+use Rattle.table.specs.theory.Formed.{All, all-nil, all-cons, all-getD, all-take, all-append, Each, each-at, each-set, each-tab, Fits, OverflowFits, Formed, basic-fits, overflow-fits}
+use Rattle.table.specs.theory.Written.{join-fits}
+use Rattle.table.specs.declared.answers.AddAnswer.{AddAnswer}
+use Rattle.table.specs.declared.answers.AddAnswer.the-variants as adding
+use Rattle.table.specs.declared.answers.DeleteAnswer.{DeleteAnswer}
+use Rattle.table.specs.declared.answers.DeleteAnswer.the-variants as deleting
+use Rattle.table.specs.theory.FormedUpdates.{unpack-each, head-fits, rest-fits, formed-free, formed-basic, formed-overflow, counter-fits, link-fits, slot-fits, empty-fits, front-fits, body-fits, own-fits, block-link, block-free}
+use Rattle.table.specs.Table.{Within}
+use Rattle.table.specs.declared.step.Before.{Before}
+use Rattle.table.specs.declared.step.Before.the-variants as prior
+use Rattle.table.specs.declared.step.Step.{Step}
+use Rattle.table.specs.declared.step.Step.the-variants.{Last, Further, Damage}
 
 -- ---- what holds of a result, whichever it is
 
@@ -65,31 +61,12 @@ pub data Ends (P : State → Type 0) : Done → Type 0 where
   ends-full : Ends P noBlock
   ends-done : {u : State} → P u → Ends P (done u)
 
--- ---- rows
-
-pub unpacked-each : (w n v : ℕ) → Each (Fits w) n (unpacked w n v)
-unpacked-each w zero v = record { long = refl; all = all-nil }
-unpacked-each w (suc n) v =
-    let r = unpacked-each w n (v % 2 ^ (n * w)) in
-    record { long = ap suc (r .long); all = all-cons (mod-lt (v / 2 ^ (n * w)) (pow-pos w)) (r .all) }
-
-pub padded-each : (w n : ℕ) {es : List ℕ} → All (Fits w) es → Each (Fits w) n (padded n es)
-padded-each w zero ps = record { long = refl; all = all-nil }
-padded-each w (suc n) all-nil =
-    let r = padded-each w n all-nil in
-    record { long = ap suc (r .long); all = all-cons (pow-pos w) (r .all) }
-padded-each w (suc n) (all-cons p ps) =
-    let r = padded-each w n ps in
-    record { long = ap suc (r .long); all = all-cons p (r .all) }
+-- ---- the last of a list
 
 module _ {P : ℕ → Type 0} where
   pub last-all : {c : ℕ} {cs : List ℕ} → All P (c ∷ cs) → P (lastOf c cs)
   last-all (all-cons p all-nil) = p
   last-all (all-cons p (all-cons q qs)) = last-all (all-cons q qs)
-
-  pub prev-all : {b c : ℕ} {ds : List ℕ} → All P (b ∷ c ∷ ds) → P (prevOf b c ds)
-  prev-all (all-cons p (all-cons q all-nil)) = p
-  prev-all (all-cons p (all-cons q (all-cons r rs))) = prev-all (all-cons q (all-cons r rs))
 
 -- ---- following a list
 
@@ -110,23 +87,18 @@ module _ (g : Layout) where
   pub follow-holds : (n : ℕ) (os : List Overflow) (b : ℕ) → Holds (Followed n) (follow g n os b)
   follow-holds zero os b = holds-none
   follow-holds (suc n) os b =
-      either (Holds (Followed (suc n))) (ltb b (g .nob))
-      (λ e. either (Holds (Followed (suc n))) (ltb (overflowAt os b .counter) (g .sio))
-      (λ c. holds-some (record { below = all-cons (ltb-true b (g .nob) e) all-nil; few = omega arith }))
-      (λ c. either (Holds (Followed (suc n))) (eqb (overflowAt os b .counter) (g .sio))
-      (λ d. cons-followed (ltb-true b (g .nob) e) (follow-holds n os (overflowAt os b .link)))
-      (λ d. holds-none)))
-      (λ e. holds-none)
-
-  -- the slots of a basic block, whatever its bits
-  pub unpack-each : (h r : ℕ) → Each (Fits (g .slot)) (g .sib) (unpack g h r)
-  unfolding unpack
-  unpack-each h r = unpacked-each (g .slot) (g .sib) (h * 2 ^ restBits g + r)
+      either (Holds (Followed (suc n))) (ltb b (g .nob)) (λ e. step-holds (ltb-true b (g .nob) e) (stepAt g os b) (follow-holds n os)) (λ e. holds-none)
+    where
+      step-holds : b < g .nob → (s : Step) → ((c : ℕ) → Holds (Followed n) (follow g n os c))
+          → Holds (Followed (suc n)) (goOn s (b ∷ []) (λ c. cons? b (follow g n os c)))
+      step-holds h Last f = holds-some (record { below = all-cons h all-nil; few = omega arith })
+      step-holds h (Further c) f = cons-followed h (f (c .0))
+      step-holds h Damage f = holds-none
 
   pub gather-fits : {os : List Overflow} {bs : List ℕ} → Each (OverflowFits g) (g .nob) os → All (Below (g .nob)) bs → All (Fits (g .slot)) (gather g os bs)
   gather-fits e all-nil = all-nil
   gather-fits {os} e (all-cons {x = b} h hs) =
-      all-append (all-take (suc (overflowAt os b .counter)) (each-at e (mkOverflow 0 0 []) b h .slots .all)) (gather-fits e hs)
+      all-append (all-take (suc (overflowAt os b .counter)) (each-at e absentBlock b h .slots .all)) (gather-fits e hs)
 
   -- blocks of the table, and slots that fit
   pub record SeenFits (v : Seen) : Type 0 where
@@ -138,7 +110,7 @@ module _ (g : Layout) where
   over-holds b e holds-none = holds-none
   over-holds b e (holds-some {a = []} f) = holds-none
   over-holds b {os} e (holds-some {a = c ∷ cs} f) =
-      holds-some (record { blocks = f; slots = all-append (unpack-each (overflowAt os (lastOf c cs) .link) (b .rest) .all) (gather-fits e (f .below)) })
+      holds-some (record { blocks = f; slots = all-append (unpack-each g (overflowAt os (lastOf c cs) .link) (b .rest) .all) (gather-fits e (f .below)) })
 
   -- what is seen of a list of a formed state
   pub content-holds : {st : State} → Formed g st → (i : ℕ) → Holds SeenFits (content g st i)
@@ -148,7 +120,7 @@ module _ (g : Layout) where
       either (Holds SeenFits) (ltb (b .counter) (suc (g .sib)))
       (λ e. holds-some (record {
         blocks = record { below = all-nil; few = omega arith };
-        slots = all-take (b .counter) (unpack-each (b .head) (b .rest) .all);
+        slots = all-take (b .counter) (unpack-each g (b .head) (b .rest) .all);
       }))
       (λ e. either (Holds SeenFits) (eqb (b .counter) (suc (g .sib)))
       (λ c. over-holds b (f .overflow) (follow-holds (g .nob) (st .overflow) (b .head)))
@@ -159,35 +131,23 @@ module _ (g : Layout) where
 
 -- ---- changes
 
+-- displaced bits handed back leave the free start
+pub handed-free : (g : Layout) (st : State) (i l : ℕ) (p : Before) → handedBack g i l p st .free ≡ st .free
+unfolding handedBack
+handed-free g st i l prior.Basic = refl
+handed-free g st i l (prior.Block p) = refl
+
+-- before the last of two or more blocks stands a block
+pub prior-is : (c d : ℕ) (ds : List ℕ) → priorOf (prior.Block (record { 0 = c })) d ds ≡ prior.Block (record { 0 = prevOf c d ds })
+prior-is c d [] = refl
+prior-is c d (e ∷ es) = prior-is d e es
+
 module _ (g : Layout) (F : Proper g) where
-  pub head-fits : {es : List ℕ} → Each (Fits (g .slot)) (g .sib) es → Fits (g .link) (headOf g es)
-  unfolding headOf
-  head-fits e =
-      let s : g .sib * g .slot ≡ g .link + restBits g = omega (arith, F .link-fits) in
-      shr-lt (g .link) (restBits g) (rw s at (packed-fits (g .slot) e))
-
-  pub rest-fits : (es : List ℕ) → Fits (restBits g) (restOf g es)
-  unfolding restOf
-  rest-fits es = mod-lt _ (pow-pos (restBits g))
-
-  -- a block with these slots
-  body-fits : (n : ℕ) {es : List ℕ} → Fits (g .basic .counter) n → Each (Fits (g .slot)) (g .sib) es → BasicFits g (mkBasic n (headOf g es) (restOf g es))
-  body-fits n {es} h e = record { counter = h; head = head-fits e; rest = rest-fits es }
-
-  -- numbers of blocks fit the link and the free start
-  block-link : {j : ℕ} → j < g .nob → Fits (g .link) j
-  block-link h = omega (arith, F .link-holds)
-
-  block-free : {j : ℕ} → j ≤ g .nob → Fits (g .basic .start) j
-  block-free h = omega (arith, F .free-holds)
-
-  -- a block as it is when taken or given back: one slot or none, zeros behind
-  fresh-fits : {l : ℕ} {es : List ℕ} → Fits (g .link) l → All (Fits (g .slot)) es → OverflowFits g (mkOverflow 0 l (padded (g .sio) es))
-  fresh-fits h ps = record { counter = pow-pos (g .overflow .counter); link = h; slots = padded-each (g .slot) (g .sio) ps }
+  -- ---- blocks taken and freed
 
   next-fits : (os : List Overflow) (f : ℕ) → overflowAt os f .link < g .nob → Fits (g .basic .start) (nextFree g os f)
   next-fits os f h =
-      either (Fits (g .basic .start)) (eqb (overflowAt os f .link) f) (λ e. F .free-holds) (λ e. block-free (omega arith))
+      either (Fits (g .basic .start)) (eqb (overflowAt os f .link) f) (λ e. F .free-holds) (λ e. block-free F (omega arith))
 
   taking-ends : {P : State → Type 0} (st : State) (bs : List ℕ) {on : Done}
       → (st .free < g .nob → overflowAt (st .overflow) (st .free) .link < g .nob → Ends P on) → Ends P (taking g st bs on)
@@ -199,7 +159,24 @@ module _ (g : Layout) (F : Proper g) where
       (λ l. k (let m = ltb-false (g .nob) (st .free) e in let ne = eqb-false (st .free) (g .nob) c in omega arith) (ltb-true (overflowAt (st .overflow) (st .free) .link) (g .nob) l))
       (λ l. ends-damage))))
 
-  -- add's change
+  freed-formed : {st : State} {l : ℕ} → Formed g st → st .free ≤ g .nob → l < g .nob → Formed g (freed g l st)
+  freed-formed {st} {l} w k h =
+      formed-free
+      (formed-overflow l w
+      (empty-fits
+      (either (Fits (g .link)) (eqb (st .free) (g .nob)) (λ e. block-link F h)
+      (λ e. block-link F (let ne = eqb-false (st .free) (g .nob) e in omega arith)))))
+      (block-free F (omega arith))
+
+  -- ---- add's change
+
+  extended-ends : (st : State) (bs : List ℕ) {d x : ℕ} (linkTo : ℕ → State → State) → Fits (g .link) d → Fits (g .slot) x
+      → ((f : ℕ) → f < g .nob → Formed g (linkTo f st)) → Ends (Formed g) (extended g st bs d x linkTo)
+  extended-ends st bs linkTo hd hx k =
+      taking-ends st bs
+      (λ m l. ends-done
+      (formed-free (formed-overflow (st .free) (k (st .free) m) (slot-fits 0 hx (empty-fits hd))) (next-fits (st .overflow) (st .free) l)))
+
   pub append-ends : {st : State} (i : ℕ) {bs : List ℕ} {x : ℕ} → Formed g st → i < g .lists → All (Below (g .nob)) bs → Fits (g .slot) x
       → Ends (Formed g) (append g st i bs x)
   unfolding append
@@ -207,138 +184,94 @@ module _ (g : Layout) (F : Proper g) where
       let b = basicAt (st .basic) i in
       let fits = basic-fits g f i h in
       either (Ends (Formed g)) (ltb (b .counter) (g .sib))
-      (λ e. ends-done (record {
-        free = f .free;
-        basic = each-set (f .basic) i (body-fits (suc (b .counter)) (omega (arith, ltb-true (b .counter) (g .sib) e, F .basic-holds)) (each-set (unpack-each g (b .head) (b .rest)) (b .counter) p));
-        overflow = f .overflow;
-      }))
-      (λ e. taking-ends st [] (λ m l. ends-done (record {
-        free = next-fits (st .overflow) (st .free) l;
-        basic = each-set (f .basic) i (record { counter = F .basic-holds; head = block-link m; rest = fits .rest });
-        overflow = each-set (f .overflow) (st .free) (fresh-fits (fits .head) (all-cons p all-nil));
-      })))
+      (λ e. ends-done (formed-basic i f (body-fits F (omega (arith, ltb-true (b .counter) (g .sib) e, F .basic-holds)) (each-set (own-fits g b) (b .counter) p))))
+      (λ e. extended-ends st [] (λ f. overBasic i (withBasicFront (suc (g .sib)) f)) (fits .head) p
+      (λ j m. formed-basic i f (front-fits (F .basic-holds) (block-link F m) fits)))
   append-ends {st} i f h (all-cons {x = c} {xs = cs} q qs) p =
-      let o = overflowAt (st .overflow) (lastOf c cs) in
-      let fits = overflow-fits g f (lastOf c cs) (last-all (all-cons q qs)) in
+      let l = lastOf c cs in
+      let o = overflowAt (st .overflow) l in
+      let fits = overflow-fits g f l (last-all (all-cons q qs)) in
       either (Ends (Formed g)) (ltb (suc (o .counter)) (g .sio))
-      (λ e. ends-done (record {
-        free = f .free;
-        basic = f .basic;
-        overflow = each-set (f .overflow) (lastOf c cs) (record {
-          counter = omega (arith, ltb-true (suc (o .counter)) (g .sio) e, F .overflow-holds);
-          link = fits .link;
-          slots = each-set (fits .slots) (suc (o .counter)) p;
-        });
-      }))
-      (λ e. taking-ends st (c ∷ cs) (λ m l. ends-done (record {
-        free = next-fits (st .overflow) (st .free) l;
-        basic = f .basic;
-        overflow = each-set (each-set (f .overflow) (lastOf c cs) (record { counter = F .overflow-holds; link = block-link m; slots = fits .slots }))
-            (st .free) (fresh-fits (fits .link) (all-cons p all-nil));
-      })))
+      (λ e. ends-done
+      (formed-overflow l f (counter-fits (omega (arith, ltb-true (suc (o .counter)) (g .sio) e, F .overflow-holds)) (slot-fits (suc (o .counter)) p fits))))
+      (λ e. extended-ends st (c ∷ cs) (λ f. overOverflow l (withFront (g .sio) f)) (fits .link) p
+      (λ j m. formed-overflow l f (counter-fits (F .overflow-holds) (link-fits (block-link F m) fits))))
 
-  -- delete's change
-  poke-overflow : {os : List Overflow} {bs : List ℕ} (q : ℕ) {x : ℕ} → Each (OverflowFits g) (g .nob) os → All (Below (g .nob)) bs → Fits (g .slot) x
-      → Each (OverflowFits g) (g .nob) (pokeOverflow g os bs q x)
-  unfolding pokeOverflow
-  poke-overflow q e all-nil p = e
-  poke-overflow q e (all-cons {x = b} h hs) p =
-      let fits = each-at e (mkOverflow 0 0 []) b h in
+  -- ---- delete's changes
+
+  store-overflow : {os : List Overflow} {bs : List ℕ} (q : ℕ) {x : ℕ} → Each (OverflowFits g) (g .nob) os → All (Below (g .nob)) bs → Fits (g .slot) x
+      → Each (OverflowFits g) (g .nob) (storeOverflow g os bs q x)
+  unfolding storeOverflow
+  store-overflow q e all-nil p = e
+  store-overflow q e (all-cons {x = b} h hs) p =
       either (Each (OverflowFits g) (g .nob)) (ltb q (g .sio))
-      (λ l. each-set e b (record { counter = fits .counter; link = fits .link; slots = each-set (fits .slots) q p }))
-      (λ l. poke-overflow (q - g .sio) e hs p)
+      (λ l. each-set e b (slot-fits q p (each-at e absentBlock b h)))
+      (λ l. store-overflow (q - g .sio) e hs p)
 
-  pub poke-formed : {st : State} (i : ℕ) {bs : List ℕ} (k : ℕ) {x : ℕ} → Formed g st → i < g .lists → All (Below (g .nob)) bs → Fits (g .slot) x
-      → Formed g (poke g st i bs k x)
-  unfolding poke
-  poke-formed {st} i k f h all-nil p =
-      let b = basicAt (st .basic) i in
-      record {
-        free = f .free;
-        basic = each-set (f .basic) i (body-fits (b .counter) (basic-fits g f i h .counter) (each-set (unpack-each g (b .head) (b .rest)) k p));
-        overflow = f .overflow;
-      }
-  poke-formed {st} i k f h (all-cons {x = c} {xs = cs} q qs) p =
-      let b = basicAt (st .basic) i in
-      let o = overflowAt (st .overflow) (lastOf c cs) in
-      let body = each-set (unpack-each g (o .link) (b .rest)) k p in
-      let fits = overflow-fits g f (lastOf c cs) (last-all (all-cons q qs)) in
+  pub store-formed : {st : State} (i : ℕ) {bs : List ℕ} (k : ℕ) {x : ℕ} → Formed g st → i < g .lists → All (Below (g .nob)) bs → Fits (g .slot) x
+      → Formed g (storeAt g st i bs k x)
+  unfolding storeAt
+  store-formed {st} i k f h all-nil p =
+      formed-basic i f (body-fits F (basic-fits g f i h .counter) (each-set (own-fits g (basicAt (st .basic) i)) k p))
+  store-formed {st} i k f h (all-cons {x = c} {xs = cs} q qs) p =
       let top = basic-fits g f i h in
+      let l = lastOf c cs in
+      let body = each-set (unpack-each g (overflowAt (st .overflow) l .link) (basicAt (st .basic) i .rest)) k p in
       either (Formed g) (ltb k (g .sib))
-      (λ e. record {
-        free = f .free;
-        basic = each-set (f .basic) i (record { counter = top .counter; head = top .head; rest = rest-fits _ });
-        overflow = each-set (f .overflow) (lastOf c cs) (record { counter = fits .counter; link = head-fits body; slots = fits .slots });
-      })
-      (λ e. record { free = f .free; basic = f .basic; overflow = poke-overflow (k - g .sib) (f .overflow) (all-cons q qs) p })
+      (λ e. formed-overflow l
+      (formed-basic i f (record { counter = top .counter; head = top .head; rest = rest-fits g _ }))
+      (link-fits (head-fits F body) (overflow-fits g f l (last-all (all-cons q qs)))))
+      (λ e. record { free = f .free; basic = f .basic; overflow = store-overflow (k - g .sib) (f .overflow) (all-cons q qs) p })
 
-  -- the last slot of a block off, where it is not its only one
-  shorter-fits : {o : Overflow} → OverflowFits g o → OverflowFits g (mkOverflow (o .counter - 1) (o .link) (set (o .slots) (o .counter) 0))
-  shorter-fits {o} fits =
-      record { counter = omega (arith, fits .counter); link = fits .link; slots = each-set (fits .slots) (o .counter) (pow-pos (g .slot)) }
+  handed-formed : {st : State} (i l : ℕ) (p : Before) → Within g p → Formed g st → i < g .lists → l < g .nob → Formed g (handedBack g i l p st)
+  unfolding handedBack
+  handed-formed i l prior.Basic w f h k =
+      formed-basic i f (front-fits (omega (arith, F .basic-holds)) (overflow-fits g f l k .link) (basic-fits g f i h))
+  handed-formed i l (prior.Block p) w f h k =
+      formed-overflow (p .0) f
+      (counter-fits (omega (arith, F .overflow-holds)) (link-fits (overflow-fits g f l k .link) (overflow-fits g f (p .0) w)))
 
-  freed-fits : (f : ℕ) {c : ℕ} → ltb (g .nob) f ≡ false → c < g .nob → OverflowFits g (mkOverflow 0 (linkFree g f c) (padded (g .sio) []))
-  freed-fits f {c} e h =
-      fresh-fits
-      (either (Fits (g .link)) (eqb f (g .nob)) (λ d. block-link h)
-      (λ d. block-link (let m = ltb-false (g .nob) f e in let ne = eqb-false f (g .nob) d in omega arith)))
-      all-nil
+  -- what stands before the last of blocks of the table is one of them
+  prior-within : (p : Before) {c : ℕ} {cs : List ℕ} → Within g p → All (Below (g .nob)) (c ∷ cs) → Within g (priorOf p c cs)
+  prior-within p w (all-cons q all-nil) = w
+  prior-within p w (all-cons {x = c} q (all-cons r rs)) = prior-within (prior.Block (record { 0 = c })) q (all-cons r rs)
 
   pub shrink-ends : {st : State} (i : ℕ) {bs : List ℕ} → Formed g st → i < g .lists → All (Below (g .nob)) bs → Ends (Formed g) (shrink g st i bs)
-  unfolding shrink
+  unfolding shrink cannotFree shrinkAt
   shrink-ends {st} i f h all-nil =
       let b = basicAt (st .basic) i in
-      ends-done (record {
-        free = f .free;
-        basic = each-set (f .basic) i (body-fits (b .counter - 1) (omega (arith, basic-fits g f i h .counter)) (each-set (unpack-each g (b .head) (b .rest)) (b .counter - 1) (pow-pos (g .slot))));
-        overflow = f .overflow;
-      })
-  shrink-ends {st} i f h (all-cons {x = c} q all-nil) =
-      let o = overflowAt (st .overflow) c in
-      let fits = overflow-fits g f c q in
-      either (Ends (Formed g)) (ltb 0 (o .counter))
-      (λ e. ends-done (record { free = f .free; basic = f .basic; overflow = each-set (f .overflow) c (shorter-fits fits) }))
-      (λ e. either (Ends (Formed g)) (ltb (g .nob) (st .free)) (λ d. ends-damage)
-      (λ d. ends-done (record {
-        free = block-free (omega arith);
-        basic = each-set (f .basic) i (record { counter = omega (arith, F .basic-holds); head = fits .link; rest = basic-fits g f i h .rest });
-        overflow = each-set (f .overflow) c (freed-fits (st .free) d q);
-      })))
-  shrink-ends {st} i f h (all-cons {x = c} q (all-cons {x = d} {xs = ds} r rs)) =
-      let o = overflowAt (st .overflow) (lastOf d ds) in
-      let last = last-all (all-cons r rs) in
-      let fits = overflow-fits g f (lastOf d ds) last in
-      let prev = overflow-fits g f (prevOf c d ds) (prev-all (all-cons q (all-cons r rs))) in
-      either (Ends (Formed g)) (ltb 0 (o .counter))
-      (λ e. ends-done (record { free = f .free; basic = f .basic; overflow = each-set (f .overflow) (lastOf d ds) (shorter-fits fits) }))
-      (λ e. either (Ends (Formed g)) (ltb (g .nob) (st .free)) (λ k. ends-damage)
-      (λ k. ends-done (record {
-        free = block-free (omega (arith, last));
-        basic = f .basic;
-        overflow = each-set
-            (each-set (f .overflow) (prevOf c d ds) (record { counter = omega (arith, F .overflow-holds); link = fits .link; slots = prev .slots }))
-            (lastOf d ds) (freed-fits (st .free) k last);
-      })))
+      ends-done
+      (formed-basic i f (body-fits F {n = b .counter - 1} (omega (arith, basic-fits g f i h .counter)) (each-set (own-fits g b) (b .counter - 1) (pow-pos (g .slot)))))
+  shrink-ends {st} i f h (all-cons {x = c} {xs = cs} q qs) =
+      let l = lastOf c cs in
+      let o = overflowAt (st .overflow) l in
+      let last = last-all (all-cons q qs) in
+      let fits = overflow-fits g f l last in
+      cases (ltb 0 (o .counter))
+      (λ e. rw e
+      (ends-done
+      (formed-overflow l f (counter-fits {n = o .counter - 1} (omega (arith, fits .counter)) (slot-fits (o .counter) (pow-pos (g .slot)) fits)))))
+      (λ e. rw e
+      (either (Ends (Formed g)) (ltb (g .nob) (st .free)) (λ d. ends-damage)
+      (λ d. ends-done
+      (freed-formed (handed-formed i l (priorOf prior.Basic c cs) (prior-within prior.Basic tt (all-cons q qs)) f h last)
+      (omega (arith, handed-free g st i l (priorOf prior.Basic c cs), ltb-false (g .nob) (st .free) d)) last))))
 
   -- ---- the calls
 
-  appended-formed : {st : State} {d : Done} (label n : ℕ) → Formed g st → Ends (Formed g) d → Formed g (appended g st label n d .after)
-  appended-formed label n f ends-damage = f
-  appended-formed label n f ends-full = f
-  appended-formed label n f (ends-done p) = p
-
-  shrunk-formed : {st : State} {d : Done} (label n : ℕ) → Formed g st → Ends (Formed g) d → Formed g (shrunk g st label n d .after)
-  shrunk-formed label n f ends-damage = f
-  shrunk-formed label n f ends-full = f
-  shrunk-formed label n f (ends-done p) = p
+  answered-formed : {A : Type 0} {st : State} {d : Done} (refuse : Refusal → A) (a : A) → Formed g st → Ends (Formed g) d
+      → Formed g (answered refuse st a d .after)
+  answered-formed refuse a f ends-damage = f
+  answered-formed refuse a f ends-full = f
+  answered-formed refuse a f (ends-done p) = p
 
   add-seen : {st : State} {o : Option Seen} (i e label : ℕ) → Formed g st → i < g .lists → Fits (g .slot) (slotOf g e label) → Holds (SeenFits g) o
       → Formed g (addSeen g st i e label o .after)
   unfolding addSeen
   add-seen i e label f h p holds-none = f
   add-seen i e label f h p (holds-some {a = v} s) =
-      either (λ (a : Adding g). Formed g (a .after)) (isHeld g e (v .slots)) (λ t. f)
-      (λ t. appended-formed label (comparedIn g e (v .slots)) f (append-ends i f h (s .blocks .below) p))
+      either (λ (a : Answered AddAnswer). Formed g (a .after)) (isHeld g e (v .slots)) (λ t. f)
+      (λ t. answered-formed adding.Refused (adding.Added label (comparedIn g e (v .slots))) f (append-ends i f h (s .blocks .below) p))
 
   pub add-formed : {st : State} (i e label : ℕ) → Formed g st → i < g .lists → e < 2 ^ g .bie → label < 2 ^ g .val → Formed g (addIn g st i e label .after)
   unfolding addIn
@@ -350,8 +283,8 @@ module _ (g : Layout) (F : Proper g) where
   delete-seen i e f h (holds-some {a = v} s) =
       let bl = s .blocks .below in
       let last = all-getD (s .slots) (pow-pos (g .slot)) (length (v .slots) - 1) in
-      either (λ (a : Deleting g). Formed g (a .after)) (isHeld g e (v .slots))
-      (λ t. shrunk-formed (labelAt g e (v .slots)) (comparedIn g e (v .slots)) f (shrink-ends i (poke-formed i (position g e (v .slots)) f h bl last) h bl))
+      either (λ (a : Answered DeleteAnswer). Formed g (a .after)) (isHeld g e (v .slots))
+      (λ t. answered-formed deleting.Refused (deleting.Gone (labelAt g e (v .slots)) (comparedIn g e (v .slots))) f (shrink-ends i (store-formed i (position g e (v .slots)) f h bl last) h bl))
       (λ t. f)
 
   pub delete-formed : {st : State} (i e : ℕ) → Formed g st → i < g .lists → Formed g (deleteIn g st i e .after)
@@ -366,5 +299,5 @@ module _ (g : Layout) (F : Proper g) where
         free = pow-pos (g .basic .start);
         basic = each-tab _ (λ i h. record { counter = pow-pos (g .basic .counter); head = pow-pos (g .link); rest = pow-pos (restBits g) });
         overflow = each-tab (newOverflow g) (λ j h.
-            fresh-fits (either (Fits (g .link)) (eqb (suc j) (g .nob)) (λ e. block-link h) (λ e. block-link (let ne = eqb-false (suc j) (g .nob) e in omega arith))) all-nil);
+            empty-fits (either (Fits (g .link)) (eqb (suc j) (g .nob)) (λ e. block-link F h) (λ e. block-link F (let ne = eqb-false (suc j) (g .nob) e in omega arith))));
       }

@@ -1,44 +1,30 @@
 -- The test that check computes says what document 01's sentence says, of every table: both ways.
 use mathlib.Core.Path.{_≡_, refl, sym, _∙_}
 use mathlib.Core.Logic.{_≢_}
-use mathlib.Core.Bool.{true, true≢false, _&&_}
+use mathlib.Core.Bool.{true, _&&_}
 use mathlib.Core.List.{List, [], _∷_}
 use mathlib.Core.Option.{Option, none, some}
-use Prim.Native.Nat.{ℕ, zero, suc, _+_, _-_, _*_, _≤_, _<_}
+use Prim.Native.Nat.{ℕ, suc, _+_, _-_, _*_, _≤_, _<_}
 use native.Mathlib.Omega.{arith}
 use lib.Dec.{eqb, ltb}
 use lib.ListN.{length, getD, drop}
 use borrow.Author.Tests.{ltb-true, eqb-true, eq-eqb}
+use Rattle.laws.specs.Folds.{every, everyBelow, allZero, sumBelow}
+use Rattle.laws.specs.Cases.{both-true, true-both, never}
+use Rattle.laws.specs.Tests.{below-at, below-all}
+use Rattle.laws.specs.Sums.{sum-ext, sum-add, sum-one}
 use Rattle.bits.specs.Field.{field}
-use Rattle.settings.specs.theory.Cases.{both-true}
 use Rattle.settings.specs.declared.layout.Layout.{Layout}
-use Rattle.table.specs.State.{Basic, Overflow, State, basicAt, overflowAt, unpack, entryOf}
+use Rattle.table.specs.State.{Basic, Overflow, State, basicAt, overflowAt, ownSlots, entryOf}
 use Rattle.table.specs.Decode.{decode}
 use Rattle.table.specs.Follow.{Seen, seen, follow, contentOver, contentOf, content}
 use Rattle.table.specs.Take.{occurs}
-use Rattle.table.specs.Arrays.{sumBelow}
-use Rattle.table.specs.Check.{
-  every,
-  everyBelow,
-  allZero,
-  basicUnused,
-  overflowUnused,
-  freeZero,
-  noEntryTwice,
-  listSound,
-  listsSound,
-  freeChain,
-  occursInLists,
-  chainSound,
-  stateSound,
-  fillZero,
-  tableSound,
-}
+use Rattle.table.specs.Check.{basicUnused, overflowUnused, freeZero, noEntryTwice, listSound, listsSound, freeChain, occursInLists, chainSound, stateSound, fillZero, tableSound}
 use Rattle.table.specs.Sound.{SoundState, Sound}
 use Rattle.table.specs.theory.Formed.{Formed, decode-formed}
 use Rattle.table.specs.theory.FormedCalls.{either, Holds, holds-none, holds-some, holds-of, content-fits}
-use Rattle.table.specs.theory.Every.{true-both, below-at, below-all, every-at, every-all, zeros-at, zeros-all, single-at, single-all}
-use Rattle.table.specs.theory.Occurs.{sum-ext, sum-add, sum-one, sum-swap, sum-occurs}
+use Rattle.table.specs.theory.Every.{every-at, every-all, zeros-at, zeros-all, single-at, single-all, lists-at, lists-all}
+use Rattle.table.specs.theory.Occurs.{sum-swap, sum-below}
 use Rattle.table.specs.theory.Chain.{FreeChain, free-chain, chain-below, chain-free}
 
 module _ (g : Layout) where
@@ -67,17 +53,17 @@ module _ (g : Layout) where
       (λ c. holds-none))
 
   -- the unused slots of a basic block
-  unused-at : (b : Basic) (bs : List ℕ) → basicUnused g b bs ≡ true → bs ≡ [] → allZero (drop (b .counter) (unpack g (b .head) (b .rest))) ≡ true
+  unused-at : (b : Basic) (bs : List ℕ) → basicUnused g b bs ≡ true → bs ≡ [] → allZero (drop (b .counter) (ownSlots g b)) ≡ true
   unused-at b bs e q = rw q at e
 
-  unused-all : (b : Basic) (bs : List ℕ) → (bs ≡ [] → allZero (drop (b .counter) (unpack g (b .head) (b .rest))) ≡ true) → basicUnused g b bs ≡ true
+  unused-all : (b : Basic) (bs : List ℕ) → (bs ≡ [] → allZero (drop (b .counter) (ownSlots g b)) ≡ true) → basicUnused g b bs ≡ true
   unused-all b [] h = h refl
   unused-all b (c ∷ cs) h = refl
 
   -- "no damage", and the zeros and entries of one list, in document 01's words
   record SoundList (b : Basic) (os : List Overflow) (v : Seen) : Type 0 where
     undamaged : contentOf g b os ≡ some v
-    basic-zero : (k : ℕ) → b .counter ≤ g .sib → b .counter ≤ k → getD (unpack g (b .head) (b .rest)) k 0 ≡ 0
+    basic-zero : (k : ℕ) → b .counter ≤ g .sib → b .counter ≤ k → getD (ownSlots g b) k 0 ≡ 0
     overflow-zero : (j k : ℕ) → 0 < occurs j (v .blocks) → overflowAt os j .counter < k → getD (overflowAt os j .slots) k 0 ≡ 0
     single : (p q : ℕ) → p < q → q < length (v .slots) → entryOf g (getD (v .slots) p 0) ≢ entryOf g (getD (v .slots) q 0)
 
@@ -91,13 +77,13 @@ module _ (g : Layout) where
   list-at b os = go (contentOf g b os) refl (content-overflows b os)
     where
       go : (o : Option Seen) → contentOf g b os ≡ o → Holds (Overflows b) o → listSound g b os o ≡ true → SoundList b os (seenOf o)
-      go none q h e = absurd (true≢false (sym e))
+      go none q h e = never e
       go (some v) q h e =
           let a = both-true (basicUnused g b (v .blocks)) (every (overflowUnused g os) (v .blocks) && noEntryTwice g (v .slots)) e in
           let c = both-true (every (overflowUnused g os) (v .blocks)) (noEntryTwice g (v .slots)) (a .1) in
           record {
             undamaged = q;
-            basic-zero = λ k l m. zeros-at (unpack g (b .head) (b .rest)) (b .counter) k (unused-at b (v .blocks) (a .0) (holds-of h refl .to-none l)) m;
+            basic-zero = λ k l m. zeros-at (ownSlots g b) (b .counter) k (unused-at b (v .blocks) (a .0) (holds-of h refl .to-none l)) m;
             overflow-zero = λ j k l m. zeros-at (overflowAt os j .slots) (suc (overflowAt os j .counter)) k (every-at (overflowUnused g os) (v .blocks) j (c .0) l) m;
             single = λ p q. single-at g (v .slots) p q (c .1);
           }
@@ -106,24 +92,12 @@ module _ (g : Layout) where
   list-all {b} {os} {v} s =
       rw (s .undamaged)
       (true-both
-      (unused-all b (v .blocks) (λ q. zeros-all (unpack g (b .head) (b .rest)) (b .counter) (λ k m. s .basic-zero k (holds-of (content-overflows b os) (s .undamaged) .from-none q) m)))
+      (unused-all b (v .blocks) (λ q. zeros-all (ownSlots g b) (b .counter) (λ k m. s .basic-zero k (holds-of (content-overflows b os) (s .undamaged) .from-none q) m)))
       (true-both
       (every-all (overflowUnused g os) (v .blocks) (λ j l. zeros-all (overflowAt os j .slots) (suc (overflowAt os j .counter)) (λ k m. s .overflow-zero j k l m)))
       (single-all g (v .slots) (s .single))))
 
   -- ---- all lists
-
-  -- the lists one by one, by their numbers
-  lists-at : (bs : List Basic) (os : List Overflow) (i : ℕ) → listsSound g bs os ≡ true → i < length bs
-      → listSound g (basicAt bs i) os (contentOf g (basicAt bs i) os) ≡ true
-  lists-at [] os i e h = absurd (omega arith)
-  lists-at (b ∷ bs) os zero e h = both-true (listSound g b os (contentOf g b os)) (listsSound g bs os) e .0
-  lists-at (b ∷ bs) os (suc i) e h = lists-at bs os i (both-true (listSound g b os (contentOf g b os)) (listsSound g bs os) e .1) (omega arith)
-
-  lists-all : (bs : List Basic) (os : List Overflow) → ((i : ℕ) → i < length bs → listSound g (basicAt bs i) os (contentOf g (basicAt bs i) os) ≡ true)
-      → listsSound g bs os ≡ true
-  lists-all [] os h = refl
-  lists-all (b ∷ bs) os h = true-both (h 0 (omega arith)) (lists-all bs os (λ i l. h (suc i) (omega arith)))
 
   -- a block stands in the lists as often as in each, summed by the lists' numbers
   occurs-sum : (j : ℕ) (bs : List Basic) (os : List Overflow) (lists : ℕ → Seen)
@@ -148,7 +122,7 @@ module _ (g : Layout) where
   module _ {st : State} (sized : length (st .basic) ≡ g .lists) where
     chain-state : {o : Option (List ℕ)} → listsSound g (st .basic) (st .overflow) ≡ true → Holds (FreeChain g st) o → chainSound g st o ≡ true → SoundState g st
     unfolding content
-    chain-state e holds-none t = absurd (true≢false (sym t))
+    chain-state e holds-none t = never t
     chain-state e (holds-some {a = fs} c) t =
         let two = both-true (every (freeZero g (st .overflow)) fs) (everyBelow (g .nob) (λ j. eqb (stands st fs j) 1)) t in
         record {
@@ -157,7 +131,7 @@ module _ (g : Layout) where
           undamaged = λ i h. each i h .undamaged;
           start = c .start;
           linked = c .linked;
-          once = λ j h. sym (stands-sum st sized fs j found (λ i l. each i l .undamaged)) ∙ eqb-true (stands st fs j) 1 (below-at (g .nob) (λ j. eqb (stands st fs j) 1) j (two .1) h);
+          once = λ j h. sym (stands-sum st sized fs j found (λ i l. each i l .undamaged)) ∙ eqb-true (stands st fs j) 1 (below-at (g .nob) (λ j. eqb (stands st fs j) 1) (two .1) j h);
           basic-zero = λ i k h. each i h .basic-zero k;
           overflow-zero = λ i j k h. each i h .overflow-zero j k;
           free-counter = λ j h. eqb-true (overflowAt (st .overflow) j .counter) 0 (free j (two .0) h .0);
@@ -169,7 +143,7 @@ module _ (g : Layout) where
         found i = seenOf (contentOf g (basicAt (st .basic) i) (st .overflow))
 
         each : (i : ℕ) → i < g .lists → SoundList (basicAt (st .basic) i) (st .overflow) (found i)
-        each i h = list-at (basicAt (st .basic) i) (st .overflow) (lists-at (st .basic) (st .overflow) i e (omega arith))
+        each i h = list-at (basicAt (st .basic) i) (st .overflow) (lists-at g (st .basic) (st .overflow) i e (omega arith))
 
         free : (j : ℕ) → every (freeZero g (st .overflow)) fs ≡ true → 0 < occurs j fs
             → (eqb (overflowAt (st .overflow) j .counter) 0 ≡ true) × (allZero (overflowAt (st .overflow) j .slots) ≡ true)
@@ -188,7 +162,7 @@ module _ (g : Layout) where
     unfolding stateSound content
     state-test s =
         true-both
-        (lists-all (st .basic) (st .overflow) (λ i l. list-all (each i (omega arith))))
+        (lists-all g (st .basic) (st .overflow) (λ i l. list-all (each i (omega arith))))
         (rw (chain-free g st (s .chain) (s .linked) (λ j l. omega (arith, s .once j l)))
         (true-both
         (every-all (freeZero g (st .overflow)) (s .chain) (λ j l.
@@ -234,6 +208,6 @@ module _ (g : Layout) where
         sum-add (g .nob) (λ j. sumBelow (g .lists) (λ i. occurs j (s .lists i .blocks))) (λ j. occurs j (s .chain)),
         sum-swap (g .nob) (g .lists) (λ i j. occurs j (s .lists i .blocks)),
         sum-ext (g .lists) (λ i. sumBelow (g .nob) (λ j. occurs j (s .lists i .blocks))) (λ i. length (s .lists i .blocks)) (λ i h.
-            sum-occurs (g .nob) (content-fits g i f (s .undamaged i h) .blocks .below)),
-        sum-occurs (g .nob) (chain-below g (st .overflow) (st .free) (s .chain) (s .linked)),
+            sum-below (g .nob) (content-fits g i f (s .undamaged i h) .blocks .below)),
+        sum-below (g .nob) (chain-below g (st .overflow) (st .free) (s .chain) (s .linked)),
       )

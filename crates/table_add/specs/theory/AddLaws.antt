@@ -11,15 +11,16 @@ use lib.Pow.{pow-pos, pow-mono, split, shr-lt}
 use lib.ListN.{length}
 use lib.Dec.{eqb, ltb}
 use borrow.Author.Tests.{eq-eqb, ne-eqb, lt-ltb, le-ltb, ltb-true}
+use Rattle.laws.specs.Cases.{cases}
 use Rattle.bits.specs.Bytes.{Bytes}
-use Rattle.settings.specs.theory.Cases.{cases}
 use Rattle.settings.specs.theory.Legal.{legal-means}
 use Rattle.settings.specs.declared.layout.Layout.{Layout}
 use Rattle.settings.specs.declared.refusal.Refusal.{Refusal}
 use Rattle.settings.specs.declared.refusal.Refusal.the-variants as refusal
-use Rattle.table.specs.State.{State}
+use Rattle.table.specs.State.{State, slotOf}
 use Rattle.table.specs.Decode.{decode, written}
 use Rattle.table.specs.Calls.{addAnswer, addBytes}
+use Rattle.table.specs.Check.{blocksOf}
 use Rattle.table.specs.theory.Opened.{opened-illegal, opened-short, opened-on, keyed-out, keyed-on}
 use Rattle.table.specs.Table.{Table}
 use Rattle.settings.specs.Legal.{legal}
@@ -27,23 +28,24 @@ use Rattle.settings.specs.Layout.{layoutOf}
 use Rattle.keys.specs.Key.{keyNumber, listNumber, entry}
 use Rattle.settings.specs.declared.settings.Settings.{Settings}
 use Rattle.keys.specs.declared.Key.{Key}
-use Rattle.table.specs.State.{slotOf}
 use Rattle.table.specs.Follow.{Seen, content}
-use Rattle.table.specs.Take.{Done, damage, noBlock, done}
 use Rattle.table.specs.Find.{isHeld, findSeen, findIn}
-use Rattle.table.specs.Add.{Adding, append, appended, addSeen, addIn}
+use Rattle.table.specs.Add.{append, addSeen, addIn}
+use Rattle.table.specs.Done.{Done, damage, noBlock, done, Answered, unchanged, answered}
+use Rattle.table.specs.Check.{blocksOf}
+use Rattle.table.specs.theory.Written.{written-own}
 use Rattle.table.specs.declared.answers.FindAnswer.the-variants as found
 use Rattle.table.specs.declared.answers.AddAnswer.{AddAnswer}
 use Rattle.table.specs.declared.answers.AddAnswer.the-variants as answer
-use Rattle.table_store.specs.theory.StoreLaws.{written-own}
-use Rattle.table_add.specs.Adds.{blocksOf, appendTo, Appended, Readable, Added, AddCall}
+use Rattle.table_add.specs.Adds.{appendTo, Appended, Readable}
+use Rattle.table_add.specs.Call.{Added, AddCall}
 use Rattle.table_add.specs.declared.append.Item.{Item}
 
 -- ---- adding, by what find answers
 
 pub record Missing (g : Layout) (st : State) (i e label n : ℕ) : Type 0 where
   pub readable : Readable g st i n
-  pub goes : addIn g st i e label ≡ appended g st label n (append g st i (blocksOf g (content g st i)) (slotOf g e label))
+  pub goes : addIn g st i e label ≡ answered answer.Refused st (answer.Added label n) (append g st i (blocksOf (content g st i)) (slotOf g e label))
 
 same-held : (a b l n : ℕ) → found.Held a b ≡ found.Held l n → (a ≡ l) × (b ≡ n)
 same-held a b l n e = (cc, cc)
@@ -64,17 +66,17 @@ none-refused : {X : Type 0} (a : ℕ) (why : Refusal) → found.None a ≡ found
 none-refused a why e = absurd (let z : _≡_ {A = ℕ} 0 1 = cc in omega arith)
 
 module _ (g : Layout) (st : State) (i e label : ℕ) where
-  held-as : (l n : ℕ) (o : Option Seen) → findSeen g e o ≡ found.Held l n → addSeen g st i e label o ≡ record { answer = answer.Held l n; after = st }
+  held-as : (l n : ℕ) (o : Option Seen) → findSeen g e o ≡ found.Held l n → addSeen g st i e label o ≡ unchanged st (answer.Held l n)
   unfolding findSeen addSeen
   held-as l n none = λ q. held-refused l n refusal.Damage (sym q)
   held-as l n (some v) =
       cases (isHeld g e (v .slots))
-      (λ p. rw p (λ q. let z = same-held _ _ l n q in ap₂ (λ (x y : ℕ). record { answer = answer.Held x y; after = st }) (z .0) (z .1)))
+      (λ p. rw p (λ q. let z = same-held _ _ l n q in ap₂ (λ (x y : ℕ). unchanged st (answer.Held x y)) (z .0) (z .1)))
       (λ p. rw p (λ q. held-none l n _ (sym q)))
 
-  refused-seen : (why : Refusal) (o : Option Seen) → findSeen g e o ≡ found.Refused why → addSeen g st i e label o ≡ record { answer = answer.Refused why; after = st }
+  refused-seen : (why : Refusal) (o : Option Seen) → findSeen g e o ≡ found.Refused why → addSeen g st i e label o ≡ unchanged st (answer.Refused why)
   unfolding findSeen addSeen
-  refused-seen why none = λ q. ap (λ (w : Refusal). record { answer = answer.Refused w; after = st }) (same-refused refusal.Damage why q)
+  refused-seen why none = λ q. ap (λ (w : Refusal). unchanged st (answer.Refused w)) (same-refused refusal.Damage why q)
   refused-seen why (some v) =
       cases (isHeld g e (v .slots))
       (λ p. rw p (λ q. held-refused _ _ why q))
@@ -89,14 +91,14 @@ module _ (g : Layout) (st : State) (i e label : ℕ) where
       (λ p. rw p (λ q.
       record {
         readable = record { seen = v; is = w; long = sym (same-none _ n q) };
-        goes = rw (w, p) (ap (λ (m : ℕ). appended g st label m (append g st i (v .blocks) (slotOf g e label))) (same-none _ n q));
+        goes = rw (w, p) (ap (λ (m : ℕ). answered answer.Refused st (answer.Added label m) (append g st i (v .blocks) (slotOf g e label))) (same-none _ n q));
       }))
 
-  pub add-held : (l n : ℕ) → findIn g st i e ≡ found.Held l n → addIn g st i e label ≡ record { answer = answer.Held l n; after = st }
+  pub add-held : (l n : ℕ) → findIn g st i e ≡ found.Held l n → addIn g st i e label ≡ unchanged st (answer.Held l n)
   unfolding findIn addIn
   add-held l n q = held-as l n (content g st i) q
 
-  pub add-refused : (why : Refusal) → findIn g st i e ≡ found.Refused why → addIn g st i e label ≡ record { answer = answer.Refused why; after = st }
+  pub add-refused : (why : Refusal) → findIn g st i e ≡ found.Refused why → addIn g st i e label ≡ unchanged st (answer.Refused why)
   unfolding findIn addIn
   add-refused why q = refused-seen why (content g st i) q
 
@@ -105,11 +107,11 @@ module _ (g : Layout) (st : State) (i e label : ℕ) where
   missing n q = missing-as n (content g st i) refl q
 
 module _ (g : Layout) (t : List ℕ) (T : Table g t) (y : Bytes t) (i e label : ℕ) where
-  pub added-same : (r : AddAnswer) → addIn g (decode g t) i e label ≡ record { answer = r; after = decode g t } → Added g t t i e label r
+  pub added-same : (r : AddAnswer) → addIn g (decode g t) i e label ≡ unchanged (decode g t) r → Added g t t i e label r
   added-same r q =
       record {
-        answer = ap (λ (a : Adding g). a .answer) (sym q);
-        bytes = written-own g t T y ∙ ap (λ (a : Adding g). written g t (a .after)) (sym q);
+        answer = ap (λ (a : Answered AddAnswer). a .answer) (sym q);
+        bytes = sym (written-own g (T .proper) t) ∙ ap (λ (a : Answered AddAnswer). written g t (a .after)) (sym q);
       }
 
 pub added-more : (g : Layout) (t u : List ℕ) (i : ℕ) (v : Item) (r : AddAnswer) → Missing g (decode g t) i (keyNumber (v .entry)) (v .label) (v .compared)
@@ -117,8 +119,8 @@ pub added-more : (g : Layout) (t u : List ℕ) (i : ℕ) (v : Item) (r : AddAnsw
 unfolding appendTo
 added-more g t u i v r m a =
     record {
-      answer = a .answer ∙ ap (λ (x : Adding g). x .answer) (sym (m .goes));
-      bytes = a .bytes ∙ ap (λ (x : Adding g). written g t (x .after)) (sym (m .goes));
+      answer = a .answer ∙ ap (λ (x : Answered AddAnswer). x .answer) (sym (m .goes));
+      bytes = a .bytes ∙ ap (λ (x : Answered AddAnswer). written g t (x .after)) (sym (m .goes));
     }
 
 -- ---- the label of an added entry is the one that was given
@@ -133,7 +135,7 @@ same-added : (a b l n : ℕ) → answer.Added a b ≡ answer.Added l n → l ≡
 same-added a b l n e = cc
 
 module _ (g : Layout) (st : State) (i e label l n : ℕ) where
-  label-appended : (m : ℕ) (d : Done) → appended g st label m d .answer ≡ answer.Added l n → l ≡ label
+  label-appended : (m : ℕ) (d : Done) → answered answer.Refused st (answer.Added label m) d .answer ≡ answer.Added l n → l ≡ label
   label-appended m damage q = refused-added refusal.Damage l n q
   label-appended m noBlock q = refused-added refusal.NoBlock l n q
   label-appended m (done u) q = same-added label m l n q

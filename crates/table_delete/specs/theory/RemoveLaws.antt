@@ -10,11 +10,11 @@ use lib.Seq.{getD-take, getD-set-same, lt-length-set}
 use lib.Dec.{ltb}
 use lib.Pow.{pow-pos}
 use borrow.Author.Tests.{ltb-true}
+use Rattle.laws.specs.Cases.{cases}
 use Rattle.bits.specs.Bytes.{Bytes}
 use Rattle.bits.specs.Field.{field}
 use Rattle.bits.specs.Put.{putField}
 use Rattle.bits.specs.theory.Puts.{put-zero}
-use Rattle.settings.specs.theory.Cases.{cases}
 use Rattle.settings.specs.Legal.{legal}
 use Rattle.settings.specs.Layout.{layoutOf}
 use Rattle.keys.specs.Key.{keyNumber, listNumber, entry}
@@ -23,44 +23,52 @@ use Rattle.keys.specs.declared.Key.{Key}
 use Rattle.settings.specs.declared.layout.Layout.{Layout}
 use Rattle.settings.specs.declared.refusal.Refusal.{Refusal}
 use Rattle.settings.specs.declared.refusal.Refusal.the-variants as refusal
-use Rattle.table.specs.State.{Basic, Overflow, State, mkBasic, basicAt, overflowAt, unpack, headOf, restOf}
+use Rattle.table.specs.State.{Basic, Overflow, State, emptyBasic, basicAt, overflowAt, unpack, ownSlots, basicOf}
+use Rattle.table.specs.Updates.{overBasic, withBasicCounter}
 use Rattle.table.specs.Decode.{basicSlots, overflowSlots, readOverflow, decode, written}
-use Rattle.table.specs.Table.{Table}
-use Rattle.table.specs.Follow.{Seen, lastOf, gather, content}
+use Rattle.table.specs.Table.{Table, Within}
+use Rattle.table.specs.Follow.{lastOf, Seen, gather, content}
 use Rattle.table.specs.Find.{position, isHeld, labelAt, findSeen, findIn}
-use Rattle.table.specs.Take.{damage, done}
-use Rattle.table.specs.Delete.{Deleting, poke, shrink, shrunk, deleteSeen, deleteIn}
+use Rattle.table.specs.Delete.{priorOf, basicSlotOff, shrinkAt, shrink, deleteSeen, deleteIn}
 use Rattle.table.specs.Calls.{deleteAnswer, deleteBytes}
 use Rattle.table_read.specs.Steps.{shown, basicRun}
 use Rattle.table_read.specs.Spots.{blocksFrom, Reaches}
+use Rattle.table.specs.Done.{Done, damage, done, Answered, unchanged, answered}
+use Rattle.table.specs.Store.{slotIn, storeAt}
 use Rattle.table.specs.theory.Arrays.{getD-tab}
 use Rattle.table.specs.theory.Changes.{at-over}
 use Rattle.table_read.specs.theory.Reads.{unpack-length, slot-in, basic-slots-in}
 use Rattle.table_read.specs.theory.Walks.{last-low, content-short}
-use Rattle.table_read.specs.theory.Spots.{Chained, chain-low, last-few, gather-some, content-chained, long-full, long-ends, long-blocks, long-length}
+use Rattle.table_read.specs.theory.Spots.{Chained, last-few, gather-some, content-chained, long-full, long-ends, long-blocks, long-length}
 use Rattle.table.specs.theory.Opened.{opened-illegal, opened-short, opened-on, keyed-out, keyed-on}
+use Rattle.table.specs.theory.Formed.{basics}
 use Rattle.table.specs.declared.answers.FindAnswer.the-variants as found
 use Rattle.table.specs.declared.answers.DeleteAnswer.{DeleteAnswer}
 use Rattle.table.specs.declared.answers.DeleteAnswer.the-variants as answer
-use Rattle.table_store.specs.Stores.{basicSlot, overflowSlot, basicCounterPut, slotPut}
-use Rattle.table_store.specs.theory.StoreLaws.{overBasic, slotIn, basic-twice, basics, Stored, stored-none, stored-then, stored-as, stored-written, stored-basic-counter, stored-basic-slot}
-use Rattle.table_delete.specs.DeleteSteps.{endIn, shrinkAt, stuckAt, pokeAt, removal, removalOf, Placed, Removed, Deleted, DeleteCall}
-use Rattle.table_delete.specs.theory.DeleteLaws.{getD-end, prev-low, last-slot, shrink-open, shrink-shut, poke-is, poke-keeps, stuck-kept}
+use Rattle.table_store.specs.Stores.{basicCounterPut, slotPut, Stored}
+use Rattle.table_store.specs.Places.{storeFrom}
+use Rattle.table_store.specs.theory.StoreLaws.{basic-twice, stored-none, stored-then, stored-as, stored-written, stored-basic-counter, stored-basic-slot}
+use Rattle.table_store.specs.theory.PlaceLaws.{store-is, store-keeps}
+use Rattle.table_delete.specs.DeleteSteps.{endIn, cannotFreeAt, removalOf, removal, Placed, Removed}
+use Rattle.table_delete.specs.Call.{Deleted, DeleteCall}
+use Rattle.table_delete.specs.theory.DeleteLaws.{getD-end, last-slot, free-kept, prior-low}
+use Rattle.table_read.specs.Places.{basicSlot, overflowSlot}
 use Rattle.table_delete.specs.declared.shrink.End.{End}
+use Rattle.table.specs.declared.step.Before.the-variants as prior
 
 -- the last slot of overflow block l
 abbrev pub lastSlot : State → ℕ → ℕ
 lastSlot st l = getD (overflowAt (st .overflow) l .slots) (overflowAt (st .overflow) l .counter) 0
 
-abbrev slotsOf : Option Seen → ℕ
-slotsOf none = 0
-slotsOf (some v) = length (v .slots)
+abbrev lengthOf : Option Seen → ℕ
+lengthOf none = 0
+lengthOf (some v) = length (v .slots)
 
 module _ (g : Layout) (st : State) (i p : ℕ) (P : Placed g st i p) where
   -- ---- a list without overflow blocks
   module _ (h : basicAt (st .basic) i .counter ≤ g .sib) where
     abbrev slots : List ℕ
-    slots = unpack g (basicAt (st .basic) i .head) (basicAt (st .basic) i .rest)
+    slots = ownSlots g (basicAt (st .basic) i)
 
     used : length (take (basicAt (st .basic) i .counter) slots) ≡ basicAt (st .basic) i .counter
     used =
@@ -71,16 +79,16 @@ module _ (g : Layout) (st : State) (i p : ℕ) (P : Placed g st i p) where
         )
 
     pub short-place : p < basicAt (st .basic) i .counter
-    short-place = omega (arith, used, P .within, ap slotsOf (sym (P .is) ∙ content-short g st i h))
+    short-place = omega (arith, used, P .within, ap lengthOf (sym (P .is) ∙ content-short g st i h))
 
-    pub short-is : removal g st i p ≡ shrink g (poke g st i [] p (getD slots (basicAt (st .basic) i .counter - 1) 0)) i []
+    pub short-is : removal g st i p ≡ shrink g (storeAt g st i [] p (getD slots (basicAt (st .basic) i .counter - 1) 0)) i []
     unfolding removal
     short-is =
         let n = basicAt (st .basic) i .counter in
         let e : length (take (basicAt (st .basic) i .counter) slots) - 1 ≡ basicAt (st .basic) i .counter - 1 = omega (arith, used) in
         let l : basicAt (st .basic) i .counter - 1 < basicAt (st .basic) i .counter = omega (arith, short-place) in
         ap (removalOf g st i p) (content-short g st i h)
-        ∙ ap (λ (x : ℕ). shrink g (poke g st i [] p x) i [])
+        ∙ ap (λ (x : ℕ). shrink g (storeAt g st i [] p x) i [])
         (ap (λ (k : ℕ). getD (take n slots) k 0) e ∙ getD-take n slots (n - 1) 0 l)
 
   -- ---- a list with overflow blocks
@@ -106,42 +114,45 @@ module _ (g : Layout) (st : State) (i p : ℕ) (P : Placed g st i p) where
     inside : g .sib ≤ p → p - g .sib < length tail
     inside l = omega (arith, P .within, long-length g st i (P .seen) (P .is) h)
 
-    abbrev poked : State
-    poked = pokeAt g i first last p (lastSlot st last) st
+    abbrev filled : State
+    filled = storeFrom g i first last p (lastSlot st last) st
 
-    long-is : removal g st i p ≡ shrink g poked i (first ∷ others)
+    long-is : removal g st i p ≡ shrink g filled i (first ∷ others)
     unfolding removal
     long-is =
         ap (removalOf g st i p) (content-chained g st i (long-full g st i (P .seen) (P .is) h) blocks)
-        ∙ ap (λ (x : ℕ). shrink g (poke g st i (first ∷ others) p x) i (first ∷ others))
+        ∙ ap (λ (x : ℕ). shrink g (storeAt g st i (first ∷ others) p x) i (first ∷ others))
         (getD-end body tail (gather-some g (st .overflow) sz (blocks .chain)) ∙ last-slot g (st .overflow) sz (blocks .chain))
-        ∙ ap (λ (u : State). shrink g u i (first ∷ others)) (poke-is g st i sz (blocks .chain) (blocks .are) p (lastSlot st last) inside)
+        ∙ ap (λ (u : State). shrink g u i (first ∷ others)) (store-is g st i sz (blocks .chain) (blocks .are) p (lastSlot st last) inside)
 
     pub record Route (b : ℕ) (e : End) : Type 0 where
       pub low : e .last .0 < g .nob
       pub few : overflowAt (st .overflow) (e .last .0) .counter < g .sio
+      pub prior-low : Within g (e .before)
       pub reaches : g .sib ≤ p → Reaches g (st .overflow) b (p - g .sib)
-      pub shut : stuckAt g (e .last .0) st ≡ true → removal g st i p ≡ damage
-      pub goes : stuckAt g (e .last .0) st ≡ false
-          → removal g st i p ≡ done (shrinkAt g i (e .last .0) (e .before .0) (pokeAt g i b (e .last .0) p (lastSlot st (e .last .0)) st))
+      pub is : removal g st i p
+          ≡ cond (cannotFreeAt g (e .last .0) st) damage
+          (done (shrinkAt g i (e .last .0) (e .before) (storeFrom g i b (e .last .0) p (lastSlot st (e .last .0)) st)))
 
-    route-is : Route first (endIn g (g .nob) (first ∷ others))
+    shrunk-is : shrink g filled i (first ∷ others) ≡ cond (cannotFreeAt g last st) damage (done (shrinkAt g i last (priorOf prior.Basic first others) filled))
+    unfolding shrink
+    shrunk-is = rw (free-kept g st i filled (store-keeps g st i first last p (lastSlot st last)) last)
+
+    route-is : Route first (endIn g prior.Basic (first ∷ others))
     route-is =
         record {
           low = last-low g (st .overflow) (blocks .chain);
           few = last-few g (st .overflow) (blocks .chain);
+          prior-low = prior-low g (st .overflow) prior.Basic tt (blocks .chain);
           reaches = λ l. record { ends = long-ends g st i (P .seen) (P .is) h; within = rw (blocks .are) (inside l) };
-          shut = λ q. long-is ∙ shrink-shut g poked i first others (stuck-kept g st i poked (poke-keeps g st i first last p (lastSlot st last)) last ∙ q);
-          goes = λ q. long-is
-              ∙ shrink-open g poked i first others (prev-low g (st .overflow) first (chain-low g (st .overflow) (blocks .chain)) (blocks .chain))
-              (stuck-kept g st i poked (poke-keeps g st i first last p (lastSlot st last)) last ∙ q);
+          is = long-is ∙ shrunk-is;
         }
 
     -- b is the first of the overflow blocks, and e is their end
-    pub route : (b : ℕ) (e : End) → b ≡ first → e ≡ endIn g (g .nob) (blocksFrom g (st .overflow) b) → Route b e
+    pub route : (b : ℕ) (e : End) → b ≡ first → e ≡ endIn g prior.Basic (blocksFrom g (st .overflow) b) → Route b e
     route b e eb ee =
         subst (λ (x : ℕ). Route x e) (sym eb)
-        (subst (λ (x : End). Route first x) (sym (ee ∙ ap (λ (x : ℕ). endIn g (g .nob) (blocksFrom g (st .overflow) x)) eb ∙ ap (endIn g (g .nob)) (blocks .are))) route-is)
+        (subst (λ (x : End). Route first x) (sym (ee ∙ ap (λ (x : ℕ). endIn g prior.Basic (blocksFrom g (st .overflow) x)) eb ∙ ap (endIn g prior.Basic) (blocks .are))) route-is)
 
 -- ---- the slot that moves
 
@@ -153,10 +164,10 @@ module _ (g : Layout) (t : List ℕ) (T : Table g t) where
       ∙ getD-tab (g .sio) (λ q. field t (overflowSlots g j + q * g .slot) (g .slot)) k 0 l
 
   pub basic-slot-is : (i k : ℕ) → i < g .lists → k < g .sib
-      → getD (unpack g (basicAt (decode g t .basic) i .head) (basicAt (decode g t .basic) i .rest)) k 0 ≡ field t (basicSlot g i k) (g .slot)
+      → getD (ownSlots g (basicAt (decode g t .basic) i)) k 0 ≡ field t (basicSlot g i k) (g .slot)
   unfolding basicRun shown basicSlot
   basic-slot-is i k h l =
-      let es = unpack g (basicAt (decode g t .basic) i .head) (basicAt (decode g t .basic) i .rest) in
+      let es = ownSlots g (basicAt (decode g t .basic) i) in
       sym (getD-take (g .sib) es k 0 l)
       ∙ ap (λ (xs : List ℕ). getD xs k 0) (sym (basic-slots-in g t T i (g .sib) h (omega arith)))
       ∙ slot-in g t (basicRun g i (g .sib)) k l
@@ -164,16 +175,11 @@ module _ (g : Layout) (t : List ℕ) (T : Table g t) where
 
   -- ---- a removal from a list without overflow blocks
 
-  abbrev off : Basic → Basic
-  off b =
-      let body = set (unpack g (b .head) (b .rest)) (b .counter - 1) 0 in
-      mkBasic (b .counter - 1) (headOf g body) (restOf g body)
-
   pub removed-short : (i p c x : ℕ) → i < g .lists → Placed g (decode g t) i p → c ≡ basicAt (decode g t .basic) i .counter → c ≤ g .sib
       → x ≡ field t (basicSlot g i (c - 1)) (g .slot) → x < 2 ^ g .slot
       → (a b u : List ℕ) → a ≡ slotPut g t (basicSlot g i p) x → b ≡ putField a (basicSlot g i (c - 1)) (g .slot) 0 → u ≡ basicCounterPut g b i (c - 1)
       → Removed g t u i p true
-  unfolding slotPut poke shrink
+  unfolding slotPut storeAt shrink
   removed-short i p c x hi P ec hc ex hx a b u ea eb eu =
       let st = decode g t in
       let n = basicAt (decode g t .basic) i .counter in
@@ -188,21 +194,21 @@ module _ (g : Layout) (t : List ℕ) (T : Table g t) where
       let l : i < length (set (decode g t .basic) i (slotIn g p x (basicAt (decode g t .basic) i))) = lt-length-set (decode g t .basic) i (slotIn g p x (basicAt (decode g t .basic) i)) there in
       let m : c - 1 ≡ basicAt (st₁ .basic) i .counter - 1 =
       ap (λ (y : ℕ). y - 1)
-      (ec ∙ sym (ap (λ (y : Basic). y .counter) (getD-set-same (decode g t .basic) i (slotIn g p x (basicAt (decode g t .basic) i)) (mkBasic 0 0 0) there))) in
+      (ec ∙ sym (ap (λ (y : Basic). y .counter) (getD-set-same (decode g t .basic) i (slotIn g p x (basicAt (decode g t .basic) i)) emptyBasic there))) in
       record {
-        state = overBasic i off st₁;
+        state = overBasic i (basicSlotOff g) st₁;
         is =
             short-is g (decode g t) i p P hn
-            ∙ ap (λ (y : ℕ). shrink g (poke g (decode g t) i [] p y) i [])
+            ∙ ap (λ (y : ℕ). shrink g (storeAt g (decode g t) i [] p y) i [])
             (basic-slot-is i (basicAt (decode g t .basic) i .counter - 1) hi (omega arith)
             ∙ ap (λ (y : ℕ). field t (basicSlot g i (y - 1)) (g .slot)) (sym ec) ∙ sym ex);
         stored =
-            stored-as (overBasic i off st₁)
-            (stored-then (overBasic i (λ y. mkBasic (c - 1) (y .head) (y .rest))) (stored-then (overBasic i (slotIn g (c - 1) 0)) s₁ s₂) s₃)
-            (basic-twice i (λ y. mkBasic (c - 1) (y .head) (y .rest)) (slotIn g (c - 1) 0) st₁ l
+            stored-as (overBasic i (basicSlotOff g) st₁)
+            (stored-then (overBasic i (withBasicCounter (c - 1))) (stored-then (overBasic i (slotIn g (c - 1) 0)) s₁ s₂) s₃)
+            (basic-twice i (withBasicCounter (c - 1)) (slotIn g (c - 1) 0) st₁ l
             ∙ ap
             (λ (q : ℕ). overBasic i
-            (λ y. mkBasic q (headOf g (set (unpack g (y .head) (y .rest)) q 0)) (restOf g (set (unpack g (y .head) (y .rest)) q 0))) st₁)
+            (λ y. basicOf g q (set (ownSlots g y) q 0)) st₁)
             m);
       }
 
@@ -211,24 +217,29 @@ module _ (g : Layout) (t : List ℕ) (T : Table g t) where
 module _ (g : Layout) (t : List ℕ) (T : Table g t) (i p : ℕ) (P : Placed g (decode g t) i p)
     (sz : (j : ℕ) → j < g .nob → length (overflowAt (decode g t .overflow) j .slots) ≡ g .sio) (h : g .sib < basicAt (decode g t .basic) i .counter)
     (b : ℕ) (e : End) (R : Route g (decode g t) i p P sz h b e) where
-  pub removed-shut : (r : Bool) → r ≡ stuckAt g (e .last .0) (decode g t) → r ≡ true → Removed g t t i p false
-  removed-shut r er q = record { state = decode g t; is = R .shut (sym er ∙ q); stored = stored-none T }
+  abbrev ended : Bool → Done
+  ended r =
+      cond r damage
+      (done (shrinkAt g i (e .last .0) (e .before) (storeFrom g i b (e .last .0) p (lastSlot (decode g t) (e .last .0)) (decode g t))))
 
-  pub removed-open : (r : Bool) → r ≡ stuckAt g (e .last .0) (decode g t) → r ≡ false → (n at x : ℕ)
+  pub removed-shut : (r : Bool) → r ≡ cannotFreeAt g (e .last .0) (decode g t) → r ≡ true → Removed g t t i p false
+  removed-shut r er q = record { state = decode g t; is = R .is ∙ ap ended (sym er ∙ q); stored = stored-none T }
+
+  pub removed-open : (r : Bool) → r ≡ cannotFreeAt g (e .last .0) (decode g t) → r ≡ false → (n at x : ℕ)
       → n ≡ overflowAt (decode g t .overflow) (e .last .0) .counter → at ≡ overflowSlot g (e .last .0) n → x ≡ field t at (g .slot) → (a u : List ℕ)
-      → Stored g t a (pokeAt g i b (e .last .0) p x (decode g t)) → Stored g a u (shrinkAt g i (e .last .0) (e .before .0) (decode g a)) → Removed g t u i p true
+      → Stored g t a (storeFrom g i b (e .last .0) p x (decode g t)) → Stored g a u (shrinkAt g i (e .last .0) (e .before) (decode g a)) → Removed g t u i p true
   removed-open r er q n at x en ea ex a u s₁ s₂ =
       let st = decode g t in
       let z : x ≡ lastSlot (decode g t) (e .last .0) =
       ex ∙ ap (λ (y : ℕ). field t y (g .slot)) (ea ∙ ap (overflowSlot g (e .last .0)) en)
       ∙ sym (overflow-slot-is g t T (e .last .0) (overflowAt (decode g t .overflow) (e .last .0) .counter) (R .low) (R .few)) in
       record {
-        state = shrinkAt g i (e .last .0) (e .before .0) (pokeAt g i b (e .last .0) p (lastSlot (decode g t) (e .last .0)) (decode g t));
-        is = R .goes (sym er ∙ q);
+        state = shrinkAt g i (e .last .0) (e .before) (storeFrom g i b (e .last .0) p (lastSlot (decode g t) (e .last .0)) (decode g t));
+        is = R .is ∙ ap ended (sym er ∙ q);
         stored =
-            stored-as (shrinkAt g i (e .last .0) (e .before .0) (pokeAt g i b (e .last .0) p (lastSlot (decode g t) (e .last .0)) (decode g t)))
-            (stored-then (shrinkAt g i (e .last .0) (e .before .0)) s₁ s₂)
-            (ap (λ (y : ℕ). shrinkAt g i (e .last .0) (e .before .0) (pokeAt g i b (e .last .0) p y (decode g t))) z);
+            stored-as (shrinkAt g i (e .last .0) (e .before) (storeFrom g i b (e .last .0) p (lastSlot (decode g t) (e .last .0)) (decode g t)))
+            (stored-then (shrinkAt g i (e .last .0) (e .before)) s₁ s₂)
+            (ap (λ (y : ℕ). shrinkAt g i (e .last .0) (e .before) (storeFrom g i b (e .last .0) p y (decode g t))) z);
       }
 
 -- ---- what find answers, and delete comes to
@@ -237,7 +248,7 @@ module _ (g : Layout) (t : List ℕ) (T : Table g t) (i p : ℕ) (P : Placed g (
 pub record Found (g : Layout) (st : State) (i e l n : ℕ) : Type 0 where
   pub some-compared : 0 < n
   pub placed : Placed g st i (n - 1)
-  pub goes : deleteIn g st i e ≡ shrunk g st l n (removal g st i (n - 1))
+  pub goes : deleteIn g st i e ≡ answered answer.Refused st (answer.Gone l n) (removal g st i (n - 1))
 
 module _ (g : Layout) (st : State) (i e : ℕ) where
   found-as : (l n : ℕ) (o : Option Seen) → content g st i ≡ o → findSeen g e o ≡ found.Held l n → Found g st i e l n
@@ -255,22 +266,22 @@ module _ (g : Layout) (st : State) (i e : ℕ) where
         placed = record { seen = v; is = w; within = omega arith };
         goes =
             rw (w, p)
-            (ap₂ (λ (x y : ℕ). shrunk g st x y (removalOf g st i (position g e (v .slots)) (some v))) el en
-            ∙ ap (λ (y : ℕ). shrunk g st l n (removalOf g st i y (some v))) (sym k));
+            (ap₂ (λ (x y : ℕ). answered answer.Refused st (answer.Gone x y) (removalOf g st i (position g e (v .slots)) (some v))) el en
+            ∙ ap (λ (y : ℕ). answered answer.Refused st (answer.Gone l n) (removalOf g st i y (some v))) (sym k));
       }))
       (λ p. rw p (λ q. absurd (let z : _≡_ {A = ℕ} 0 1 = cc in omega arith)))
 
-  none-as : (n : ℕ) (o : Option Seen) → findSeen g e o ≡ found.None n → deleteSeen g st i e o ≡ record { answer = answer.None n; after = st }
+  none-as : (n : ℕ) (o : Option Seen) → findSeen g e o ≡ found.None n → deleteSeen g st i e o ≡ unchanged st (answer.None n)
   unfolding findSeen deleteSeen
   none-as n none = λ q. absurd (let z : _≡_ {A = ℕ} 0 1 = cc in omega arith)
   none-as n (some v) =
       cases (isHeld g e (v .slots))
       (λ p. rw p (λ q. absurd (let z : _≡_ {A = ℕ} 0 1 = cc in omega arith)))
-      (λ p. rw p (λ q. let z : length (v .slots) ≡ n = cc in ap (λ (m : ℕ). record { answer = answer.None m; after = st }) z))
+      (λ p. rw p (λ q. let z : length (v .slots) ≡ n = cc in ap (λ (m : ℕ). unchanged st (answer.None m)) z))
 
-  refused-as : (why : Refusal) (o : Option Seen) → findSeen g e o ≡ found.Refused why → deleteSeen g st i e o ≡ record { answer = answer.Refused why; after = st }
+  refused-as : (why : Refusal) (o : Option Seen) → findSeen g e o ≡ found.Refused why → deleteSeen g st i e o ≡ unchanged st (answer.Refused why)
   unfolding findSeen deleteSeen
-  refused-as why none = λ q. let z : refusal.Damage ≡ why = cc in ap (λ (x : Refusal). record { answer = answer.Refused x; after = st }) z
+  refused-as why none = λ q. let z : refusal.Damage ≡ why = cc in ap (λ (x : Refusal). unchanged st (answer.Refused x)) z
   refused-as why (some v) =
       cases (isHeld g e (v .slots))
       (λ p. rw p (λ q. absurd (let z : _≡_ {A = ℕ} 0 1 = cc in omega arith)))
@@ -280,11 +291,11 @@ module _ (g : Layout) (st : State) (i e : ℕ) where
   unfolding findIn
   delete-found l n q = found-as l n (content g st i) refl q
 
-  pub delete-none : (n : ℕ) → findIn g st i e ≡ found.None n → deleteIn g st i e ≡ record { answer = answer.None n; after = st }
+  pub delete-none : (n : ℕ) → findIn g st i e ≡ found.None n → deleteIn g st i e ≡ unchanged st (answer.None n)
   unfolding findIn deleteIn
   delete-none n q = none-as n (content g st i) q
 
-  pub delete-refused : (why : Refusal) → findIn g st i e ≡ found.Refused why → deleteIn g st i e ≡ record { answer = answer.Refused why; after = st }
+  pub delete-refused : (why : Refusal) → findIn g st i e ≡ found.Refused why → deleteIn g st i e ≡ unchanged st (answer.Refused why)
   unfolding findIn deleteIn
   delete-refused why q = refused-as why (content g st i) q
 
@@ -292,11 +303,11 @@ module _ (g : Layout) (t : List ℕ) (T : Table g t) (y : Bytes t) (i e : ℕ) w
   deleted : (u : List ℕ) (su : State) (r : DeleteAnswer) → Stored g t u su → deleteIn g (decode g t) i e ≡ record { answer = r; after = su } → Deleted g t u i e r
   deleted u su r s q =
       record {
-        answer = ap (λ (d : Deleting g). d .answer) (sym q);
-        bytes = stored-written T y s ∙ ap (λ (d : Deleting g). written g t (d .after)) (sym q);
+        answer = ap (λ (d : Answered DeleteAnswer). d .answer) (sym q);
+        bytes = stored-written T y s ∙ ap (λ (d : Answered DeleteAnswer). written g t (d .after)) (sym q);
       }
 
-  pub deleted-same : (r : DeleteAnswer) → deleteIn g (decode g t) i e ≡ record { answer = r; after = decode g t } → Deleted g t t i e r
+  pub deleted-same : (r : DeleteAnswer) → deleteIn g (decode g t) i e ≡ unchanged (decode g t) r → Deleted g t t i e r
   deleted-same r q = deleted t (decode g t) r (stored-none T) q
 
   module _ (l n : ℕ) (F : Found g (decode g t) i e l n) (u : List ℕ) (r : Bool) (R : Removed g t u i (n - 1) r) where
@@ -304,13 +315,13 @@ module _ (g : Layout) (t : List ℕ) (T : Table g t) (y : Bytes t) (i e : ℕ) w
     deleted-gone q =
         deleted u (R .state) (answer.Gone l n)
         (stored-as (R .state) (R .stored) (ap (λ (x : Bool). cond x (R .state) (decode g t)) q))
-        (F .goes ∙ ap (shrunk g (decode g t) l n) (R .is ∙ ap (λ (x : Bool). cond x (done (R .state)) damage) q))
+        (F .goes ∙ ap (answered answer.Refused (decode g t) (answer.Gone l n)) (R .is ∙ ap (λ (x : Bool). cond x (done (R .state)) damage) q))
 
     pub deleted-stuck : r ≡ false → Deleted g t u i e (answer.Refused refusal.Damage)
     deleted-stuck q =
         deleted u (decode g t) (answer.Refused refusal.Damage)
         (stored-as (decode g t) (R .stored) (ap (λ (x : Bool). cond x (R .state) (decode g t)) q))
-        (F .goes ∙ ap (shrunk g (decode g t) l n) (R .is ∙ ap (λ (x : Bool). cond x (done (R .state)) damage) q))
+        (F .goes ∙ ap (answered answer.Refused (decode g t) (answer.Gone l n)) (R .is ∙ ap (λ (x : Bool). cond x (done (R .state)) damage) q))
 
 -- ---- the call, by its tests
 

@@ -1,14 +1,16 @@
 -- What is found from here on, with the slots passed, is what is found from the first block on.
 use mathlib.Core.Path.{_≡_, sym, ap, _∙_}
-use Prim.Native.Nat.{_+_, _-_, _*_, _^_, _≤_}
+use Prim.Native.Nat.{_+_, _-_, _*_, _^_, _≤_, _<_}
 use native.Mathlib.Omega.{arith}
 use denote.Ref.{now}
+use borrow.Author.Needs.{needs}
 use lib.ListN.{length}
 use Rattle.keys.specs.Key.{keyNumber}
 use Rattle.table.specs.Decode.{decode}
 use Rattle.table.specs.Find.{position}
 use Rattle.table_read.specs.Steps.{slotsIn, overflowRun, Followed, gatherFrom, findFrom}
 use Rattle.table_read.specs.theory.Reads.{overflow-run-within}
+use Rattle.table.specs.theory.Ways.{told-further, told-other}
 use Rattle.table_read.specs.theory.Walks.{Turn, turn}
 use Rattle.table_read.specs.theory.Finds.{block-held, block-none, block-on}
 use Rattle.table_read.specs.theory.Scans.{overflow-row, label-inside, plain-position, held-plain}
@@ -147,53 +149,64 @@ add-n c =
     let s = m .before .before in
     omega (arith, m .loop .inv .0, m .loop .inv .1, s .pre .0 .proper .nob-high, s .pre .3, few (d .before))
 
-cast-t20 : tie.Need-cast-t20 Inv-loop μ-loop
-cast-t20 c =
-    let d = c .before .before .before .before .before .before .before in
+step-of-requires : tie.Need-step-of-requires Inv-loop μ-loop
+step-of-requires c κs = search needs
+
+enum-known-next : tie.Need-enum-known-next Inv-loop μ-loop
+enum-known-next c = search needs
+
+cast-t22 : tie.Need-cast-t22 Inv-loop μ-loop
+cast-t22 c =
+    let d = c .before .before .before .before .before .before in
     let m = d .before .before .before .before .before in
     let s = m .before .before in
     omega (arith, m .loop .inv .0, m .loop .inv .1, s .pre .0 .proper .nob-high, s .pre .3, few (d .before))
 
 returns-2 : tie.Need-returns-2 Inv-loop μ-loop
 returns-2 c =
-    let o = c .before .before .before .before in
+    let w = c .before in
+    let o = w .before .before in
     let d = o .before .before .before in
     let f = d .before .before in
     let m = f .before .before .before in
     let s = m .before .before in
+    let other = told-other _ _ _ _ (w .step-of .ensures) (λ e z. omega (arith, rw e at z)) (λ e z. omega (arith, rw e at z)) (c .match .keys2) in
+    let last : f .overflow-front .result .counter < s .args .g .sio = omega (arith, f .overflow-front .ensures .0, here m .count, other) in
     block-none (s .args .g) (now (s .args .t)) (s .pre .0) (keyNumber (s .args .entry)) (m .loop .n) (s .args .g .nob - m .loop .q) (m .loop .b .0)
     (f .overflow-front .result .counter) (d .scan .result .0) (d .before .overflow-run .result) (here m)
-    (f .overflow-front .ensures .0) (d .before .overflow-run .ensures) (place d) (o .if2 .left) (c .if3 .taken)
+    (f .overflow-front .ensures .0) (d .before .overflow-run .ensures) (place d) (o .if2 .left) last
     ∙ m .loop .inv .3
 
 add-q : tie.Need-add-q Inv-loop μ-loop
-add-q c = omega arith
+add-q c =
+    let m = c .before .before .before .before .before .before .before .before .before .before .before .before .before in
+    omega (arith, m .loop .inv .0, m .before .before .pre .0 .proper .nob-high)
 
 loop-less : tie.Need-loop-less Inv-loop μ-loop
 loop-less c = omega arith
 
 loop-again : tie.Need-loop-again Inv-loop μ-loop
 loop-again c =
-    let o = c .before .before .before .before in
+    let w = c .before .before .before in
+    let o = w .before .before in
     let d = o .before .before .before in
     let k = d .before .before in
     let m = k .before .before .before in
     let s = m .before .before in
-    let os = decode (s .args .g) (now (s .args .t)) .overflow in
-    let full : k .overflow-front .result .counter ≡ s .args .g .sio = omega (arith, k .overflow-front .ensures .0, here m .count, c .if3 .left) in
+    let e = told-further _ _ _ _ (w .step-of .ensures) _ (c .before .next .given .1) in
     let f : s .args .g .nob - m .loop .q - 1 ≡ s .args .g .nob - (m .loop .q + 1) = omega arith in (
       omega arith,
       omega (arith, few (d .before)),
-      rw (k .overflow-front .ensures .1, ← f) (here m .on (sym (k .overflow-front .ensures .0) ∙ full)),
-      rw (k .overflow-front .ensures .1, ← f)
+      rw (e .link, k .overflow-front .ensures .1, ← f) (here m .on (sym (k .overflow-front .ensures .0) ∙ e .full)),
+      rw (e .link, k .overflow-front .ensures .1, ← f)
           (block-on (s .args .g) (now (s .args .t)) (s .pre .0) (keyNumber (s .args .entry)) (m .loop .n) (s .args .g .nob - m .loop .q) (m .loop .b .0)
           (k .overflow-front .result .counter) (d .scan .result .0) (d .before .overflow-run .result) (here m)
-          (k .overflow-front .ensures .0) (d .before .overflow-run .ensures) (place d) (o .if2 .left) full
+          (k .overflow-front .ensures .0) (d .before .overflow-run .ensures) (place d) (o .if2 .left) (e .full)
           ∙ m .loop .inv .3),
     )
 
-cast-t21 : tie.Need-cast-t21 Inv-loop μ-loop
-cast-t21 c =
+cast-t23 : tie.Need-cast-t23 Inv-loop μ-loop
+cast-t23 c =
     let m = c .before .before in
     absurd (omega (arith, here m .fuel))
 
@@ -220,10 +233,12 @@ find-blocks-spec =
     held-requires
     returns
     add-n
-    cast-t20
+    step-of-requires
+    enum-known-next
+    cast-t22
     returns-2
     add-q
     loop-less
     loop-again
-    cast-t21
+    cast-t23
     returns-3)

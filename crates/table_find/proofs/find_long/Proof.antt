@@ -87,8 +87,7 @@ unfolding keyNumber
 scan-displaced-requires c κs =
     let s = c .before .before .before .before .before .before .before in
     let R = run-within c in
-    let n = all c in
-    ((rw n at (run-row (s .args .g) (s .pre .0 .proper) (now (s .args .t)) (c .displaced-run .result) R), omega arith, s .pre .3), (R .block, R .link, R .fits))
+    ((run-row (s .args .g) (s .pre .0 .proper) (now (s .args .t)) (c .displaced-run .result) R, omega (arith, all c, s .pre .0 .proper .sib-low), s .pre .3), (R .block, R .link, R .fits))
 
 mul-label-at : tie.Need-mul-label-at
 mul-label-at c = omega (arith, inside (c .before .before))

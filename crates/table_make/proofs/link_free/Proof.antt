@@ -10,6 +10,7 @@ use Rattle.bits.specs.Put.{putField}
 use Rattle.settings.specs.declared.layout.Layout.{Layout}
 use Rattle.table.specs.Decode.{linkAt}
 use Rattle.table.specs.New.{newOverflow}
+use Rattle.table_store.specs.Stores.{linkPut}
 use Rattle.table_make.specs.NewSteps.{linked}
 use Rattle.table_make.proofs.New.{new-link-fits}
 use Rattle.table_make.proofs.link_free.Statement.{statement}
@@ -22,8 +23,8 @@ abbrev μ-loop : tie.MeasureT-loop
 μ-loop t₀ g j₀ t j = g .nob - j
 
 -- one more block
-more : (g : Layout) (t u v : List ℕ) (j l : ℕ) → u ≡ linked g j t → l ≡ newOverflow g j .link → v ≡ putField u (linkAt g j) (g .link) l → v ≡ linked g (suc j) t
-unfolding linked
+more : (g : Layout) (t u v : List ℕ) (j l : ℕ) → u ≡ linked g j t → l ≡ newOverflow g j .link → v ≡ linkPut g u j l → v ≡ linked g (suc j) t
+unfolding linked linkPut
 more g t u v j l eu el ev = ev ∙ ap₂ (λ (x : List ℕ) (y : ℕ). putField x (linkAt g j) (g .link) y) eu el
 
 loop-holds : tie.Need-loop-holds Inv-loop μ-loop
@@ -33,13 +34,13 @@ loop-holds c = (omega arith, refl, refl)
 free-link-requires : tie.Need-free-link-requires Inv-loop μ-loop
 free-link-requires c κs = omega arith
 
-put-link-requires : tie.Need-put-link-requires Inv-loop μ-loop
-put-link-requires c κs =
+put-overflow-link-requires : tie.Need-put-overflow-link-requires Inv-loop μ-loop
+put-overflow-link-requires c κs =
     let k = c .before .before .before .before in
     let a = k .before .before in
     let F = a .pre .proper in
     let h : k .loop .j < a .args .g .nob = omega (arith, c .before .before .if1 .taken) in
-    (record { proper = F; room = omega (arith, a .pre .room, k .loop .inv .2) }, h, rw (c .free-link .ensures) (new-link-fits (a .args .g) F (k .loop .j) h))
+    (record { proper = F; room = omega (arith, a .pre .room, k .loop .inv .2) }, h, rw (c .before .free-link .ensures) (new-link-fits (a .args .g) F (k .loop .j) h))
 
 add-j : tie.Need-add-j Inv-loop μ-loop
 add-j c = omega arith
@@ -55,8 +56,8 @@ loop-again c =
     let g = a .g in
     let j = k .loop .j in (
       omega (arith, p .before .before .before .if1 .taken),
-      rw (add-one j) (more g (now (a .t)) (k .loop .t) (p .put-link .last .0) j (p .before .free-link .result .0) (k .loop .inv .1) (p .before .free-link .ensures) (p .put-link .ensures)),
-      p .put-link .kept .0 ∙ k .loop .inv .2,
+      rw (add-one j) (more g (now (a .t)) (k .loop .t) (p .put-overflow-link .last .0) j (p .before .before .free-link .result .0) (k .loop .inv .1) (p .before .before .free-link .ensures) (p .put-overflow-link .ensures)),
+      p .put-overflow-link .kept .0 ∙ k .loop .inv .2,
     )
 
 same-length : tie.Need-same-length Inv-loop μ-loop
@@ -76,7 +77,7 @@ link-free-spec =
     μ-loop
     loop-holds
     free-link-requires
-    put-link-requires
+    put-overflow-link-requires
     add-j
     loop-less
     loop-again

@@ -1,10 +1,12 @@
 -- The layout's answer and the length decide the call's; zeroed and linked bytes are the new table's (`new-bytes`).
 use mathlib.Core.Path.{_≡_, sym, ap, _∙_}
 use mathlib.Core.Bool.{true}
-use Prim.Native.Nat.{_≤_}
+use mathlib.Core.List.{_++_}
+use Prim.Native.Nat.{ℕ, _≤_}
 use native.Mathlib.Omega.{arith}
 use denote.Ref.{now}
-use lib.ListN.{length}
+use lib.ListN.{length, take, drop, replicate, length-take}
+use lib.Seq.{length-take-le}
 use borrow.Author.Needs.{needs}
 use Rattle.settings.specs.Legal.{legal}
 use Rattle.settings.specs.Layout.{layoutOf}
@@ -13,7 +15,7 @@ use Rattle.settings.specs.declared.layout.Layout.{Layout}
 use Rattle.table.specs.New.{newBytes}
 use Rattle.table_make.specs.NewSteps.{linked}
 use Rattle.table.specs.Calls.{makeAnswer, makeBytes}
-use Rattle.table_make.proofs.New.{new-bytes}
+use Rattle.table_make.proofs.New.{zero-length, new-bytes}
 use Rattle.table.specs.theory.Opened.{opened-illegal, opened-short, opened-on, opened-table}
 use Rattle.table.specs.declared.answers.MakeAnswer.the-variants as making
 use Rattle.table_make.proofs.make.Statement.{statement}
@@ -40,8 +42,24 @@ returns c =
       sym (opened-short (λ r. t) (a .s) t (newBytes (layoutOf (a .s)) t) g (laid k .0) (laid k .1) (c .if1 .taken)),
     )
 
-zero-requires : tie.Need-zero-requires
-zero-requires c κs = search needs
+slice-relend-prefix-zero-bytes : tie.Need-slice-relend-prefix-zero-bytes
+slice-relend-prefix-zero-bytes c = search needs
+
+slice-aggregate-zero-bytes : tie.Need-slice-aggregate-zero-bytes
+slice-aggregate-zero-bytes c = simp length-take (omega arith)
+
+zero-bytes-requires : tie.Need-zero-bytes-requires
+zero-bytes-requires c κs = search needs
+
+-- the first bytes zero, and the others as they were
+zeroed : (z : tie.After-zero-bytes) → let k = z .before .before .before .before .before in let g = k .g .given .0 .0 in let t = now (k .before .before .before .before .args .t) in
+    z .zero-bytes .last .0 ++ drop (g .bytes) t ≡ replicate (g .bytes) 0 ++ drop (g .bytes) t
+zeroed z =
+    let k = z .before .before .before .before .before in
+    let g = k .g .given .0 .0 in
+    let t = now (k .before .before .before .before .args .t) in
+    let l : length (take (g .bytes) t) ≡ g .bytes = length-take-le (g .bytes) t (z .before .before .if1 .left) in
+    ap (_++ drop (g .bytes) t) (z .zero-bytes .ensures ∙ ap (λ (n : ℕ). replicate n 0) l)
 
 link-free-requires : tie.Need-link-free-requires
 link-free-requires c κs =
@@ -49,7 +67,8 @@ link-free-requires c κs =
     let e = z .before .before in
     let k = e .before .before .before in
     let a = k .before .before .before .before .args in
-    opened-table (a .s) (k .g .given .0 .0) (laid k .0) (laid k .1) (z .zero .last .0) (omega (arith, z .zero .kept .0, e .if1 .left))
+    let g = k .g .given .0 .0 in
+    opened-table (a .s) g (laid k .0) (laid k .1) _ (omega (arith, ap length (zeroed z), zero-length (g .bytes) (now (a .t)) (e .if1 .left), e .if1 .left))
 
 enum-known-why : tie.Need-enum-known-why
 enum-known-why c = search needs
@@ -71,7 +90,7 @@ returns-2 c =
     let l : g .bytes ≤ length t = e .if1 .left in (
       sym (opened-on making.Refused (a .s) t making.Made g (laid k .0) (laid k .1) l),
       f .link-free .ensures
-          ∙ ap (linked g (g .nob)) (z .zero .ensures)
+          ∙ ap (linked g (g .nob)) (zeroed z)
           ∙ new-bytes g (opened-table (a .s) g (laid k .0) (laid k .1) t l .proper) t l (λ j. omega (arith, b .slice-known .given j))
           ∙ ap (λ (x : Layout). newBytes x t) (sym (laid k .1))
           ∙ sym (opened-on (λ r. t) (a .s) t (newBytes (layoutOf (a .s)) t) g (laid k .0) (laid k .1) l),
@@ -95,7 +114,9 @@ make-spec =
     layout-requires
     enum-known-g
     returns
-    zero-requires
+    slice-relend-prefix-zero-bytes
+    slice-aggregate-zero-bytes
+    zero-bytes-requires
     link-free-requires
     enum-known-why
     same-length

@@ -11,7 +11,8 @@ use lib.ListN.{length, getD, take, length-append, List·getD-append}
 use lib.Seq.{getD-append-add}
 use lib.Dec.{eqb}
 use borrow.Author.Tests.{lt-ltb, le-ltb}
-use Rattle.settings.specs.theory.Cases.{cases}
+use Rattle.laws.specs.Folds.{count}
+use Rattle.laws.specs.Cases.{cases}
 use Rattle.settings.specs.declared.layout.Layout.{Layout}
 use Rattle.settings.specs.declared.refusal.Refusal.the-variants as refusal
 use Rattle.table.specs.State.{State, basicAt, overflowAt, unpack, entryOf, labelOf}
@@ -103,20 +104,23 @@ module _ (g : Layout) (e : ℕ) where
       (λ p. rw (p, zero-add (suc (position g e (v .slots)))))
       (λ p. rw (p, zero-add (length (v .slots))))
 
--- ---- an overflow block: found in it, not found in the last one, and not found in one that goes on
+-- ---- an overflow block: the last one, or one that goes on
 
-module _ (g : Layout) (t : List ℕ) (T : Table g t) (e n f b c j : ℕ) (r : Slots) (S : Turn g (decode g t .overflow) f b)
-    (ec : c ≡ overflowAt (decode g t .overflow) b .counter) (er : r ≡ overflowRun g b c) (ej : j ≡ position g e (slotsIn g t r)) where
+module _ (g : Layout) (t : List ℕ) (T : Table g t) (f b c : ℕ) (r : Slots) (S : Turn g (decode g t .overflow) f b)
+    (ec : c ≡ overflowAt (decode g t .overflow) b .counter) (er : r ≡ overflowRun g b c) where
   block-slots : take (suc (overflowAt (decode g t .overflow) b .counter)) (overflowAt (decode g t .overflow) b .slots) ≡ slotsIn g t r
   block-slots = sym (ap (slotsIn g t) (er ∙ ap (overflowRun g b) ec) ∙ overflow-slots-in g t T b (overflowAt (decode g t .overflow) b .counter) (S .low))
 
-  block-last : c < g .sio → gatherFrom g f (decode g t .overflow) b ≡ slotsIn g t r
+  pub block-last : c < g .sio → gatherFrom g f (decode g t .overflow) b ≡ slotsIn g t r
   block-last l = S .last (omega (arith, ec)) ∙ block-slots
 
-  block-more : c ≡ g .sio
+  pub block-more : g .sio ≤ c
       → gatherFrom g f (decode g t .overflow) b ≡ slotsIn g t r ++ gatherFrom g (f - 1) (decode g t .overflow) (overflowAt (decode g t .overflow) b .link)
-  block-more l = S .more (sym ec ∙ l) ∙ ap (λ (xs : List ℕ). xs ++ gatherFrom g (f - 1) (decode g t .overflow) (overflowAt (decode g t .overflow) b .link)) block-slots
+  block-more l = S .more (omega (arith, S .count)) ∙ ap (λ (xs : List ℕ). xs ++ gatherFrom g (f - 1) (decode g t .overflow) (overflowAt (decode g t .overflow) b .link)) block-slots
 
+-- found in it, not found in the last one, and not found in one that goes on
+module _ (g : Layout) (t : List ℕ) (T : Table g t) (e n f b c j : ℕ) (r : Slots) (S : Turn g (decode g t .overflow) f b)
+    (ec : c ≡ overflowAt (decode g t .overflow) b .counter) (er : r ≡ overflowRun g b c) (ej : j ≡ position g e (slotsIn g t r)) where
   pub block-held : j < r .count → found.Held (labelOf g (getD (slotsIn g t r) j 0)) (n + suc j) ≡ findFrom g e (gatherFrom g f (decode g t .overflow) b) n
   block-held h = pick (decLe (g .sio) c)
     where
@@ -130,15 +134,15 @@ module _ (g : Layout) (t : List ℕ) (T : Table g t) (e n f b c j : ℕ) (r : Sl
       pick (yes l) =
           here
           ∙ sym
-          (ap (λ (xs : List ℕ). findFrom g e xs n) (block-more (omega (arith, ec, S .count)))
+          (ap (λ (xs : List ℕ). findFrom g e xs n) (block-more g t T f b c r S ec er l)
           ∙ find-left g e (slotsIn g t r) (gatherFrom g (f - 1) (decode g t .overflow) (overflowAt (decode g t .overflow) b .link)) n (omega (arith, low, ej)))
-      pick (no l) = here ∙ sym (ap (λ (xs : List ℕ). findFrom g e xs n) (block-last (omega arith)))
+      pick (no l) = here ∙ sym (ap (λ (xs : List ℕ). findFrom g e xs n) (block-last g t T f b c r S ec er (omega arith)))
 
   pub block-none : r .count ≤ j → c < g .sio → found.None (n + r .count) ≡ findFrom g e (gatherFrom g f (decode g t .overflow) b) n
   block-none h l =
       ap (λ (m : ℕ). found.None (n + m)) (sym (slots-length g t r))
       ∙ sym (find-none g e (slotsIn g t r) n j ej (omega (arith, slots-length g t r)))
-      ∙ sym (ap (λ (xs : List ℕ). findFrom g e xs n) (block-last l))
+      ∙ sym (ap (λ (xs : List ℕ). findFrom g e xs n) (block-last g t T f b c r S ec er l))
 
   pub block-on : r .count ≤ j → c ≡ g .sio
       → findFrom g e (gatherFrom g (f - 1) (decode g t .overflow) (overflowAt (decode g t .overflow) b .link)) (n + r .count)
@@ -146,7 +150,7 @@ module _ (g : Layout) (t : List ℕ) (T : Table g t) (e n f b c j : ℕ) (r : Sl
   block-on h l =
       ap (λ (m : ℕ). findFrom g e (gatherFrom g (f - 1) (decode g t .overflow) (overflowAt (decode g t .overflow) b .link)) (n + m)) (sym (slots-length g t r))
       ∙ sym (find-right g e (slotsIn g t r) (gatherFrom g (f - 1) (decode g t .overflow) (overflowAt (decode g t .overflow) b .link)) n (omega (arith, slots-length g t r, ej)))
-      ∙ sym (ap (λ (xs : List ℕ). findFrom g e xs n) (block-more l))
+      ∙ sym (ap (λ (xs : List ℕ). findFrom g e xs n) (block-more g t T f b c r S ec er (omega arith)))
 
 -- ---- a list, by its basic block's counter
 
@@ -192,20 +196,20 @@ module _ (g : Layout) (t : List ℕ) (T : Table g t) (i e : ℕ) (il : i < g .li
           ∙ ap (λ (x : ℕ). findFrom g e (unpack g (overflowAt (decode g t .overflow) x .link) (basicAt (decode g t .basic) i .rest) ++ gatherFrom g (g .nob) (decode g t .overflow) (basicAt (decode g t .basic) i .head)) 0) (sym end)
           ∙ ap₂ (λ (xs : List ℕ) (x : ℕ). findFrom g e (xs ++ gatherFrom g (g .nob) (decode g t .overflow) x) 0) (sym first-slots) (sym (O .head))
 
-      count : length (slotsIn g t r) ≡ g .sib
+      long : length (slotsIn g t r) ≡ g .sib
       unfolding displacedRun
-      count = slots-length g t r ∙ ap (λ (s : Slots). s .count) er
+      long = slots-length g t r ∙ ap (λ (s : Slots). s .count) er
 
       pub find-first : j < g .sib → found.Held (labelOf g (getD (slotsIn g t r) j 0)) (0 + suc j) ≡ findIn g (decode g t) i e
       find-first l =
           sym
           (whole
-          ∙ find-left g e (slotsIn g t r) (gatherFrom g (g .nob) (decode g t .overflow) h) 0 (omega (arith, count, ej))
-          ∙ find-held g e (slotsIn g t r) 0 j ej (omega (arith, count)))
+          ∙ find-left g e (slotsIn g t r) (gatherFrom g (g .nob) (decode g t .overflow) h) 0 (omega (arith, long, ej))
+          ∙ find-held g e (slotsIn g t r) 0 j ej (omega (arith, long)))
 
       pub find-rest : g .sib ≤ j → findFrom g e (gatherFrom g (g .nob) (decode g t .overflow) h) (g .sib) ≡ findIn g (decode g t) i e
       find-rest l =
           sym
           (whole
-          ∙ find-right g e (slotsIn g t r) (gatherFrom g (g .nob) (decode g t .overflow) h) 0 (omega (arith, count, ej))
-          ∙ ap (findFrom g e (gatherFrom g (g .nob) (decode g t .overflow) h)) (zero-add (length (slotsIn g t r)) ∙ count))
+          ∙ find-right g e (slotsIn g t r) (gatherFrom g (g .nob) (decode g t .overflow) h) 0 (omega (arith, long, ej))
+          ∙ ap (findFrom g e (gatherFrom g (g .nob) (decode g t .overflow) h)) (zero-add (length (slotsIn g t r)) ∙ long))

@@ -1,11 +1,11 @@
 -- Laws of a list's end as `follow` answers it: in a block, or nowhere.
 use mathlib.Core.Path.{_≡_, ap}
-use mathlib.Core.Bool.{true, false}
+use mathlib.Core.Bool.{true}
 use Prim.Native.Nat.{ℕ, _≤_, _<_}
 use native.Mathlib.Omega.{arith}
 use lib.Dec.{ltb}
 use borrow.Author.Tests.{lt-ltb, le-ltb, ltb-true, ltb-false}
-use Rattle.settings.specs.theory.Cases.{cases}
+use Rattle.laws.specs.Cases.{cases}
 use Rattle.keys.specs.declared.BlockNumber.{BlockNumber}
 use Rattle.settings.specs.declared.layout.Layout.{Layout}
 use Rattle.table_read.specs.Steps.{lastAs}

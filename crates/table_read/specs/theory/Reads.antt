@@ -10,17 +10,18 @@ use lib.Pow.{split, high, low, pow-mono}
 use mathlib.Core.Bool.{false}
 use lib.Dec.{eqb}
 use borrow.Author.Tests.{eq-eqb, ne-eqb, eqb-true, eqb-false}
+use Rattle.laws.specs.Cases.{cases}
 use Rattle.bits.specs.Field.{field}
 use Rattle.bits.specs.Put.{putField}
-use Rattle.bits.specs.theory.Fields.{field-lt, field-cat, first-field, last-field, sub-field}
+use Rattle.bits.specs.theory.Fields.{field-lt, field-fits, field-cat, first-field, last-field, sub-field, field-parts}
 use Rattle.bits.specs.theory.Puts.{put-zero, put-same, put-own, put-out}
 use Rattle.settings.specs.Proper.{Proper}
-use Rattle.keys.specs.Key.{keyNumber}
-use Rattle.settings.specs.theory.Cases.{cases}
+use Rattle.keys.specs.Key.{keyNumber, keyOf}
+use Rattle.keys.specs.theory.Keys.{key-from}
 use Rattle.keys.specs.declared.Key.{Key}
 use Rattle.settings.specs.declared.layout.Layout.{Layout}
 use Rattle.table.specs.Arrays.{tabulate, unpacked}
-use Rattle.table.specs.State.{Basic, Overflow, basicAt, overflowAt, restBits, unpack, entryOf, labelOf}
+use Rattle.table.specs.State.{Basic, Overflow, basicAt, overflowAt, restBits, unpack, ownSlots, entryOf, labelOf}
 use Rattle.table.specs.Decode.{basicSlots, linkAt, overflowSlots, readBasic, readOverflow, decode}
 use Rattle.table.specs.Table.{Table}
 use Rattle.table_read.specs.Steps.{shown, View, Run, slotsIn, basicRun, displacedRun, overflowRun}
@@ -124,6 +125,30 @@ module _ (g : Layout) (t : List ℕ) (b : Slots) where
   pub slot-inside : (k : ℕ) → k < b .count → b .start + k * g .slot + g .slot ≤ b .start + b .count * g .slot
   slot-inside k h = omega (arith, mul-le-mul-right (g .slot) h)
 
+  -- the entry of slot k is within the slots
+  pub entry-view : Proper g → Run g t b → (k at : ℕ) → k < b .count → at ≡ b .start + k * g .slot → View t b at (g .bie)
+  entry-view F R k at h e =
+      let r = slot-inside k h in
+      record {
+        from = omega arith;
+        ends = omega (arith, R .ends, F .slot-is);
+        near = omega (arith, R .near, F .slot-is);
+        block = R .block;
+        link = R .link;
+        fits = R .fits;
+      }
+
+-- a field of up to 128 bits as a key, of one number and of two
+module _ (s : List ℕ) (at n : ℕ) where
+  pub short-key : n ≤ 64 → (k : Key) → k .high ≡ 0 → k .low ≡ field s at n → k ≡ keyOf (field s at n)
+  unfolding keyNumber
+  short-key h k e f = key-from k (omega (arith, field-fits s at n 64 h)) (omega arith)
+
+  pub long-key : 64 < n → (k : Key) → k .high ≡ field s at (n - 64) → k .low ≡ field s (at + (n - 64)) 64 → k ≡ keyOf (field s at n)
+  unfolding keyNumber
+  long-key h k e f =
+      key-from k (omega (arith, field-lt s (at + (n - 64)) 64)) (field-parts s at (n - 64) 64 n (k .high) (k .low) (omega arith) e f)
+
 -- ---- rows of fields
 
 pub take-tab : {A : Type 0} (c n : ℕ) (f : ℕ → A) → take c (tabulate n f) ≡ tabulate (min c n) f
@@ -159,11 +184,11 @@ unpack-length g h r = unpacked-length (g .slot) (g .sib) (h * 2 ^ restBits g + r
 -- ---- the slots of blocks
 
 module _ (g : Layout) (t : List ℕ) (T : Table g t) where
-  basic-room : (i : ℕ) → i < g .lists → basicSlots g i + g .sib * g .slot ≤ g .bits
+  pub basic-room : (i : ℕ) → i < g .lists → basicSlots g i + g .sib * g .slot ≤ g .bits
   unfolding basicSlots
   basic-room i h = omega (arith, basic-ends g (T .proper) i h, start-high g (T .proper), T .proper .basic-is)
 
-  overflow-room : (j : ℕ) → j < g .nob → overflowSlots g j + g .sio * g .slot ≤ g .bits
+  pub overflow-room : (j : ℕ) → j < g .nob → overflowSlots g j + g .sio * g .slot ≤ g .bits
   unfolding overflowSlots
   overflow-room j h = omega (arith, over-ends g (T .proper) j h, T .proper .overflow-is)
 
@@ -263,7 +288,7 @@ module _ (g : Layout) (t : List ℕ) (T : Table g t) where
       ∙ sym (take-tab n (g .sib) (λ q. field (putField t (basicSlots g i) (g .link) (basicAt (decode g t .basic) i .head)) (basicSlots g i + q * g .slot) (g .slot)))
 
   pub basic-slots-in : (i n : ℕ) → i < g .lists → n ≤ g .sib
-      → slotsIn g t (basicRun g i n) ≡ take n (unpack g (basicAt (decode g t .basic) i .head) (basicAt (decode g t .basic) i .rest))
+      → slotsIn g t (basicRun g i n) ≡ take n (ownSlots g (basicAt (decode g t .basic) i))
   basic-slots-in i n l k = standing i n l k ∙ ap (take n) (displaced-slots-in i (basicAt (decode g t .basic) i .head) l (head-lt i l))
 
   -- the slots in use of an overflow block

@@ -1,19 +1,23 @@
 -- Laws of a list's overflow blocks: where its places are, and its last one.
 use mathlib.Core.Path.{_≡_, refl, sym, ap, _∙_}
+use mathlib.Core.Bool.{true, false}
 use mathlib.Core.List.{List, [], _∷_, _++_}
 use mathlib.Core.Option.{Option, none, some}
 use Prim.Native.Nat.{ℕ, suc, _+_, _-_, _≤_, _<_, min}
 use native.Mathlib.Omega.{arith}
+use native.Mathlib.Nat.{zero-add}
 use native.Mathlib.Decide.{decLe}
 use lib.ListN.{length, take, length-append, length-take}
-use borrow.Author.Tests.{lt-ltb, le-ltb}
+use lib.Dec.{ltb}
+use borrow.Author.Tests.{eq-eqb, ne-eqb, lt-ltb, le-ltb}
 use Rattle.settings.specs.declared.layout.Layout.{Layout}
 use Rattle.table.specs.State.{Overflow, State, basicAt, overflowAt, unpack}
-use Rattle.table.specs.Follow.{Seen, seen, lastOf, follow, gather, contentOver, content}
+use Rattle.table.specs.Follow.{Seen, seen, lastOf, cons?, follow, gather, contentOver, content}
+use Rattle.table.specs.Take.{occurs}
 use Rattle.table_read.specs.Steps.{lastFrom, Followed}
-use Rattle.table_read.specs.Spots.{blocksFrom, spot, spotIn, Reaches}
+use Rattle.table_read.specs.Spots.{blocksFrom, hasBlock, spot, spotIn, Reaches}
 use Rattle.table_read.specs.theory.Reads.{unpack-length}
-use Rattle.table_read.specs.theory.Walks.{Chain, ends, more, Walk, lost, ended, walk, followed, content-high, content-bad, content-over}
+use Rattle.table_read.specs.theory.Walks.{follow-here, follow-on, Turn, Chain, ends, more, Walk, lost, ended, walk, followed, content-high, content-bad, content-over}
 
 module _ (g : Layout) (os : List Overflow) where
   -- the blocks of a list that has an end
@@ -94,6 +98,14 @@ module _ (g : Layout) (os : List Overflow) where
     pub going-on : (first p b q : ℕ) → Going first p b q → g .sio ≤ q → Going first p (overflowAt os b .link) (q - g .sio)
     going-on first p b q m l = going-on-as first p b q l (m .chain) (m .within) (m .same)
 
+    -- the block is full, since the place is behind it
+    full-as : {b q : ℕ} {cs : List ℕ} → g .sio ≤ q → Chain g os b cs → q < length (gather g os (b ∷ cs)) → overflowAt os b .counter ≡ g .sio
+    full-as l (ends h k) m = absurd (let z = last-one h m in omega arith)
+    full-as l (more h k c) m = k
+
+    pub going-full : (first p b q : ℕ) → Going first p b q → g .sio ≤ q → overflowAt os b .counter ≡ g .sio
+    going-full first p b q m l = full-as l (m .chain) (m .within)
+
     -- ---- the last place
 
     pub gather-some : {b : ℕ} {cs : List ℕ} → Chain g os b cs → 0 < length (gather g os (b ∷ cs))
@@ -114,6 +126,38 @@ module _ (g : Layout) (os : List Overflow) where
         let s = gather-some c in
         let k : q - g .sio ≡ length ys - 1 = omega arith in
         rw (le-ltb q (g .sio) (omega arith), k) (last-spot c)
+
+-- ---- whether block f is one of them
+
+module _ (g : Layout) (os : List Overflow) (f : ℕ) where
+  pub has-as : (n b : ℕ) (bs : List ℕ) → follow g n os b ≡ some bs → hasBlock g n os b f ≡ ltb 0 (occurs f bs)
+  unfolding hasBlock
+  has-as n b bs e = rw e
+
+  module _ (n b : ℕ) (k : Turn g os n b) where
+    blocks-last : overflowAt os b .counter < g .sio → follow g n os b ≡ some (b ∷ [])
+    blocks-last h = follow-here g os n b (k .fuel) (k .low) h
+
+    blocks-on : (e : overflowAt os b .counter ≡ g .sio) → follow g n os b ≡ some (b ∷ k .on e .blocks)
+    blocks-on e = follow-on g os n (n - 1) b (omega (arith, k .fuel)) (k .low) e ∙ ap (cons? b) (k .on e .are)
+
+    here : (bs : List ℕ) → b ≡ f → true ≡ ltb 0 (occurs f (b ∷ bs))
+    here bs e = rw (eq-eqb f b (sym e)) (sym (lt-ltb 0 (1 + occurs f bs) (omega arith)))
+
+    pub has-here : b ≡ f → true ≡ hasBlock g n os b f
+    has-here e = pick (decLe (g .sio) (overflowAt os b .counter))
+      where
+        pick : Dec (g .sio ≤ overflowAt os b .counter) → true ≡ hasBlock g n os b f
+        pick (yes l) = let z : overflowAt os b .counter ≡ g .sio = omega (arith, k .count) in here (k .on z .blocks) e ∙ sym (has-as n b (b ∷ k .on z .blocks) (blocks-on z))
+        pick (no l) = here [] e ∙ sym (has-as n b (b ∷ []) (blocks-last (omega arith)))
+
+    pub has-last : (b ≡ f → ⊥) → overflowAt os b .counter < g .sio → false ≡ hasBlock g n os b f
+    has-last ne h = sym (has-as n b (b ∷ []) (blocks-last h) ∙ rw (ne-eqb f b (λ q. ne (sym q))))
+
+    pub has-on : (b ≡ f → ⊥) → overflowAt os b .counter ≡ g .sio → hasBlock g (n - 1) os (overflowAt os b .link) f ≡ hasBlock g n os b f
+    has-on ne e =
+        has-as (n - 1) (overflowAt os b .link) (k .on e .blocks) (k .on e .are)
+        ∙ sym (has-as n b (b ∷ k .on e .blocks) (blocks-on e) ∙ rw (ne-eqb f b (λ q. ne (sym q)), zero-add (occurs f (k .on e .blocks))))
 
 -- ---- a list that overflows
 

@@ -1,18 +1,22 @@
 -- Laws of following a list: its turns, its end, and what it finds.
 use mathlib.Core.Path.{_≡_, refl, _∙_}
-use mathlib.Core.Bool.{true, false}
 use mathlib.Core.List.{List, [], _∷_, _++_, append-nil}
 use mathlib.Core.Option.{Option, none, some}
-use Prim.Native.Nat.{ℕ, zero, suc, _+_, _-_, _≤_, _<_}
+use Prim.Native.Nat.{ℕ, zero, suc, _-_, _≤_, _<_}
 use native.Mathlib.Omega.{arith}
 use lib.ListN.{length, take}
-use lib.Dec.{eqb, ltb}
-use borrow.Author.Tests.{eq-eqb, ne-eqb, eqb-true, lt-ltb, le-ltb, ltb-true}
-use Rattle.settings.specs.theory.Cases.{cases}
+use lib.Dec.{ltb}
+use borrow.Author.Tests.{eq-eqb, ne-eqb, lt-ltb, le-ltb, ltb-true}
+use Rattle.laws.specs.Cases.{cases}
+use Rattle.laws.specs.Options.{nothing}
 use Rattle.settings.specs.declared.layout.Layout.{Layout}
-use Rattle.table.specs.State.{Overflow, State, basicAt, overflowAt, unpack}
-use Rattle.table.specs.Follow.{seen, lastOf, cons?, follow, contentOver, content}
+use Rattle.table.specs.State.{Overflow, State, basicAt, overflowAt, unpack, ownSlots}
+use Rattle.table.specs.Follow.{seen, lastOf, cons?, follow, contentOver, content, goOn, stepAt}
 use Rattle.table_read.specs.Steps.{lastIn, lastFrom, Followed, gatherFrom}
+use Rattle.table.specs.declared.step.Step.{Step}
+use Rattle.table.specs.declared.step.Step.the-variants.{Last, Further, Damage}
+use Rattle.table.specs.theory.Ways.{Way, way, step-last, step-further, step-damage}
+use Rattle.table.specs.theory.Ways as ways
 
 module _ (g : Layout) (os : List Overflow) where
   -- ---- the turns
@@ -23,24 +27,17 @@ module _ (g : Layout) (os : List Overflow) where
 
   pub follow-here : (n b : ℕ) → 0 < n → b < g .nob → overflowAt os b .counter < g .sio → follow g n os b ≡ some (b ∷ [])
   follow-here zero b h l e = absurd (omega arith)
-  follow-here (suc n) b h l e = rw (lt-ltb b (g .nob) l, lt-ltb (overflowAt os b .counter) (g .sio) e)
+  follow-here (suc n) b h l e = rw (lt-ltb b (g .nob) l, step-last (g .sio) (overflowAt os b .counter) (overflowAt os b .link) e)
 
   pub follow-bad : (n b : ℕ) → g .sio < overflowAt os b .counter → follow g n os b ≡ none
   follow-bad zero b e = refl
   follow-bad (suc n) b e =
-      cases (ltb b (g .nob))
-      (λ p. rw (p, le-ltb (overflowAt os b .counter) (g .sio) (omega arith), ne-eqb (overflowAt os b .counter) (g .sio) (λ q. omega arith)))
-      (λ p. rw p)
+      cases (ltb b (g .nob)) (λ p. rw (p, step-damage (g .sio) (overflowAt os b .counter) (overflowAt os b .link) e)) (λ p. rw p)
 
   pub follow-on : (n m b : ℕ) → n ≡ suc m → b < g .nob → overflowAt os b .counter ≡ g .sio
       → follow g n os b ≡ cons? b (follow g m os (overflowAt os b .link))
   follow-on n m b h l e =
-      rw h
-      (rw (
-        lt-ltb b (g .nob) l,
-        le-ltb (overflowAt os b .counter) (g .sio) (omega arith),
-        eq-eqb (overflowAt os b .counter) (g .sio) e,
-      ))
+      rw h (rw (lt-ltb b (g .nob) l, step-further (g .sio) (overflowAt os b .counter) (overflowAt os b .link) e))
 
   -- ---- what is found: nothing, or blocks from b on to the list's end
 
@@ -64,15 +61,17 @@ module _ (g : Layout) (os : List Overflow) where
   walk-on h e lost = lost
   walk-on h e (ended c l) = ended (more h e c) (omega arith)
 
+  walk-step : (n b : ℕ) → b < g .nob → (s : Step) → Way (g .sio) (overflowAt os b .counter) (overflowAt os b .link) s
+      → ((c : ℕ) → Walk n c (follow g n os c)) → Walk (suc n) b (goOn s (b ∷ []) (λ c. cons? b (follow g n os c)))
+  walk-step n b h Last (ways.ends l) f = ended (ends h l) (omega arith)
+  walk-step n b h (Further c) (ways.goes e) f = walk-on h e (f (overflowAt os b .link))
+  walk-step n b h Damage (ways.breaks l) f = lost
+
   pub walk : (n b : ℕ) → Walk n b (follow g n os b)
   walk zero b = lost
   walk (suc n) b =
       cases (ltb b (g .nob))
-      (λ p. cases (ltb (overflowAt os b .counter) (g .sio))
-      (λ q. rw (p, q) (ended (ends (ltb-true b (g .nob) p) (ltb-true (overflowAt os b .counter) (g .sio) q)) (omega arith)))
-      (λ q. cases (eqb (overflowAt os b .counter) (g .sio))
-      (λ r. rw (p, q, r) (walk-on (ltb-true b (g .nob) p) (eqb-true (overflowAt os b .counter) (g .sio) r) (walk n (overflowAt os b .link))))
-      (λ r. rw (p, q, r) lost)))
+      (λ p. rw p (walk-step n b (ltb-true b (g .nob) p) (stepAt g os b) (way (g .sio) (overflowAt os b .counter) (overflowAt os b .link)) (walk n)))
       (λ p. rw p lost)
 
   last-on : (b : ℕ) {n c : ℕ} {o : Option (List ℕ)} → Walk n c o → lastIn g (cons? b o) ≡ lastIn g o
@@ -132,45 +131,42 @@ module _ (g : Layout) (os : List Overflow) where
     pub more : overflowAt os b .counter ≡ g .sio
         → gatherFrom g n os b ≡ take (suc (overflowAt os b .counter)) (overflowAt os b .slots) ++ gatherFrom g (n - 1) os (overflowAt os b .link)
 
-  no-blocks : {X : Type 0} (bs : List ℕ) → none ≡ some bs → X
-  no-blocks bs e = absurd (let z : _≡_ {A = ℕ} 0 1 = cc in omega arith)
-
-  turn-on : (n b : ℕ) (bs : List ℕ) → ltb b (g .nob) ≡ true → ltb (overflowAt os b .counter) (g .sio) ≡ false
-      → eqb (overflowAt os b .counter) (g .sio) ≡ true → (o : Option (List ℕ)) → follow g n os (overflowAt os b .link) ≡ o → cons? b o ≡ some bs → Turn (suc n) b
+  turn-on : (n b : ℕ) (bs : List ℕ) → b < g .nob → overflowAt os b .counter ≡ g .sio → (o : Option (List ℕ)) → follow g n os (overflowAt os b .link) ≡ o
+      → cons? b o ≡ some bs → Turn (suc n) b
   unfolding gatherFrom
-  turn-on n b bs p q r none w e = no-blocks bs e
-  turn-on n b bs p q r (some cs) w e =
+  turn-on n b bs h z none w e = nothing e
+  turn-on n b bs h z (some cs) w e =
       let k : suc n - 1 ≡ n = omega arith in
-      let z : overflowAt os b .counter ≡ g .sio = eqb-true (overflowAt os b .counter) (g .sio) r in
       record {
         fuel = omega arith;
-        low = ltb-true b (g .nob) p;
+        low = h;
         count = omega arith;
         last = λ x. absurd (omega arith);
         on = λ x. rw k (record { blocks = cs; are = w });
-        more = λ x. rw (k, p, q, r, w);
+        more = λ x. rw (k, follow-on (suc n) n b refl h z, w);
       }
 
-  turn-from : (n b : ℕ) (bs : List ℕ) → follow g n os b ≡ some bs → Turn n b
+  turn-step : (n b : ℕ) (bs : List ℕ) → b < g .nob → (s : Step) → Way (g .sio) (overflowAt os b .counter) (overflowAt os b .link) s
+      → goOn s (b ∷ []) (λ c. cons? b (follow g n os c)) ≡ some bs → Turn (suc n) b
   unfolding gatherFrom
-  turn-from zero b bs = λ e. no-blocks bs e
-  turn-from (suc n) b bs =
-      cases (ltb b (g .nob))
-      (λ p. cases (ltb (overflowAt os b .counter) (g .sio))
-      (λ q. rw (p, q) (λ e.
-      let l : overflowAt os b .counter < g .sio = ltb-true (overflowAt os b .counter) (g .sio) q in
+  turn-step n b bs h Last (ways.ends l) e =
       record {
         fuel = omega arith;
-        low = ltb-true b (g .nob) p;
+        low = h;
         count = omega arith;
-        last = λ _. rw (p, q) (append-nil (take (suc (overflowAt os b .counter)) (overflowAt os b .slots)));
+        last = λ _. rw (follow-here (suc n) b (omega arith) h l) (append-nil (take (suc (overflowAt os b .counter)) (overflowAt os b .slots)));
         on = λ z. absurd (omega arith);
         more = λ z. absurd (omega arith);
-      }))
-      (λ q. cases (eqb (overflowAt os b .counter) (g .sio))
-      (λ r. rw (p, q, r) (turn-on n b bs p q r (follow g n os (overflowAt os b .link)) refl))
-      (λ r. rw (p, q, r) (λ e. no-blocks bs e))))
-      (λ p. rw p (λ e. no-blocks bs e))
+      }
+  turn-step n b bs h (Further c) (ways.goes z) e = turn-on n b bs h z (follow g n os (overflowAt os b .link)) refl e
+  turn-step n b bs h Damage (ways.breaks l) e = nothing e
+
+  turn-from : (n b : ℕ) (bs : List ℕ) → follow g n os b ≡ some bs → Turn n b
+  turn-from zero b bs = λ e. nothing e
+  turn-from (suc n) b bs =
+      cases (ltb b (g .nob))
+      (λ p. rw p (turn-step n b bs (ltb-true b (g .nob) p) (stepAt g os b) (way (g .sio) (overflowAt os b .counter) (overflowAt os b .link))))
+      (λ p. rw p (λ e. nothing e))
 
   pub turn : (n b : ℕ) → Followed g n os b → Turn n b
   turn n b f = turn-from n b (f .blocks) (f .are)
@@ -179,7 +175,7 @@ module _ (g : Layout) (os : List Overflow) where
 
 module _ (g : Layout) (st : State) (i : ℕ) where
   pub content-short : basicAt (st .basic) i .counter ≤ g .sib
-      → content g st i ≡ some (seen [] (take (basicAt (st .basic) i .counter) (unpack g (basicAt (st .basic) i .head) (basicAt (st .basic) i .rest))))
+      → content g st i ≡ some (seen [] (take (basicAt (st .basic) i .counter) (ownSlots g (basicAt (st .basic) i))))
   unfolding content
   content-short h = rw (lt-ltb (basicAt (st .basic) i .counter) (suc (g .sib)) (omega arith))
 
@@ -208,7 +204,7 @@ module _ (g : Layout) (st : State) (i : ℕ) where
       → contentOver g (basicAt (st .basic) i) (st .overflow) o
       ≡ some (seen bs (unpack g (overflowAt (st .overflow) (lastFrom g (g .nob) (st .overflow) b) .link) (basicAt (st .basic) i .rest) ++ gatherFrom g (g .nob) (st .overflow) b))
   unfolding lastFrom gatherFrom
-  long-as b lost bs e w = no-blocks g (st .overflow) bs w
+  long-as b lost bs e w = nothing w
   long-as b (ended {cs} c l) bs e w = let z : b ∷ cs ≡ bs = cc in rw (e, ← z)
 
   pub content-long : basicAt (st .basic) i .counter ≡ suc (g .sib) → (f : Followed g (g .nob) (st .overflow) (basicAt (st .basic) i .head))

@@ -1,13 +1,14 @@
 -- Slot m of the blocks from b on is slot n of all of them; a block's slots are passed by taking their count off m.
-use mathlib.Core.Path.{_≡_, _∙_}
-use Prim.Native.Nat.{_-_, _+_, _≤_}
+use mathlib.Core.Path.{_≡_, sym, _∙_}
+use Prim.Native.Nat.{_-_, _+_, _≤_, _<_}
 use native.Mathlib.Omega.{arith}
 use denote.Ref.{now}
-use Rattle.table.specs.State.{overflowAt}
+use borrow.Author.Needs.{needs}
 use Rattle.table.specs.Decode.{decode}
 use Rattle.table_read.specs.Steps.{Followed, gatherFrom}
 use Rattle.table_record.specs.RecordSteps.{nthOf}
 use Rattle.table_read.specs.theory.Reads.{overflow-run-within}
+use Rattle.table.specs.theory.Ways.{told-further, told-other}
 use Rattle.table_read.specs.theory.Walks.{Turn, turn}
 use Rattle.table_record.proofs.Records.{nth-in-block, nth-past-last, nth-past-block, bounded-past}
 use Rattle.table_record.proofs.nth_blocks.Statement.{statement}
@@ -30,13 +31,13 @@ loop-holds c =
     let e : c .before .args .g .nob - 0 ≡ c .before .args .g .nob = omega arith in
     (omega arith, rw e (c .before .pre .1), rw e)
 
-overflow-counter-requires : tie.Need-overflow-counter-requires Inv-loop μ-loop
-overflow-counter-requires c κs = let k = c .before .before in (k .before .before .pre .0, here k .low)
+overflow-front-requires : tie.Need-overflow-front-requires Inv-loop μ-loop
+overflow-front-requires c κs = let k = c .before .before in (k .before .before .pre .0, here k .low)
 
 overflow-run-requires : tie.Need-overflow-run-requires Inv-loop μ-loop
 overflow-run-requires c κs =
     let k = c .before .before .before in
-    (k .before .before .pre .0 .proper, here k .low, omega (arith, here k .count, c .overflow-counter .ensures))
+    (k .before .before .pre .0 .proper, here k .low, omega (arith, here k .count, c .overflow-front .ensures .0))
 
 nth-of-requires : tie.Need-nth-of-requires Inv-loop μ-loop
 nth-of-requires c κs =
@@ -44,7 +45,7 @@ nth-of-requires c κs =
     let k = r .before .before .before .before in
     let a = k .before .before in (
       a .pre .0 .proper,
-      rw (r .overflow-run .ensures) (overflow-run-within (a .args .g) (now (a .args .t)) (a .pre .0) (k .loop .b .0) (r .before .overflow-counter .result) (here k .low)),
+      rw (r .overflow-run .ensures) (overflow-run-within (a .args .g) (now (a .args .t)) (a .pre .0) (k .loop .b .0) (r .before .overflow-front .result .counter) (here k .low)),
     )
 
 returns : tie.Need-returns Inv-loop μ-loop
@@ -53,55 +54,59 @@ returns c =
     let k = r .before .before .before .before in
     let a = k .before .before in (
       c .nth-of .ensures .0
-          ∙ nth-in-block (a .args .g) (now (a .args .t)) (a .pre .0) (a .args .g .nob - k .loop .q) (k .loop .b .0) (r .before .overflow-counter .result) (r .overflow-run .result)
-          (k .loop .inv .1) (r .before .overflow-counter .ensures) (r .overflow-run .ensures) (k .loop .m) (c .before .if2 .taken)
+          ∙ nth-in-block (a .args .g) (now (a .args .t)) (a .pre .0) (a .args .g .nob - k .loop .q) (k .loop .b .0) (r .before .overflow-front .result .counter) (r .overflow-run .result)
+          (k .loop .inv .1) (r .before .overflow-front .ensures .0) (r .overflow-run .ensures) (k .loop .m) (c .before .if2 .taken)
           ∙ k .loop .inv .2,
       c .nth-of .ensures .1,
     )
 
+step-of-requires : tie.Need-step-of-requires Inv-loop μ-loop
+step-of-requires c κs = search needs
+
+enum-known-next : tie.Need-enum-known-next Inv-loop μ-loop
+enum-known-next c = search needs
+
 returns-2 : tie.Need-returns-2 Inv-loop μ-loop
 returns-2 c =
-    let e = c .before .before in
+    let w = c .before in
+    let e = w .before in
     let r = e .before in
     let k = r .before .before .before .before in
-    let a = k .before .before in (
-      nth-past-last (a .args .g) (now (a .args .t)) (a .pre .0) (a .args .g .nob - k .loop .q) (k .loop .b .0) (r .before .overflow-counter .result) (r .overflow-run .result)
-          (k .loop .inv .1) (r .before .overflow-counter .ensures) (r .overflow-run .ensures) (k .loop .m) (e .if2 .left) (c .if3 .taken)
+    let a = k .before .before in
+    let other = told-other _ _ _ _ (w .step-of .ensures) (λ e z. omega (arith, rw e at z)) (λ e z. omega (arith, rw e at z)) (c .match .keys2) in
+    let last : r .before .overflow-front .result .counter < a .args .g .sio = omega (arith, r .before .overflow-front .ensures .0, here k .count, other) in (
+      nth-past-last (a .args .g) (now (a .args .t)) (a .pre .0) (a .args .g .nob - k .loop .q) (k .loop .b .0) (r .before .overflow-front .result .counter) (r .overflow-run .result)
+          (k .loop .inv .1) (r .before .overflow-front .ensures .0) (r .overflow-run .ensures) (k .loop .m) (e .if2 .left) last
           ∙ k .loop .inv .2,
       bounded-past (a .args .g) _,
     )
 
-overflow-link-requires : tie.Need-overflow-link-requires Inv-loop μ-loop
-overflow-link-requires c κs =
-    let k = c .before .before .before .before .before .before .before in
-    (k .before .before .pre .0, here k .low)
-
 add-q : tie.Need-add-q Inv-loop μ-loop
-add-q c = let k = c .before .before .before .before .before .before .before .before in omega (arith, k .loop .inv .0, k .before .before .pre .0 .proper .nob-high)
+add-q c = let k = c .before .before .before .before .before .before .before .before .before in omega (arith, k .loop .inv .0, k .before .before .pre .0 .proper .nob-high)
 
 loop-less : tie.Need-loop-less Inv-loop μ-loop
-loop-less c = let k = c .before .before .before .before .before .before .before .before in omega (arith, k .loop .inv .0, here k .fuel)
+loop-less c = let k = c .before .before .before .before .before .before .before .before .before in omega (arith, k .loop .inv .0, here k .fuel)
 
 loop-again : tie.Need-loop-again Inv-loop μ-loop
 loop-again c =
-    let e = c .before .before .before in
+    let w = c .before .before .before in
+    let e = w .before in
     let r = e .before in
     let k = r .before .before .before .before in
     let a = k .before .before in
     let g = a .args .g in
     let t = now (a .args .t) in
-    let os = decode g t .overflow in
     let q = k .loop .q in
     let f = here k .fuel in
-    let l = c .overflow-link .ensures in
-    let n = r .before .overflow-counter .ensures in
-    let z : g .nob - (q + 1) ≡ g .nob - q - 1 = omega arith in
-    let s : overflowAt os (k .loop .b .0) .counter ≡ g .sio = omega (arith, here k .count, c .before .if3 .left) in (
+    let n = r .before .overflow-front .ensures .0 in
+    let on = told-further _ _ _ _ (w .step-of .ensures) _ (c .before .next .given .1) in
+    let l = on .link ∙ r .before .overflow-front .ensures .1 in
+    let z : g .nob - (q + 1) ≡ g .nob - q - 1 = omega arith in (
       omega (arith, k .loop .inv .0),
-      rw (z, l) (here k .on s),
+      rw (z, l) (here k .on (sym n ∙ on .full)),
       rw (z, l)
-          (nth-past-block g t (a .pre .0) (g .nob - q) (k .loop .b .0) (r .before .overflow-counter .result) (r .overflow-run .result)
-          (k .loop .inv .1) n (r .overflow-run .ensures) (k .loop .m) (e .if2 .left) (c .before .if3 .left)
+          (nth-past-block g t (a .pre .0) (g .nob - q) (k .loop .b .0) (r .before .overflow-front .result .counter) (r .overflow-run .result)
+          (k .loop .inv .1) n (r .overflow-run .ensures) (k .loop .m) (e .if2 .left) (omega (arith, on .full))
           ∙ k .loop .inv .2),
     )
 
@@ -115,12 +120,13 @@ nth-blocks-spec =
     Inv-loop
     μ-loop
     loop-holds
-    overflow-counter-requires
+    overflow-front-requires
     overflow-run-requires
     nth-of-requires
     returns
+    step-of-requires
+    enum-known-next
     returns-2
-    overflow-link-requires
     add-q
     loop-less
     loop-again

@@ -8,8 +8,9 @@ use lib.ListN.{length}
 use borrow.Author.Needs.{needs}
 use Rattle.table.specs.Decode.{decode}
 use Rattle.table.specs.Record.{recordIn}
+use Rattle.table.specs.theory.Formed.{basics}
 use Rattle.table_record.specs.RecordSteps.{recordsFrom}
-use Rattle.table_record.proofs.Records.{onNth, records-all, records-none, records-turn, lists-are, bie-is, basic-count}
+use Rattle.table_record.proofs.Records.{onNth, records-all, records-none, records-turn, lists-are, bie-is}
 use Rattle.table_record.specs.declared.Nth.{Nth}
 use Rattle.table_record.proofs.record_in.Statement.{statement}
 use Rattle.table_record.proofs.record_in.Tie as tie
@@ -29,7 +30,7 @@ goes c =
     let a = k .before .before in
     let g = a .args .g in
     let t = now (a .args .t) in
-    let h : k .loop .i < length (decode g t .basic) = omega (arith, basic-count g t, c .before .if1 .taken) in
+    let h : k .loop .i < length (decode g t .basic) = omega (arith, basics g t, c .before .if1 .taken) in
     sym (records-turn (a .args .s) (decode g t) g (a .pre .laid) (k .loop .i) (k .loop .m) h (c .nth-in .result) (c .nth-in .ensures .0)) ∙ k .loop .inv .1
 
 loop-holds : tie.Need-loop-holds Inv-loop μ-loop
@@ -99,7 +100,7 @@ returns-3 : tie.Need-returns-3 Inv-loop μ-loop
 returns-3 c =
     let k = c .before .before in
     let a = k .before .before .args in
-    sym (records-none (a .s) (decode (a .g) (now (a .t))) (k .loop .i) (k .loop .m) (omega (arith, basic-count (a .g) (now (a .t)), c .if1 .left))) ∙ k .loop .inv .1
+    sym (records-none (a .s) (decode (a .g) (now (a .t))) (k .loop .i) (k .loop .m) (omega (arith, basics (a .g) (now (a .t)), c .if1 .left))) ∙ k .loop .inv .1
 
 pub record-in-spec : {M : Type 1} → statement M
 record-in-spec =

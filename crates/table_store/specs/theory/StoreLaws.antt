@@ -15,63 +15,32 @@ use Rattle.bits.specs.Field.{field}
 use Rattle.bits.specs.Put.{replaced, putField}
 use Rattle.bits.specs.theory.Fields.{field-cat, field-lt, sub-field}
 use Rattle.bits.specs.theory.Puts.{put-length, put-bytes, put-same, put-own, put-out, put-cat, put-in, put-put, put-comm}
-use Rattle.bits.specs.theory.Words.{put-byte-more}
 use Rattle.settings.specs.Proper.{Proper}
 use Rattle.settings.specs.declared.layout.Layout.{Layout}
 use Rattle.table.specs.Arrays.{tabulate, packed, unpacked, padded}
-use Rattle.table.specs.State.{Basic, Overflow, State, mkBasic, mkOverflow, mkState, basicAt, overflowAt, restBits, unpack, headOf, restOf, slotOf}
+use Rattle.table.specs.State.{Basic, Overflow, State, mkState, emptyBasic, absentBlock, basicAt, overflowAt, emptyBlock, restBits, unpack, headOf, restOf, ownSlots, slotOf}
+use Rattle.table.specs.Updates.{withHead, withFree, withRest, withSlot, withLink, withCounter, overBasic, withBasicCounter, overOverflow}
 use Rattle.table.specs.Decode.{blockAt, basicSlots, linkAt, overflowSlots, readBasic, readOverflow, decode, written}
-use Rattle.table.specs.Table.{Table}
-use Rattle.table.specs.theory.Arrays.{length-tab, tab-ext, tab-set, fields-packed}
-use Rattle.table.specs.theory.Decode.{Only, put-only, only-refl, only-trans, only-wide, written-of}
+use Rattle.table.specs.Table.{Table, Only}
+use Rattle.table.specs.Store.{slotIn}
+use Rattle.table.specs.theory.Arrays.{tab-ext, tab-set, fields-packed}
+use Rattle.table.specs.theory.Decode.{put-only, only-refl, only-trans, only-wide, written-of}
+use Rattle.table_read.specs.Places.{basicSlot, overflowSlot}
 use Rattle.table.specs.theory.Changes.{bits-high, basic-ends, over-ends, start-low, start-high, slot-ends, slot-low, decode-free, decode-basic, decode-over, at-basic, at-over}
+use Rattle.table_read.specs.theory.Places.{basic-slot-ends}
 use Rattle.table_read.specs.theory.Reads.{unpacked-fields}
-use Rattle.table_store.specs.Stores.{Slotted, Poked, basicSlot, overflowSlot, freePut, basicCounterPut, headPut, overflowCounterPut, linkPut, slotPut, renewed}
+use Rattle.table_store.specs.Stores.{Slotted, Poked, freePut, basicCounterPut, headPut, overflowCounterPut, linkPut, slotPut, Stored, emptied}
+use Rattle.table.specs.theory.Formed.{basics, overflows}
+use Rattle.table.specs.theory.Written.{join-fits}
 
 -- a table stays one where the length does
 pub table-kept : {g : Layout} {t : List ℕ} (u : List ℕ) → length u ≡ length t → Table g t → Table g u
 table-kept u e T = record { proper = T .proper; room = omega (arith, T .room) }
 
--- ---- places
-
--- a field that holds a number above 0 has a bit
-pub some-bits : (n m : ℕ) → 0 < n → n < 2 ^ m → 0 < m
-some-bits n zero h l = absurd (omega arith)
-some-bits n (suc m) h l = omega arith
-
-module _ (g : Layout) (F : Proper g) where
-  module _ (i : ℕ) (h : i < g .lists) where
-    pub basic-counter-ends : blockAt (g .basic) i + g .basic .counter ≤ g .bits
-    basic-counter-ends = omega (arith, basic-ends g F i h, start-high g F, F .basic-is)
-
-    pub basic-head-ends : basicSlots g i + g .link ≤ g .bits
-    unfolding basicSlots
-    basic-head-ends = omega (arith, basic-ends g F i h, start-high g F, F .basic-is, F .link-fits)
-
-    pub basic-slot-ends : (p : ℕ) → p < g .sib → basicSlot g i p + g .slot ≤ g .bits
-    unfolding basicSlots basicSlot
-    basic-slot-ends p l = omega (arith, mul-le-mul-right (g .slot) l, basic-ends g F i h, start-high g F, F .basic-is)
-
-  module _ (j : ℕ) (h : j < g .nob) where
-    pub overflow-counter-ends : blockAt (g .overflow) j + g .overflow .counter ≤ g .bits
-    overflow-counter-ends = omega (arith, over-ends g F j h, F .overflow-is)
-
-    pub overflow-link-ends : linkAt g j + g .link ≤ g .bits
-    unfolding linkAt
-    overflow-link-ends = omega (arith, over-ends g F j h, F .overflow-is)
-
-    pub overflow-slot-ends : (p : ℕ) → p < g .sio → overflowSlot g j p + g .slot ≤ g .bits
-    unfolding overflowSlots overflowSlot
-    overflow-slot-ends p l = omega (arith, mul-le-mul-right (g .slot) l, over-ends g F j h, F .overflow-is)
-
 -- ---- a slot in parts
 
--- an entry of bie bits and a label of val bits
-pub slot-fits : (e label bie val : ℕ) → e < 2 ^ bie → label < 2 ^ val → e * 2 ^ val + label < 2 ^ (bie + val)
-slot-fits e label bie val he hl = rw (pow-add 2 bie val) (digits-lt he hl)
-
 pub slot-lt : (g : Layout) → Proper g → (e label : ℕ) → Slotted g e label → slotOf g e label < 2 ^ g .slot
-slot-lt g F e label S = rw (F .slot-is) (slot-fits e label (g .bie) (g .val) (S .entry-fits) (S .label-fits))
+slot-lt g F e label S = rw (F .slot-is) (join-fits (g .bie) (g .val) (S .entry-fits) (S .label-fits))
 
 -- what put_slot asks and leaves, in a table
 pub slot-asks : (g : Layout) (t : List ℕ) → Table g t → (at e label : ℕ) → at + g .slot ≤ g .bits → Slotted g e label
@@ -92,29 +61,6 @@ copy-asks g t T from to l m =
     let high = bits-high g F in
     let room = T .room in
     (omega (arith, F .slot-is, F .bie-low), omega (arith, F .slot-is, F .bie-high, F .val-high), omega arith, omega arith, omega arith, omega arith)
-
--- overflow block j, whose first slot begins at bit s: its link and its counter stand before that, and what renew asks and leaves
-module _ (g : Layout) (j s : ℕ) (e : s ≡ overflowSlot g j 0) where
-  pub before-first : s ≡ blockAt (g .overflow) j + (g .overflow .counter + g .link)
-  unfolding overflowSlots overflowSlot
-  before-first = omega (arith, e)
-
-  pub renew-asks : (t : List ℕ) → Table g t → j < g .nob → (l : ℕ) → l < 2 ^ g .link
-      → let at = s - g .link - g .overflow .counter in let n = g .overflow .bits in
-      (at + n ≤ 8 * length t) × (at + n ≤ 2 ^ 27) × (at ≤ s - g .link) × (s - g .link + g .link ≤ at + n) × (g .link ≤ 16) × (l < 2 ^ g .link)
-  renew-asks t T h l hl =
-      let F = T .proper in
-      let b = before-first in
-      let k = over-ends g F j h in
-      (omega (arith, T .room), omega (arith, bits-high g F), omega arith, omega (arith, F .overflow-is), F .link-high, hl)
-
-  pub renew-put : (t u : List ℕ) (l : ℕ) → u ≡ putField (putField t (s - g .link - g .overflow .counter) (g .overflow .bits) 0) (s - g .link) (g .link) l → u ≡ renewed g t j l
-  unfolding renewed linkAt
-  renew-put t u l eu =
-      let b = before-first in
-      let ea : s - g .link - g .overflow .counter ≡ blockAt (g .overflow) j = omega arith in
-      let el : s - g .link ≡ blockAt (g .overflow) j + g .overflow .counter = omega arith in
-      eu ∙ ap₂ (λ (a p : ℕ). putField (putField t a (g .overflow .bits) 0) p (g .link) l) ea el
 
 -- a slot as two words of 64 bits, where the label's bits push out the first bits of the low one
 module _ (val : ℕ) (hv : val ≤ 32) where
@@ -205,14 +151,6 @@ last-bits b k h l =
     let z : b / 256 ≡ 0 = omega arith in
     rw (e, z) (omega arith)
 
--- a byte more of zeros
-pub clear-byte : (s t : List ℕ) (i k : ℕ) → Bytes s → i ≤ k → k < length s → t ≡ putField s (8 * i) (8 * (k - i)) 0
-    → set t k 0 ≡ putField s (8 * i) (8 * (k + 1 - i)) 0
-clear-byte s t i k b l h e =
-    let w : 8 * (k + 1 - i) ≡ 8 * (k - i) + 8 = omega arith in
-    ap (λ (x : List ℕ). set x k 0) e
-    ∙ sym (ap (λ (m : ℕ). putField s (8 * i) m 0) w ∙ put-byte-more s (8 * i) (8 * (k - i)) k 0 b (omega arith) h)
-
 -- zeros to the end of the byte where they begin, in the byte where they end, and in a row
 pub clear-first : (s : List ℕ) (off x : ℕ) → off < 8 * length s → x ≡ replaced (getD s (off / 8) 0) 0 (8 - off % 8) 0 → set s (off / 8) x ≡ putField s off (8 - off % 8) 0
 clear-first s off x l e =
@@ -246,11 +184,6 @@ zeros : (n : ℕ) (f : ℕ → ℕ) → ((k : ℕ) → k < n → f k ≡ 0) → 
 zeros zero f z = refl
 zeros (suc n) f z = ap₂ _∷_ (z 0 (omega arith)) (zeros n (λ k. f (suc k)) (λ k l. z (suc k) (omega arith)))
 
--- a slot at the front of an empty block
-pub padded-first : (n x : ℕ) → 0 < n → set (padded n []) 0 x ≡ padded n (x ∷ [])
-padded-first zero x h = absurd (omega arith)
-padded-first (suc n) x h = refl
-
 -- ---- rows of slots
 
 slot-apart : (at w j k : ℕ) → j ≢ k → (at + j * w + w ≤ at + k * w) ⊎ (at + k * w + w ≤ at + j * w)
@@ -269,47 +202,19 @@ tab-put t w n at p x l h =
 
 -- ---- states with one block changed
 
-abbrev pub overBasic : ℕ → (Basic → Basic) → State → State
-overBasic i f st = mkState (st .free) (set (st .basic) i (f (basicAt (st .basic) i))) (st .overflow)
-
-abbrev pub overOverflow : ℕ → (Overflow → Overflow) → State → State
-overOverflow j f st = mkState (st .free) (st .basic) (set (st .overflow) j (f (overflowAt (st .overflow) j)))
-
-abbrev pub withFree : ℕ → State → State
-withFree f st = mkState f (st .basic) (st .overflow)
-
--- a basic block with slot p replaced by x
-abbrev pub slotIn : Layout → ℕ → ℕ → Basic → Basic
-slotIn g p x b = let body = set (unpack g (b .head) (b .rest)) p x in mkBasic (b .counter) (headOf g body) (restOf g body)
-
 pub basic-twice : (i : ℕ) (f h : Basic → Basic) (st : State) → i < length (st .basic) → overBasic i f (overBasic i h st) ≡ overBasic i (λ b. f (h b)) st
 basic-twice i f h st l =
     ap (λ (xs : List Basic). mkState (st .free) xs (st .overflow))
-    (ap (λ (b : Basic). set (set (st .basic) i (h (basicAt (st .basic) i))) i (f b)) (getD-set-same (st .basic) i (h (basicAt (st .basic) i)) (mkBasic 0 0 0) l)
+    (ap (λ (b : Basic). set (set (st .basic) i (h (basicAt (st .basic) i))) i (f b)) (getD-set-same (st .basic) i (h (basicAt (st .basic) i)) emptyBasic l)
     ∙ set-set (st .basic) i (h (basicAt (st .basic) i)) (f (h (basicAt (st .basic) i))))
 
 pub overflow-twice : (j : ℕ) (f h : Overflow → Overflow) (st : State) → j < length (st .overflow) → overOverflow j f (overOverflow j h st) ≡ overOverflow j (λ o. f (h o)) st
 overflow-twice j f h st l =
     ap (λ (xs : List Overflow). mkState (st .free) (st .basic) xs)
-    (ap (λ (o : Overflow). set (set (st .overflow) j (h (overflowAt (st .overflow) j))) j (f o)) (getD-set-same (st .overflow) j (h (overflowAt (st .overflow) j)) (mkOverflow 0 0 []) l)
+    (ap (λ (o : Overflow). set (set (st .overflow) j (h (overflowAt (st .overflow) j))) j (f o)) (getD-set-same (st .overflow) j (h (overflowAt (st .overflow) j)) absentBlock l)
     ∙ set-set (st .overflow) j (h (overflowAt (st .overflow) j)) (f (h (overflowAt (st .overflow) j))))
 
-module _ (g : Layout) (t : List ℕ) where
-  pub basics : length (decode g t .basic) ≡ g .lists
-  unfolding decode
-  basics = length-tab (g .lists) (readBasic g t)
-
-  pub overflows : length (decode g t .overflow) ≡ g .nob
-  unfolding decode
-  overflows = length-tab (g .nob) (readOverflow g t)
-
 -- ---- stores
-
--- u is the table t with the state st in it, and nothing else changed
-pub record Stored (g : Layout) (t u : List ℕ) (st : State) : Type 0 where
-  pub table : Table g u
-  pub only : Only t u 0 (g .bits)
-  pub state : decode g u ≡ st
 
 pub stored-none : {g : Layout} {t : List ℕ} → Table g t → Stored g t t (decode g t)
 stored-none {g} {t} T = record { table = T; only = only-refl t 0 (g .bits); state = refl }
@@ -326,8 +231,6 @@ pub stored-written : {g : Layout} {t u : List ℕ} {st : State} → Table g t �
 stored-written {g} {t} {u} T b a = written-of g (T .proper) t u b (T .room) (a .only) ∙ ap (written g t) (a .state)
 
 -- a table's own state in it is the table
-pub written-own : (g : Layout) (t : List ℕ) → Table g t → Bytes t → t ≡ written g t (decode g t)
-written-own g t T b = stored-written T b (stored-none T)
 
 module _ (g : Layout) (t : List ℕ) (T : Table g t) where
   in-basic : (u : List ℕ) (i : ℕ) (f : Basic → Basic) → i < g .lists → Only t u (blockAt (g .basic) i) (g .basic .bits) → readBasic g u i ≡ f (readBasic g t i)
@@ -378,13 +281,13 @@ module _ (g : Layout) (t : List ℕ) (T : Table g t) where
         (put-only t a n v (omega (arith, T .room, basic-ends g (T .proper) i h, start-high g (T .proper)))) l m
 
     pub stored-basic-counter : (u : List ℕ) (n : ℕ) → n < 2 ^ g .basic .counter → u ≡ basicCounterPut g t i n
-        → Stored g t u (overBasic i (λ b. mkBasic n (b .head) (b .rest)) (decode g t))
+        → Stored g t u (overBasic i (withBasicCounter n) (decode g t))
     unfolding basicCounterPut readBasic basicSlots
     stored-basic-counter u n hn e =
         let F = T .proper in
         let s = F .basic-is in
-        let l = fits (blockAt (g .basic) i) (g .basic .counter) (basic-counter-ends g F i h) in
-        in-basic u i (λ b. mkBasic n (b .head) (b .rest)) h
+        let l = fits (blockAt (g .basic) i) (g .basic .counter) (omega (arith, basic-ends g F i h, start-high g F)) in
+        in-basic u i (withBasicCounter n) h
         (rw e (put-basic (blockAt (g .basic) i) (g .basic .counter) n (omega arith) (omega arith)))
         (rw e
         (λ k. record {
@@ -394,7 +297,7 @@ module _ (g : Layout) (t : List ℕ) (T : Table g t) where
         }))
 
     pub stored-head : (u : List ℕ) (v : ℕ) → v < 2 ^ g .link → u ≡ headPut g t i v
-        → Stored g t u (overBasic i (λ b. mkBasic (b .counter) v (b .rest)) (decode g t))
+        → Stored g t u (overBasic i (withHead v) (decode g t))
     unfolding headPut readBasic basicSlots
     stored-head u v hv e =
         let F = T .proper in
@@ -402,7 +305,7 @@ module _ (g : Layout) (t : List ℕ) (T : Table g t) where
         let f = F .link-fits in
         let a = blockAt (g .basic) i + g .basic .counter in
         let l : blockAt (g .basic) i + g .basic .counter + g .link ≤ 8 * length t = omega (arith, T .room, basic-ends g F i h, start-high g F) in
-        in-basic u i (λ b. mkBasic (b .counter) v (b .rest)) h
+        in-basic u i (withHead v) h
         (rw e (put-basic (blockAt (g .basic) i + g .basic .counter) (g .link) v (omega arith) (omega arith)))
         (rw e
         (λ k. record {
@@ -428,7 +331,7 @@ module _ (g : Layout) (t : List ℕ) (T : Table g t) where
       room-there = omega (arith, basic-slot-ends g (T .proper) i h p hp, T .room)
 
       -- the slots as one number
-      body : packed (g .slot) (set (unpack g (readBasic g t i .head) (readBasic g t i .rest)) p x)
+      body : packed (g .slot) (set (ownSlots g (readBasic g t i)) p x)
           ≡ field t₁ (basicSlots g i) (g .link) * 2 ^ restBits g + field t₁ (basicSlots g i + g .link) (restBits g)
       unfolding unpack readBasic
       body =
@@ -473,14 +376,14 @@ module _ (g : Layout) (t : List ℕ) (T : Table g t) where
         (put-only t a n v (omega (arith, T .room, over-ends g (T .proper) j h))) l m
 
     pub stored-overflow-counter : (u : List ℕ) (n : ℕ) → n < 2 ^ g .overflow .counter → u ≡ overflowCounterPut g t j n
-        → Stored g t u (overOverflow j (λ o. mkOverflow n (o .link) (o .slots)) (decode g t))
+        → Stored g t u (overOverflow j (withCounter n) (decode g t))
     unfolding overflowCounterPut readOverflow linkAt overflowSlots
     stored-overflow-counter u n hn e =
         let F = T .proper in
         let s = F .overflow-is in
         let a = blockAt (g .overflow) j in
-        let l = fits (blockAt (g .overflow) j) (g .overflow .counter) (overflow-counter-ends g F j h) in
-        in-overflow u j (λ o. mkOverflow n (o .link) (o .slots)) h
+        let l = fits (blockAt (g .overflow) j) (g .overflow .counter) (omega (arith, over-ends g F j h)) in
+        in-overflow u j (withCounter n) h
         (rw e (put-overflow a (g .overflow .counter) n (omega arith) (omega arith)))
         (rw e
         (λ k. record {
@@ -492,14 +395,14 @@ module _ (g : Layout) (t : List ℕ) (T : Table g t) where
         }))
 
     pub stored-link : (u : List ℕ) (v : ℕ) → v < 2 ^ g .link → u ≡ linkPut g t j v
-        → Stored g t u (overOverflow j (λ o. mkOverflow (o .counter) v (o .slots)) (decode g t))
+        → Stored g t u (overOverflow j (withLink v) (decode g t))
     unfolding linkPut readOverflow linkAt overflowSlots
     stored-link u v hv e =
         let F = T .proper in
         let s = F .overflow-is in
         let a = blockAt (g .overflow) j + g .overflow .counter in
         let l : blockAt (g .overflow) j + g .overflow .counter + g .link ≤ 8 * length t = omega (arith, T .room, over-ends g F j h) in
-        in-overflow u j (λ o. mkOverflow (o .counter) v (o .slots)) h
+        in-overflow u j (withLink v) h
         (rw e (put-overflow a (g .link) v (omega arith) (omega arith)))
         (rw e
         (λ k. record {
@@ -515,7 +418,7 @@ module _ (g : Layout) (t : List ℕ) (T : Table g t) where
     link-before p = omega arith
 
     pub stored-overflow-slot : (p x : ℕ) → p < g .sio → x < 2 ^ g .slot → (u : List ℕ) → u ≡ slotPut g t (overflowSlot g j p) x
-        → Stored g t u (overOverflow j (λ o. mkOverflow (o .counter) (o .link) (set (o .slots) p x)) (decode g t))
+        → Stored g t u (overOverflow j (withSlot p x) (decode g t))
     unfolding slotPut overflowSlot readOverflow linkAt
     stored-overflow-slot p x hp hx u e =
         let F = T .proper in
@@ -523,7 +426,7 @@ module _ (g : Layout) (t : List ℕ) (T : Table g t) where
         let z = slot-ends g F j p hp in
         let l : overflowSlots g j + p * g .slot + g .slot ≤ 8 * length t = omega (arith, T .room, over-ends g F j h) in
         let b = link-before p in
-        in-overflow u j (λ o. mkOverflow (o .counter) (o .link) (set (o .slots) p x)) h
+        in-overflow u j (withSlot p x) h
         (rw e (put-overflow a (g .slot) x (slot-low g F j p) (omega arith)))
         (rw e
         (λ k. record {
@@ -532,7 +435,7 @@ module _ (g : Layout) (t : List ℕ) (T : Table g t) where
           slots = tab-put t (g .slot) (g .sio) (overflowSlots g j) p x l hx k;
         }))
 
-    zeroed : Stored g t (putField t (blockAt (g .overflow) j) (g .overflow .bits) 0) (overOverflow j (λ o. mkOverflow 0 0 (padded (g .sio) [])) (decode g t))
+    zeroed : Stored g t (putField t (blockAt (g .overflow) j) (g .overflow .bits) 0) (overOverflow j (λ o. emptyBlock g 0) (decode g t))
     unfolding readOverflow linkAt overflowSlots
     zeroed =
         let F = T .proper in
@@ -540,7 +443,7 @@ module _ (g : Layout) (t : List ℕ) (T : Table g t) where
         let a = blockAt (g .overflow) j in
         let l : blockAt (g .overflow) j + g .overflow .bits ≤ 8 * length t = omega (arith, T .room, over-ends g F j h) in
         let z : a ≡ a + 0 = omega arith in
-        in-overflow (putField t a (g .overflow .bits) 0) j (λ o. mkOverflow 0 0 (padded (g .sio) [])) h
+        in-overflow (putField t a (g .overflow .bits) 0) j (λ o. emptyBlock g 0) h
         (put-overflow a (g .overflow .bits) 0 (omega arith) (omega arith))
         (λ k. record {
           counter = (ap (λ (b : ℕ). field (putField t a (g .overflow .bits) 0) b (g .overflow .counter)) z ∙ zero-part t a (g .overflow .bits) 0 (g .overflow .counter) l (omega arith)) k;
@@ -555,20 +458,20 @@ module _ (g : Layout) (t : List ℕ) (T : Table g t) where
 
 -- ---- stores in a row
 
-pub stored-renewed : (g : Layout) (t : List ℕ) (T : Table g t) (j : ℕ) → j < g .nob → (u : List ℕ) (v : ℕ) → v < 2 ^ g .link → u ≡ renewed g t j v
-    → Stored g t u (overOverflow j (λ o. mkOverflow 0 v (padded (g .sio) [])) (decode g t))
-unfolding renewed linkPut
-stored-renewed g t T j h u v hv e =
+pub stored-emptied : (g : Layout) (t : List ℕ) (T : Table g t) (j : ℕ) → j < g .nob → (u : List ℕ) (v : ℕ) → v < 2 ^ g .link → u ≡ emptied g t j v
+    → Stored g t u (overOverflow j (λ o. emptyBlock g v) (decode g t))
+unfolding emptied linkPut
+stored-emptied g t T j h u v hv e =
     let a = zeroed g t T j h in
-    stored-as (overOverflow j (λ o. mkOverflow 0 v (padded (g .sio) [])) (decode g t))
-    (stored-then (overOverflow j (λ o. mkOverflow (o .counter) v (o .slots))) a
+    stored-as (overOverflow j (λ o. emptyBlock g v) (decode g t))
+    (stored-then (overOverflow j (withLink v)) a
     (stored-link g (putField t (blockAt (g .overflow) j) (g .overflow .bits) 0) (a .table) j h u v hv e))
-    (overflow-twice j (λ o. mkOverflow (o .counter) v (o .slots)) (λ o. mkOverflow 0 0 (padded (g .sio) [])) (decode g t) (omega (arith, overflows g t, h)))
+    (overflow-twice j (withLink v) (λ o. emptyBlock g 0) (decode g t) (omega (arith, overflows g t, h)))
 
 -- a slot stored where the first L bits of basic block i count as v
 module _ (g : Layout) (t : List ℕ) (T : Table g t) (i : ℕ) (h : i < g .lists) (p v x : ℕ) (hp : p < g .sib) (hv : v < 2 ^ g .link) (hx : x < 2 ^ g .slot) where
   abbrev back : Basic → Basic
-  back b = mkBasic (b .counter) v (b .rest)
+  back b = withHead v b
 
   abbrev shown : List ℕ
   shown = putField t (basicSlots g i) (g .link) v
@@ -602,15 +505,15 @@ module _ (g : Layout) (t : List ℕ) (T : Table g t) (i : ℕ) (h : i < g .lists
   poked-head u r P =
       P .head ∙ stored-head-is
       ∙ ap (λ (st : State). basicAt (st .basic) i .head) (stored-is .state)
-      ∙ ap (λ (b : Basic). b .head) (getD-set-same (decode g t .basic) i (slotIn g p x (back (basicAt (decode g t .basic) i))) (mkBasic 0 0 0) there-is)
+      ∙ ap (λ (b : Basic). b .head) (getD-set-same (decode g t .basic) i (slotIn g p x (back (basicAt (decode g t .basic) i))) emptyBasic there-is)
 
   pub stored-poked : (u : List ℕ) (r : ℕ) → Poked g t u (basicSlots g i) v (basicSlot g i p) x r
-      → Stored g t u (overBasic i (λ b. mkBasic (b .counter) (b .head) (restOf g (set (unpack g v (b .rest)) p x))) (decode g t))
+      → Stored g t u (overBasic i (λ b. withRest (restOf g (set (unpack g v (b .rest)) p x)) b) (decode g t))
   unfolding headPut
   stored-poked u r P =
       let old = field t (basicSlots g i) (g .link) in
-      let to : Basic → Basic = λ b. mkBasic (b .counter) old (b .rest) in
-      stored-as (overBasic i (λ b. mkBasic (b .counter) (b .head) (restOf g (set (unpack g v (b .rest)) p x))) (decode g t))
+      let to : Basic → Basic = withHead old in
+      stored-as (overBasic i (λ b. withRest (restOf g (set (unpack g v (b .rest)) p x)) b) (decode g t))
       (stored-then (overBasic i to) stored-is (stored-head g stored (stored-is .table) i h u old (field-lt t (basicSlots g i) (g .link)) (P .bytes)))
       (basic-twice i to (λ b. slotIn g p x (back b)) (decode g t) there-is
-      ∙ ap (λ (n : ℕ). overBasic i (λ b. mkBasic (b .counter) n (restOf g (set (unpack g v (b .rest)) p x))) (decode g t)) own-head)
+      ∙ ap (λ (n : ℕ). overBasic i (λ b. withHead n (withRest (restOf g (set (unpack g v (b .rest)) p x)) b)) (decode g t)) own-head)

@@ -3,23 +3,17 @@ use mathlib.Core.Path.{_≡_}
 use mathlib.Core.Bool.{Bool}
 use mathlib.Core.List.{List, [], _∷_, _++_}
 use mathlib.Core.Option.{some}
-use Prim.Native.Nat.{ℕ, zero, suc, _+_, _-_, _*_, _^_, _≤_, _<_}
-use native.Mathlib.Nat.{add-zero, pow-suc}
+use Prim.Native.Nat.{ℕ, zero, suc, _+_, _-_, _^_, _≤_, _<_}
 use native.Mathlib.Omega.{arith}
 use lib.ListN.{length, take, drop, replicate, length-append, length-replicate}
-use lib.Arith.{digits-lt}
 use lib.Dec.{lit<}
 use Rattle.text_read.specs.Reading.{groupsOf, joined}
 use Rattle.text_read.specs.Grammar.{Group, hex1, hex2, hex3, hex4, Decimal, dec1, dec2, dec3, four, Groups, one, two, more, Side, empty, full, Spells, plain, gap}
 use Rattle.text_read.specs.theory.Bytes.{digit-below}
 use Rattle.text_read.specs.theory.Grammar.{read-spells}
+use Rattle.text_read.specs.theory.Joined.{Small, joined-lt}
 
--- every group is below 2 ^ 16
-abbrev pub Small : List ℕ → Type 0
-Small [] = Unit {0}
-Small (g ∷ l) = (g < 65536) × Small l
-
--- so it is in lists that are put together and taken apart
+-- small groups, in lists that are put together and taken apart
 pub small-append : (a b : List ℕ) → Small a → Small b → Small (a ++ b)
 small-append [] b h k = k
 small-append (g ∷ a) b h k = (h .0, small-append a b (h .1) k)
@@ -69,17 +63,9 @@ spells-small (gap {a = a} {b = b} p q h) =
       omega (arith, length-append (a ++ replicate n 0) b, length-append a (replicate n 0), length-replicate {A = ℕ} n 0),
     )
 
--- groups behind a number of n groups
-joined-below : (l : List ℕ) (n v : ℕ) → Small l → v < 65536 ^ n → joined v l < 65536 ^ (n + length l)
-unfolding joined
-joined-below [] n v h k = rw (add-zero n) k
-joined-below (g ∷ l) n v h k =
-    let e : n + suc (length l) ≡ suc n + length l = omega arith in
-    rw e (joined-below l (suc n) (v * 65536 + g) (h .1) (rw pow-suc (digits-lt k (h .0))))
-
 -- eight groups make a number below 2 ^ 128
 pub eight-below : (l : List ℕ) → Small l → length l ≡ 8 → joined 0 l < 2 ^ 128
-eight-below l h e = rw e at (joined-below l 0 0 h (lit< tt))
+eight-below l h e = rw e at (joined-lt l 0 0 h (lit< tt))
 
 -- the address of every legal text is below 2 ^ 128
 pub legal-below : (s l : List ℕ) → groupsOf s ≡ some l → joined 0 l < 2 ^ 128

@@ -1,32 +1,28 @@
 -- What is written is read back as itself, and every legal text has one written form.
 use mathlib.Core.Path.{_≡_, refl, sym, ap, _∙_}
 use mathlib.Core.Logic.{_↔_}
-use mathlib.Core.List.{List, [], _∷_, _++_}
+use mathlib.Core.List.{List, _++_}
 use mathlib.Core.Option.{Option, none, some}
-use Prim.Native.Nat.{ℕ, _+_, _*_, _/_, _%_, _^_, _<_}
+use Prim.Native.Nat.{ℕ, _+_, _*_, _^_, _<_}
 use native.Mathlib.Nat.{mod-lt, div-lt-iff-lt-mul}
 use native.Mathlib.Omega.{arith}
 use lib.Dec.{lit<}
 use Rattle.keys.specs.Key.{keyNumber, keyOf}
+use Rattle.keys.specs.theory.Keys.{key-number}
 use Rattle.keys.specs.declared.Key.{Key}
 use Rattle.text_read.specs.Reading.{groupsOf, joined}
 use Rattle.text_read.specs.Answers.{keyed, readingOf}
+use Rattle.text_read.specs.theory.Joined.{Small, joined-append}
 use Rattle.text_read.specs.declared.Parsed.the-variants as parsed
 use Rattle.text_read.specs.theory.Grammar.{spells-read}
 use Rattle.text_write.specs.Writing.{fourGroups, written}
-use Rattle.text_calls.specs.theory.Bounds.{Small, small-append, legal-below}
+use Rattle.text_calls.specs.theory.Bounds.{small-append, legal-below}
 use Rattle.text_calls.specs.theory.Texts.{text-spells}
 
 -- a key whose halves have 64 bits each
 pub record Fits (k : Key) : Type 0 where
   pub high-below : k .high < 2 ^ 64
   pub low-below : k .low < 2 ^ 64
-
--- groups behind groups
-joined-append : (a b : List ℕ) (v : ℕ) → joined v (a ++ b) ≡ joined (joined v a) b
-unfolding joined
-joined-append [] b v = refl
-joined-append (g ∷ a) b v = joined-append a b (v * 65536 + g)
 
 -- the four groups of a half make the half
 joined-four : (v x : ℕ) → joined v (fourGroups x) ≡ v * 2 ^ 64 + x
@@ -36,19 +32,11 @@ joined-four v x = omega arith
 -- the groups of a key make its number
 joined-key : (k : Key) → joined 0 (fourGroups (k .high) ++ fourGroups (k .low)) ≡ keyNumber k
 unfolding keyNumber
-joined-key k = rw (joined-append (fourGroups (k .high)) (fourGroups (k .low)) 0) (simp joined-four (omega arith))
+joined-key k = rw (joined-append 0 (fourGroups (k .high)) (fourGroups (k .low))) (simp joined-four (omega arith))
 
 four-small : (x : ℕ) → x < 2 ^ 64 → Small (fourGroups x)
 unfolding fourGroups
 four-small x h = (omega arith, (omega arith, (omega arith, (omega arith, tt))))
-
--- a key is the key of its number
-pub key-again : (k : Key) → Fits k → keyOf (keyNumber k) ≡ k
-unfolding keyOf keyNumber
-key-again k f =
-    let h : (k .high * 2 ^ 64 + k .low) / 2 ^ 64 ≡ k .high = omega (arith, f .low-below) in
-    let l : (k .high * 2 ^ 64 + k .low) % 2 ^ 64 ≡ k .low = omega (arith, f .low-below) in
-    rw (h, l)
 
 -- a number below 2 ^ 128 fits a key
 pub key-fits : (n : ℕ) → n < 2 ^ 128 → Fits (keyOf n)
@@ -61,7 +49,7 @@ unfolding readingOf keyed written
 round-trip k f =
     let l : List ℕ = fourGroups (k .high) ++ fourGroups (k .low) in
     let h : Small l = small-append (fourGroups (k .high)) (fourGroups (k .low)) (four-small (k .high) (f .high-below)) (four-small (k .low) (f .low-below)) in
-    rw (spells-read (text-spells l h (unfold fourGroups in refl)), joined-key k, key-again k f)
+    rw (spells-read (text-spells l h (unfold fourGroups in refl)), joined-key k, key-number k (f .low-below))
 
 -- two keys never share a written text
 pub written-apart : (j k : Key) → Fits j → Fits k → written (j .high) (j .low) ≡ written (k .high) (k .low) → j ≡ k

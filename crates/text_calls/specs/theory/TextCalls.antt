@@ -4,12 +4,12 @@ use mathlib.Core.List.{List}
 use Prim.Native.Nat.{ℕ}
 use lib.ListN.{length}
 use lib.Dec.{eqb, leb}
+use Rattle.laws.specs.Cases.{cases}
 use Rattle.settings.specs.declared.settings.Settings.{Settings}
 use Rattle.keys.specs.declared.Key.{Key}
 use Rattle.settings.specs.declared.refusal.Refusal.{Refusal}
 use Rattle.settings.specs.Sizes.{tableBytes}
 use Rattle.settings.specs.Legal.{legal}
-use Rattle.settings.specs.theory.Cases.{cases}
 use Rattle.text_calls.specs.TextCalls.{byReading, withText, admittedOf}
 
 pub with-admitted : {A : Type 0} (refuse : Refusal → A) (s : Settings) (t x : List ℕ) (on : Key → A)

@@ -8,11 +8,12 @@ use lib.ListN.{length, take, drop, replicate, length-take, length-drop, take-app
 use lib.Seq.{drop-drop}
 use lib.Dec.{ltb, eqb}
 use borrow.Author.Tests.{ltb-true, ltb-false, eqb-true}
-use Rattle.settings.specs.theory.Cases.{cases}
+use Rattle.laws.specs.Cases.{cases}
 use Rattle.text_read.specs.Grammar.{HexDigit, decimalDigit, lowerCase, Group, hex1, hex2, hex3, hex4, Groups, one, more, Side, empty, full, Spells, plain, gap}
+use Rattle.text_read.specs.theory.Joined.{Small}
 use Rattle.text_write.specs.Writing.{hexDigit, trimmed, groupText, trailing, partText, zeros, longest, textOf}
 use Rattle.text_write.specs.theory.Runs.{zeros-le, zeros-take, longest-is}
-use Rattle.text_calls.specs.theory.Bounds.{Small, small-take, small-drop}
+use Rattle.text_calls.specs.theory.Bounds.{small-take, small-drop}
 
 -- a digit's byte is a hexadecimal digit of its value
 digit-written : (n : ℕ) → n < 16 → HexDigit (hexDigit n) n

@@ -5,7 +5,7 @@ use Prim.Native.Nat.{ℕ, _+_, _-_, _≤_, _<_}
 use native.Mathlib.Omega.{arith}
 use lib.Dec.{leb, eqb}
 use borrow.Author.Tests.{le-leb, lt-leb, leb-true, eqb-true}
-use Rattle.settings.specs.theory.Cases.{cases, both-true}
+use Rattle.laws.specs.Cases.{cases, both-true}
 use Rattle.text_read.specs.Class.{classOf, colon, dot, other, within}
 use Rattle.text_read.specs.Grammar.{HexDigit, decimalDigit, upperCase, lowerCase}
 

@@ -1,11 +1,11 @@
 -- The first "::" of a text.
 use mathlib.Core.Path.{_≡_, refl, sym}
-use mathlib.Core.Bool.{true, false, _&&_, false≢true}
+use mathlib.Core.Bool.{true, false, _&&_}
 use mathlib.Core.List.{List, [], _∷_, _++_, append-assoc}
 use Prim.Native.Nat.{ℕ}
 use lib.Dec.{eqb}
 use borrow.Author.Tests.{eqb-true}
-use Rattle.settings.specs.theory.Cases.{cases, both-true}
+use Rattle.laws.specs.Cases.{cases, both-true, never}
 use Rattle.text_read.specs.Class.{classOf, colon}
 use Rattle.text_read.specs.Reading.{Cut, whole, parted, behind, begins, tail, cut}
 use Rattle.text_read.specs.theory.Bytes.{aColon, class-separator}
@@ -64,7 +64,7 @@ cut-parts (x ∷ s) =
     (λ e. rw e (longer (cut-parts s)))
   where
     here : (s : List ℕ) → (eqb (classOf x) colon ≡ true) × (begins s ≡ true) → Parts (x ∷ s) (parted [] (tail s))
-    here [] e = unfold begins in absurd (false≢true (e .1))
+    here [] e = unfold begins in never (e .1)
     here (y ∷ s) e =
         unfold begins tail in
         rw (class-separator aColon x (eqb-true (classOf x) colon (e .0)), class-separator aColon y (eqb-true (classOf y) colon (e .1))) (around {l = []})

@@ -7,12 +7,13 @@ use native.Mathlib.Omega.{arith}
 use lib.ListN.{length, getD, length-append}
 use lib.Dec.{eqb}
 use borrow.Author.Tests.{eqb-true}
+use Rattle.laws.specs.Options.{nothing, when-some}
 use Rattle.text_read.specs.Class.{classOf, colon, dot}
 use Rattle.text_read.specs.Numerals.{group, decimal}
 use Rattle.text_read.specs.Reading.{split, push, decimals, twoGroups, dotted}
 use Rattle.text_read.specs.Grammar.{Decimal, Dotted, four}
 use Rattle.text_read.specs.theory.Bytes.{aColon, aDot}
-use Rattle.text_read.specs.theory.Options.{nothing, when-some, push-some}
+use Rattle.text_read.specs.theory.Options.{push-some}
 use Rattle.text_read.specs.theory.Numerals.{digits-none, decimal-numeral, decimal-read, read-decimal}
 use Rattle.text_read.specs.theory.Splits.{Without, without-append, split-one, split-more, Fields, last, then, split-fields}
 

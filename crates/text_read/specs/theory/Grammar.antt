@@ -8,12 +8,13 @@ use native.Mathlib.Omega.{arith}
 use lib.ListN.{length, replicate}
 use lib.Dec.{ltb, eqb}
 use borrow.Author.Tests.{lt-ltb, ltb-true, eq-eqb, eqb-true}
+use Rattle.laws.specs.Options.{nothing, when-some}
 use Rattle.text_read.specs.Class.{classOf, colon}
 use Rattle.text_read.specs.Numerals.{group}
 use Rattle.text_read.specs.Reading.{split, push, dotted, orElse, groups, part, Cut, whole, parted, behind, begins, cut, eight, filled, groupsOfCut, groupsOf}
 use Rattle.text_read.specs.Grammar.{Groups, one, two, more, Side, empty, full, Spells, plain, gap}
 use Rattle.text_read.specs.theory.Bytes.{aColon}
-use Rattle.text_read.specs.theory.Options.{nothing, when-some, push-some}
+use Rattle.text_read.specs.theory.Options.{push-some}
 use Rattle.text_read.specs.theory.Numerals.{group-numeral, group-read, read-group}
 use Rattle.text_read.specs.theory.Dotted.{dotted-read, dotted-field, dotted-none, dotted-some, read-dotted}
 use Rattle.text_read.specs.theory.Splits.{Without, split-one, split-more, Fields, last, then, split-fields}

@@ -1,6 +1,6 @@
 -- The two kinds of number in a text, as the grammar has them and as they are read.
-use mathlib.Core.Path.{_≡_, refl}
-use mathlib.Core.Bool.{Bool, true, false, _&&_, not}
+use mathlib.Core.Path.{_≡_}
+use mathlib.Core.Bool.{true, false, _&&_, not, and-false}
 use mathlib.Core.List.{List, [], _∷_, _++_}
 use mathlib.Core.Option.{some}
 use Prim.Native.Nat.{ℕ, _+_, _*_, _≤_, _<_}
@@ -9,12 +9,12 @@ use native.Mathlib.Omega.{arith}
 use lib.ListN.{length}
 use lib.Dec.{leb, ltb, eqb}
 use borrow.Author.Tests.{lt-ltb, le-ltb, le-leb, leb-true, ltb-true, ne-eqb, eqb-false, not-true}
-use Rattle.settings.specs.theory.Cases.{both-true}
+use Rattle.laws.specs.Cases.{both-true}
+use Rattle.laws.specs.Options.{when-some}
 use Rattle.text_read.specs.Class.{classOf}
 use Rattle.text_read.specs.Numerals.{digits, number, group, noLeadingZero, decimal}
 use Rattle.text_read.specs.Grammar.{HexDigit, decimalDigit, Group, hex1, hex2, hex3, hex4, Decimal, dec1, dec2, dec3}
 use Rattle.text_read.specs.theory.Bytes.{Separator, separator-class, separator-above, digit-class, digit-below, class-digit, class-decimal}
-use Rattle.text_read.specs.theory.Options.{when-some}
 use Rattle.text_read.specs.theory.Splits.{Without}
 
 -- the first digit, and the others
@@ -36,10 +36,6 @@ pub digits-none : {c k : ℕ} → Separator c k → (s t : List ℕ) → digits 
 unfolding digits
 digits-none {c} {k} p [] t = rw (le-ltb (classOf c) 16 (omega (arith, separator-class p, separator-above p)))
 digits-none p (x ∷ s) t = rw (digits-none p s t) (and-false (ltb (classOf x) 16))
-  where
-    and-false : (b : Bool) → b && false ≡ false
-    and-false true = refl
-    and-false false = refl
 
 -- a field that holds a numeral: it is not empty, and has no separator
 pub record Numeral (s : List ℕ) : Type 0 where

@@ -5,7 +5,7 @@ use mathlib.Core.List.{List, [], _∷_, _++_}
 use Prim.Native.Nat.{ℕ}
 use lib.Dec.{eqb}
 use borrow.Author.Tests.{eq-eqb, eqb-true}
-use Rattle.settings.specs.theory.Cases.{cases}
+use Rattle.laws.specs.Cases.{cases}
 use Rattle.text_read.specs.Class.{classOf}
 use Rattle.text_read.specs.Reading.{split, onFirst}
 use Rattle.text_read.specs.theory.Bytes.{Separator, separator-class, class-separator}

@@ -10,7 +10,7 @@ use lib.Pow.{pow-mono}
 use lib.Dec.{ltb}
 use lib.ListN.{length, take}
 use borrow.Author.Tests.{ltb-true, ltb-false, eq-eqb, ne-eqb}
-use Rattle.settings.specs.theory.Cases.{cases}
+use Rattle.laws.specs.Cases.{cases}
 use Rattle.text_write.specs.Writing.{hexDigit, trimmed, groupText}
 use Rattle.text_write.specs.WriterSteps.{packed, unpacked}
 

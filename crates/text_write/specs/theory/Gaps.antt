@@ -6,7 +6,7 @@ use native.Mathlib.Omega.{arith}
 use lib.Dec.{ltb}
 use lib.ListN.{length, getD}
 use borrow.Author.Tests.{ltb-true, ltb-false}
-use Rattle.settings.specs.theory.Cases.{cases}
+use Rattle.laws.specs.Cases.{cases}
 use Rattle.text_write.specs.Writing.{hexDigit, trimmed, groupText, trailing, partText, longest, textOf}
 use Rattle.text_write.specs.theory.Digits.{text-length}
 use Rattle.text_write.specs.theory.Texts.{text-plain}

@@ -5,25 +5,19 @@ use Prim.Native.Nat.{ℕ, _+_, _≤_, _<_}
 use native.Mathlib.Numerals.{add-one}
 use native.Mathlib.Omega.{arith}
 use lib.ListN.{length, take, drop, getD, set, length-set}
-use lib.Seq.{take-suc, take-suc-set, length-take-le, take-take, take-append-add, drop-cons, set-at, append-snoc}
-
--- what is left from i on begins with the element at i
-pub drop-next : (l : List ℕ) (i : ℕ) → i < length l → drop i l ≡ getD l i 0 ∷ drop (i + 1) l
-drop-next l i h = rw (add-one, drop-cons l i 0)
-
-pub fill-one : (o : List ℕ) (n v : ℕ) → n < length o → take (n + 1) (set o n v) ≡ take n o ++ v ∷ []
-fill-one o n v h = rw add-one (take-suc-set o n v h)
+use lib.Seq.{take-suc, length-take-le, take-take, take-append-add, set-at, append-snoc}
+use Rattle.laws.specs.Lists.{drop-next, take-stored}
 
 -- one more behind what is filled
 pub fill-more : (o p : List ℕ) (n m v : ℕ) → take n o ≡ p → m ≡ n + 1 → n < length o → take m (set o n v) ≡ p ++ v ∷ []
-fill-more o p n m v e q h = rw (q, ← e) (fill-one o n v h)
+fill-more o p n m v e q h = rw (q, ← e) (take-stored o n v h)
 
 pub fill-four : (o : List ℕ) (n u v w x : ℕ) → n + 4 ≤ length o
     → take (n + 4) (set (set (set (set o n u) (n + 1) v) (n + 2) w) (n + 3) x) ≡ take n o ++ u ∷ v ∷ w ∷ x ∷ []
 fill-four o n u v w x h =
     fill-more _ _ (n + 3) (n + 4) x
     (fill-more _ _ (n + 2) (n + 3) w
-    (fill-more _ _ (n + 1) (n + 2) v (fill-one o n u (omega arith)) (omega arith) (simp length-set (omega arith)))
+    (fill-more _ _ (n + 1) (n + 2) v (take-stored o n u (omega arith)) (omega arith) (simp length-set (omega arith)))
     (omega arith)
     (simp length-set (omega arith)))
     (omega arith)
@@ -43,5 +37,5 @@ pub copy-turn : (t o : List ℕ) (i : ℕ) → i < length t → i < length o
 copy-turn t o i h k =
     let p : length (take i t) ≡ i = length-take-le i t (omega arith) in
     let n : take (i + 1) t ≡ take i t ++ getD t i 0 ∷ [] = rw (add-one i) (take-suc t i 0 h) in
-    rw (drop-next o i k, n, append-snoc (take i t) (getD t i 0) (drop (i + 1) o))
+    rw (drop-next o i 0 k, n, append-snoc (take i t) (getD t i 0) (drop (i + 1) o))
     (set-at (take i t) (getD o i 0) (drop (i + 1) o) (getD t i 0) i p)

@@ -6,9 +6,9 @@ use native.Mathlib.Omega.{arith}
 use lib.ListN.{length, take, drop, getD, set, length-take, length-drop, length-append, drop-of-length-le}
 use lib.Seq.{getD-take, length-take-le, take-take, take-at, take-all}
 use borrow.Author.Tests.{lt-ltb, le-ltb}
+use Rattle.laws.specs.Lists.{drop-next, take-stored}
 use Rattle.text_write.specs.Writing.{groupText, trailing, partText, longest, textOf}
 use Rattle.text_write.specs.WriterSteps.{closedText}
-use Rattle.text_write.specs.theory.Stores.{drop-next, fill-one}
 
 closed-trailing : (l : List ℕ) → 58 ∷ closedText l ≡ trailing l ++ 58 ∷ []
 unfolding closedText trailing
@@ -33,7 +33,7 @@ module _ (g : List ℕ) (i to : ℕ) where
   unfolding closedText
   closed-next h l =
       let d : drop i (take to g) ≡ getD g i 0 ∷ drop (i + 1) (take to g) =
-      drop-next (take to g) i (omega (arith, length-take to g)) ∙ rw (getD-take to g i 0 h)
+      drop-next (take to g) i 0 (omega (arith, length-take to g)) ∙ rw (getD-take to g i 0 h)
       in
       rw d (sym (append-assoc (groupText (getD g i 0)) (58 ∷ []) (closedText (drop (i + 1) (take to g)))))
 
@@ -82,4 +82,4 @@ pub gap-put : (g o : List ℕ) (a s n : ℕ) → s ≡ longest g .0 → n ≡ lo
     → take a o ≡ partText (take s g) ++ 58 ∷ [] → take (a + 1) (set o a 58) ++ partText (drop (s + n) g) ≡ textOf g
 gap-put g o a s n p q h k e =
     let m : 2 ≤ longest g .1 = omega arith in
-    rw (fill-one o a 58 h, e, text-gap g m, p, q) (simp append-assoc)
+    rw (take-stored o a 58 h, e, text-gap g m, p, q) (simp append-assoc)

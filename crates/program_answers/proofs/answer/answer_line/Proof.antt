@@ -1,11 +1,8 @@
 -- A line is no command, or its address is read, or it is not.
-use mathlib.Core.Path.{_≡_, sym, ap, _∙_}
-use Prim.Native.Nat.{ℕ}
+use mathlib.Core.Path.{sym, _∙_}
 use native.Mathlib.Omega.{arith}
 use denote.Ref.{now}
-use Rattle.program_commands.specs.Steps.{addressIn}
 use Rattle.program_commands.specs.theory.Spaces.{read-spaceless}
-use Rattle.text_read.specs.Answers.{readingOf}
 use Rattle.program_answers.specs.theory.Lines.{Parsing, asks-request, asks-none, answered-none, answered-key, answered-unread}
 use borrow.Author.Needs.{needs}
 use Rattle.program_answers.proofs.answer.answer_line.Statement.{statement}

@@ -5,7 +5,7 @@ use Prim.Native.Nat.{ℕ, _^_}
 use lib.Dec.{eqb, eqb→eq}
 use lib.ListN.{getD}
 use borrow.Author.Needs.{needs}
-use Rattle.settings.specs.theory.Tables.{at}
+use Rattle.laws.specs.Tables.{at}
 use Rattle.settings.proofs.log.power.Statement.{statement}
 use Rattle.settings.proofs.log.power.Tie as tie
 

@@ -6,7 +6,8 @@ use native.Mathlib.Omega.{arith}
 use lib.Dec.{leb, ltb}
 use borrow.Author.Needs.{needs}
 use borrow.Author.Tests.{leb-true, leb-false, le-ltb}
-use Rattle.settings.specs.theory.Cases.{cases, same-test}
+use Rattle.laws.specs.Cases.{cases}
+use Rattle.laws.specs.Tests.{ltb-iff}
 use Rattle.settings.proofs.settings.below.Statement.{statement}
 use Rattle.settings.proofs.settings.below.Tie as tie
 
@@ -20,7 +21,7 @@ sub-result c = search needs
 same : (r x p : ℕ) → r < 2 ^ 32 → p < 2 ^ 32 → (r + 1) % 2 ^ 32 ≡ x → ltb r (p - 1) ≡ (leb 1 x && ltb x p)
 same r x p small fits e =
     cases (leb 1 x)
-    (λ t. let l = leb-true 1 x t in rw t (same-test r (p - 1) x p (λ h. omega arith) (λ h. omega arith)))
+    (λ t. let l = leb-true 1 x t in rw t (ltb-iff r (p - 1) x p (λ h. omega arith) (λ h. omega arith)))
     (λ f. let l = leb-false 1 x f in rw f (le-ltb r (p - 1) (omega arith)))
 
 returns : tie.Need-returns

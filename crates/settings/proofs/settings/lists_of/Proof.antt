@@ -3,8 +3,8 @@ use mathlib.Core.Path.{_≡_, sym, ap, _∙_}
 use Prim.Native.Nat.{ℕ, _^_, _≤_}
 use native.Mathlib.Omega.{arith}
 use lib.ListN.{getD}
+use Rattle.settings.specs.theory.Arms.{at-least}
 use Rattle.settings.specs.Prime.{primeAbove}
-use Rattle.settings.specs.theory.Cases.{at-least}
 use Rattle.settings.specs.theory.Primes.{primes, prime-table}
 use Rattle.settings.proofs.settings.lists_of.Statement.{statement}
 use Rattle.settings.proofs.settings.lists_of.Tie as tie

@@ -24,18 +24,22 @@ enum-known-number c = search needs
 basic-head-requires : tie.Need-basic-head-requires
 basic-head-requires c κs = let s = c .before .before .before .before .before .before .before in (s .pre .0 .table, s .pre .0 .list)
 
-link-basic-requires : tie.Need-link-basic-requires
-link-basic-requires c κs =
-    let s = c .before .before .before .before .before .before .before .before .before in
-    (s .pre .0 .table, s .pre .0 .list, took (c .before .before .before .before) .low)
+add-put-basic-front : tie.Need-add-put-basic-front
+add-put-basic-front c = let s = c .before .before .before .before .before .before .before .before .before .before in omega (arith, s .pre .0 .table .proper .sib-high)
+
+put-basic-front-requires : tie.Need-put-basic-front-requires
+put-basic-front-requires c κs =
+    let s = c .before .before .before .before .before .before .before .before .before .before in
+    let k = took (c .before .before .before .before .before) in
+    (s .pre .0 .table, s .pre .0 .list, omega arith, omega (arith, k .low, s .pre .0 .table .proper .link-holds))
 
 take-requires : tie.Need-take-requires
 take-requires c κs =
-    let s = c .before .before .before .before .before .before .before .before .before .before .before .before .before in
-    let k = took (c .before .before .before .before .before .before .before .before) in (
-      c .before .before .before .link-basic .ensures .table,
+    let s = c .before .before .before .before .before .before .before .before .before .before .before .before .before .before in
+    let k = took (c .before .before .before .before .before .before .before .before .before) in (
+      c .before .before .before .put-basic-front .ensures .table,
       k .low,
-      rw (c .before .before .before .before .before .basic-head .ensures) (head-lt (s .args .g) (now (s .args .t)) (s .pre .0 .table) (s .args .i .0) (s .pre .0 .list)),
+      rw (c .before .before .before .before .before .before .basic-head .ensures) (head-lt (s .args .g) (now (s .args .t)) (s .pre .0 .table) (s .args .i .0) (s .pre .0 .list)),
       k .next-low,
       s .pre .0 .slotted,
     )
@@ -51,16 +55,16 @@ same-length c = search needs
 
 returns : tie.Need-returns
 returns c =
-    let s = c .before .before .before .before .before .before .before .before .before .before .before .before .before .before .before .before .before in
-    let a = c .before .before .before .before .before .before .before .before .before .before .before .before .before .before .before .before in
+    let s = c .before .before .before .before .before .before .before .before .before .before .before .before .before .before .before .before .before .before in
+    let a = c .before .before .before .before .before .before .before .before .before .before .before .before .before .before .before .before .before in
     let g = s .args .g in
     let T = s .pre .0 .table in
     let v = s .args .v in
     append-first g (now (s .args .t)) T (λ j. omega (arith, a .slice-known .given j)) (s .args .i .0) v (s .pre .0 .list)
     (slot-lt g (T .proper) (keyNumber (v .entry)) (v .label) (s .pre .0 .slotted)) (s .pre .1) _ _ _
-    (took (c .before .before .before .before .before .before .before .before .before .before .before .before))
-    (c .before .before .before .before .before .before .before .before .before .basic-head .ensures) _ _ _
-    (c .before .before .before .before .before .before .before .link-basic .ensures)
+    (took (c .before .before .before .before .before .before .before .before .before .before .before .before .before))
+    (c .before .before .before .before .before .before .before .before .before .before .basic-head .ensures) _ _ _
+    (c .before .before .before .before .before .before .before .put-basic-front .ensures)
     (c .before .before .before .take .ensures)
     (c .added .ensures)
 
@@ -86,7 +90,8 @@ append-first-spec =
     free-block-requires
     enum-known-number
     basic-head-requires
-    link-basic-requires
+    add-put-basic-front
+    put-basic-front-requires
     take-requires
     added-requires
     enum-known-why

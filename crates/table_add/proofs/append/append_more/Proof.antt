@@ -22,8 +22,8 @@ free-block-requires c κs = c .before .before .pre .0 .table
 enum-known-number : tie.Need-enum-known-number
 enum-known-number c = search needs
 
-meets-requires : tie.Need-meets-requires
-meets-requires c κs =
+list-has-block-requires : tie.Need-list-has-block-requires
+list-has-block-requires c κs =
     let s = c .before .before .before .before .before .before .before in (
       s .pre .0 .table,
       followed (s .args .g) (decode (s .args .g) (now (s .args .t)) .overflow) (s .args .g .nob) (s .args .h .0) (omega (arith, s .pre .1 .last, s .pre .1 .low)),
@@ -42,21 +42,22 @@ returns c =
     more-met g (now (s .args .t)) T (λ j. omega (arith, a .slice-known .given j)) (s .args .i .0) v (s .pre .0 .list)
     (slot-lt g (T .proper) (keyNumber (v .entry)) (v .label) (s .pre .0 .slotted)) (s .args .h .0) (s .args .j .0) (s .pre .1) (s .pre .2) _ _
     (took (c .before .before .before .before))
-    (sym (c .if1 .taken) ∙ c .before .meets .ensures)
+    (sym (c .if1 .taken) ∙ c .before .list-has-block .ensures)
 
 overflow-link-requires : tie.Need-overflow-link-requires
 overflow-link-requires c κs = let s = c .before .before .before .before .before .before .before .before .before .before in (s .pre .0 .table, s .pre .1 .low)
 
-link-overflow-requires : tie.Need-link-overflow-requires
-link-overflow-requires c κs =
+put-overflow-front-requires : tie.Need-put-overflow-front-requires
+put-overflow-front-requires c κs =
     let s = c .before .before .before .before .before .before .before .before .before .before .before .before in
-    (s .pre .0 .table, s .pre .1 .low, took (c .before .before .before .before .before .before .before) .low)
+    let k = took (c .before .before .before .before .before .before .before) in
+    (s .pre .0 .table, s .pre .1 .low, omega arith, omega (arith, k .low, s .pre .0 .table .proper .link-holds))
 
 take-requires : tie.Need-take-requires
 take-requires c κs =
     let s = c .before .before .before .before .before .before .before .before .before .before .before .before .before .before .before .before in
     let k = took (c .before .before .before .before .before .before .before .before .before .before .before) in (
-      c .before .before .before .link-overflow .ensures .table,
+      c .before .before .before .put-overflow-front .ensures .table,
       k .low,
       rw (c .before .before .before .before .before .overflow-link .ensures) (link-lt (s .args .g) (now (s .args .t)) (s .pre .0 .table) (s .args .j .0) (s .pre .1 .low)),
       k .next-low,
@@ -82,9 +83,9 @@ returns-2 c =
     append-more g (now (s .args .t)) T (λ j. omega (arith, a .slice-known .given j)) (s .args .i .0) v (s .pre .0 .list)
     (slot-lt g (T .proper) (keyNumber (v .entry)) (v .label) (s .pre .0 .slotted)) (s .args .h .0) (s .args .j .0) (s .pre .1) (s .pre .2) _ _ _
     (took (c .before .before .before .before .before .before .before .before .before .before .before .before .before .before .before))
-    (sym (c .before .before .before .before .before .before .before .before .before .before .before .if1 .left) ∙ c .before .before .before .before .before .before .before .before .before .before .before .before .meets .ensures)
+    (sym (c .before .before .before .before .before .before .before .before .before .before .before .if1 .left) ∙ c .before .before .before .before .before .before .before .before .before .before .before .before .list-has-block .ensures)
     (c .before .before .before .before .before .before .before .before .before .overflow-link .ensures) _ _ _
-    (c .before .before .before .before .before .before .before .link-overflow .ensures)
+    (c .before .before .before .before .before .before .before .put-overflow-front .ensures)
     (c .before .before .before .take .ensures)
     (c .added .ensures)
 
@@ -109,11 +110,11 @@ append-more-spec =
     (tie.spec
     free-block-requires
     enum-known-number
-    meets-requires
+    list-has-block-requires
     same-length
     returns
     overflow-link-requires
-    link-overflow-requires
+    put-overflow-front-requires
     take-requires
     added-requires
     enum-known-why

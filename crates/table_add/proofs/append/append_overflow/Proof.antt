@@ -3,7 +3,8 @@ use native.Mathlib.Omega.{arith}
 use denote.Ref.{now}
 use borrow.Author.Needs.{needs}
 use Rattle.keys.specs.Key.{keyNumber}
-use Rattle.table_store.specs.theory.StoreLaws.{table-kept, slot-asks, slot-put, slot-lt, overflow-slot-ends}
+use Rattle.table_read.specs.theory.Places.{overflow-slot-ends}
+use Rattle.table_store.specs.theory.StoreLaws.{table-kept, slot-asks, slot-put, slot-lt}
 use Rattle.table_add.proofs.AppendLaws.{append-last}
 use Rattle.table_add.proofs.append.append_overflow.Statement.{statement}
 use Rattle.table_add.proofs.append.append_overflow.Tie as tie

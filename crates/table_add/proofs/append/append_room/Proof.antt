@@ -3,7 +3,8 @@ use native.Mathlib.Omega.{arith}
 use denote.Ref.{now}
 use borrow.Author.Needs.{needs}
 use Rattle.keys.specs.Key.{keyNumber}
-use Rattle.table_store.specs.theory.StoreLaws.{table-kept, slot-asks, slot-put, slot-lt, basic-slot-ends}
+use Rattle.table_read.specs.theory.Places.{basic-slot-ends}
+use Rattle.table_store.specs.theory.StoreLaws.{table-kept, slot-asks, slot-put, slot-lt}
 use Rattle.table_add.proofs.AppendLaws.{append-room}
 use Rattle.table_add.proofs.append.append_room.Statement.{statement}
 use Rattle.table_add.proofs.append.append_room.Tie as tie

@@ -7,8 +7,8 @@ use lib.Dec.{eqb}
 use denote.Ref.{now}
 use borrow.Author.Count.{below-more}
 use borrow.Author.Tests.{eq-eqb, ne-eqb}
+use Rattle.laws.specs.Tests.{below-all, below-not}
 use Rattle.bits.specs.Field.{field}
-use Rattle.table_check.proofs.Tests.{every-if, every-not}
 use Rattle.table_check.proofs.bytes.all_marked.Statement.{statement}
 use Rattle.table_check.proofs.bytes.all_marked.Tie as tie
 
@@ -29,7 +29,7 @@ returns c =
     let m = c .before .before .before in
     let s = m .before .before in
     sym
-    (every-not (s .args .n) (λ j. eqb (field (now (s .args .s)) j 1) 1) (m .loop .j) (omega arith)
+    (below-not (s .args .n) (λ j. eqb (field (now (s .args .s)) j 1) 1) (m .loop .j) (omega arith)
     (ne-eqb (field (now (s .args .s)) (m .loop .j) 1) 1 (λ e. c .if1 .taken (c .before .get .ensures ∙ e))))
 
 add-j : tie.Need-add-j Inv-loop μ-loop
@@ -50,7 +50,7 @@ returns-2 : tie.Need-returns-2 Inv-loop μ-loop
 returns-2 c =
     let m = c .before in
     let s = m .before .before in
-    sym (every-if (s .args .n) (λ j. eqb (field (now (s .args .s)) j 1) 1) (λ j h. m .loop .inv .1 j (omega arith)))
+    sym (below-all (s .args .n) (λ j. eqb (field (now (s .args .s)) j 1) 1) (λ j h. m .loop .inv .1 j (omega arith)))
 
 pub all-marked-spec : {M : Type 1} → statement M
 all-marked-spec =

@@ -6,23 +6,23 @@ use native.Mathlib.Omega.{arith}
 use lib.ListN.{length, replicate}
 use denote.Ref.{now}
 use Rattle.bits.specs.Field.{field}
-use Rattle.table_check.proofs.Sound.{clear-zeros}
+use Rattle.bits.specs.theory.Fields.{zero-field}
 use borrow.Author.Needs.{needs}
 use Rattle.table_check.proofs.call.audited.Statement.{statement}
 use Rattle.table_check.proofs.call.audited.Tie as tie
 
-clear-requires : tie.Need-clear-requires
-clear-requires c κs = search needs
+zero-bytes-requires : tie.Need-zero-bytes-requires
+zero-bytes-requires c κs = search needs
 
 sound-requires : tie.Need-sound-requires
 sound-requires c κs =
     let k = c .before .before .before in
     let s = k .before .before .before .before in
-    let l : length (k .clear .last .0) ≡ length (now (s .args .marks)) = k .clear .kept .0 in
-    (s .pre .0, s .pre .1, omega (arith, s .pre .2), λ j h. ap (λ (m : List ℕ). field m j 1) (k .clear .ensures) ∙ clear-zeros (length (now (s .args .marks))) j)
+    let l : length (k .zero-bytes .last .0) ≡ length (now (s .args .marks)) = k .zero-bytes .kept .0 in
+    (s .pre .0, s .pre .1, omega (arith, s .pre .2), λ j h. ap (λ (m : List ℕ). field m j 1) (k .zero-bytes .ensures) ∙ zero-field (length (now (s .args .marks))) j 1)
 
-clear-requires-2 : tie.Need-clear-requires-2
-clear-requires-2 c κs = search needs
+zero-bytes-requires-2 : tie.Need-zero-bytes-requires-2
+zero-bytes-requires-2 c κs = search needs
 
 same-length : tie.Need-same-length
 same-length c = search needs
@@ -34,9 +34,9 @@ returns c =
     let l = k .before .before .before .before in
     record {
       answer = k .sound .ensures;
-      marks = z .clear2 .ensures ∙ ap (λ (n : ℕ). replicate n 0) (k .sound .kept .1 .1 .0 ∙ l .clear .kept .0);
+      marks = z .zero-bytes2 .ensures ∙ ap (λ (n : ℕ). replicate n 0) (k .sound .kept .1 .1 .0 ∙ l .zero-bytes .kept .0);
     }
 
 pub audited-spec : {M : Type 1} → statement M
 audited-spec =
-    tie.close (tie.spec clear-requires sound-requires clear-requires-2 same-length returns)
+    tie.close (tie.spec zero-bytes-requires sound-requires zero-bytes-requires-2 same-length returns)

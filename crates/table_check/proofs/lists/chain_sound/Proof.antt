@@ -5,7 +5,7 @@ use Prim.Native.Nat.{ℕ}
 use denote.Ref.{now}
 use borrow.Author.Tests.{eq-eqb, ne-eqb}
 use Rattle.table.specs.Decode.{decode}
-use Rattle.table_check.specs.Walk.{stepOf, walk}
+use Rattle.table_check.specs.Walk.{wayOn, walk}
 use Rattle.table_check.specs.Lists.{chainWalk}
 use borrow.Author.Needs.{needs}
 use Rattle.table_check.proofs.lists.chain_sound.Statement.{statement}
@@ -34,7 +34,7 @@ returns-2 c =
     let f = e .before .before in
     let s = f .before .before .before in
     rw (ne-eqb (decode (s .args .g) (now (s .args .t)) .free) (s .args .g .nob) (λ q. e .if1 .left (f .free-start .ensures ∙ q)))
-    (ap (λ (b : ℕ). walk (s .args .g) (stepOf (s .args .g) (decode (s .args .g) (now (s .args .t)) .overflow) true) (s .args .g .nob) b (now (s .args .marks))) (sym (f .free-start .ensures))
+    (ap (λ (b : ℕ). walk (s .args .g) (wayOn (s .args .g) (decode (s .args .g) (now (s .args .t)) .overflow) true) (s .args .g .nob) b (now (s .args .marks))) (sym (f .free-start .ensures))
     ∙ k .mark-from .ensures)
 
 pub chain-sound-spec : {M : Type 1} → statement M

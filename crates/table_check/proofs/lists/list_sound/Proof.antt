@@ -7,7 +7,7 @@ use denote.Ref.{now}
 use borrow.Author.Tests.{not-true, not-false}
 use Rattle.table.specs.State.{basicAt}
 use Rattle.table.specs.Decode.{decode}
-use Rattle.table_check.specs.Walk.{found, stepOf, walk}
+use Rattle.table_check.specs.Walk.{found, wayOn, walk}
 use Rattle.table_check.specs.Lists.{provided, longApart, listWalk}
 use Rattle.table_check.proofs.ListLaws.{list-short, list-high, list-over}
 use borrow.Author.Needs.{needs}
@@ -60,7 +60,7 @@ over c q e =
     let b = basicAt (st .basic) (s .args .i .0) in
     list-over g (st .overflow) b (now (s .args .marks)) (omega (arith, k .basic-counter .ensures, h .before .if2 .left))
     ∙ ap (provided (longApart g (st .overflow) b))
-    (ap (λ (x : ℕ). walk g (stepOf g (st .overflow) false) (g .nob) x (now (s .args .marks))) (sym (h .basic-head .ensures))
+    (ap (λ (x : ℕ). walk g (wayOn g (st .overflow) false) (g .nob) x (now (s .args .marks))) (sym (h .basic-head .ensures))
     ∙ c .mark-from .ensures
     ∙ ap (λ (r : Bool). found r (c .mark-from .last .1 .1 .1 .1 .0)) e)
 

@@ -9,9 +9,10 @@ use lib.ListN.{length, drop}
 use denote.Ref.{now}
 use borrow.Author.Tests.{not-true, not-false}
 use Rattle.table.specs.Decode.{decode}
+use Rattle.table.specs.theory.Formed.{basics}
 use Rattle.table_check.specs.Walk.{found}
 use Rattle.table_check.specs.Lists.{andThen, listsWalk}
-use Rattle.table_check.proofs.ListLaws.{lists-next, lists-end, lists-length}
+use Rattle.table_check.proofs.ListLaws.{lists-next, lists-end}
 use Rattle.table_check.proofs.lists.lists_sound.Statement.{statement}
 use Rattle.table_check.proofs.lists.lists_sound.Tie as tie
 
@@ -41,7 +42,7 @@ turned k q e =
     let st = decode g (now (s .args .t)) in
     ap (λ (o : Option (List ℕ)). andThen o (listsWalk g (st .overflow) (drop (m .loop .i + 1) (st .basic))))
     (ap (λ (r : Bool). found r (k .list-sound .last .1 .1 .1 .0)) (sym e) ∙ sym (k .list-sound .ensures))
-    ∙ sym (lists-next g (st .overflow) (st .basic) (m .loop .i) (m .loop .marks) (omega (arith, lists-length g (now (s .args .t)))))
+    ∙ sym (lists-next g (st .overflow) (st .basic) (m .loop .i) (m .loop .marks) (omega (arith, basics g (now (s .args .t)))))
     ∙ m .loop .inv .2
 
 long : (k : tie.After-list-sound Inv-loop μ-loop) → length (k .list-sound .last .1 .1 .1 .0) ≡ length (now (start (head k) .args .marks))
@@ -84,7 +85,7 @@ returns-2 c =
     let s = start m in
     let st = decode (s .args .g) (now (s .args .t)) in
     sym (m .loop .inv .2)
-    ∙ lists-end (s .args .g) (st .overflow) (st .basic) (m .loop .i) (m .loop .marks) (omega (arith, lists-length (s .args .g) (now (s .args .t))))
+    ∙ lists-end (s .args .g) (st .overflow) (st .basic) (m .loop .i) (m .loop .marks) (omega (arith, basics (s .args .g) (now (s .args .t))))
 
 pub lists-sound-spec : {M : Type 1} → statement M
 lists-sound-spec =

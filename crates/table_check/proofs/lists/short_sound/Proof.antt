@@ -4,13 +4,13 @@ use mathlib.Core.Bool.{Bool, _&&_}
 use native.Mathlib.Omega.{arith}
 use denote.Ref.{now}
 use borrow.Author.Tests.{not-true, not-false}
+use Rattle.laws.specs.Folds.{everyBelow}
 use Rattle.table.specs.Decode.{decode}
-use Rattle.table.specs.Check.{everyBelow}
 use Rattle.table_read.specs.Steps.{slotsIn, basicRun}
+use Rattle.table.specs.declared.step.Step.the-variants.{Last}
 use Rattle.table.specs.theory.Changes.{bits-high}
-use Rattle.table_read.specs.theory.Reads.{basic-run-within}
-use Rattle.table_check.specs.Entries.{slotsFrom, alone}
-use Rattle.table_check.proofs.Zeros.{basic-room}
+use Rattle.table_read.specs.theory.Reads.{basic-run-within, basic-room}
+use Rattle.table_check.specs.Entries.{alone, slotsAfter}
 use Rattle.table_check.proofs.Runs.{short-as}
 use borrow.Author.Needs.{needs}
 use Rattle.table_check.proofs.lists.short_sound.Statement.{statement}
@@ -34,7 +34,7 @@ returns c =
     let g = s .args .g in
     let t = now (s .args .t) in
     let r = basicRun g (s .args .i .0) (s .args .n) in
-    ap (λ (q : Bool). q && everyBelow (r .count) (alone g (slotsIn g t r) (slotsFrom g 0 (decode g t .overflow) (g .nob)))) (sym (not-true _ (c .if1 .taken)) ∙ z .zeros-after .ensures)
+    ap (λ (q : Bool). q && everyBelow (r .count) (alone g (slotsIn g t r) (slotsAfter g 0 (decode g t .overflow) Last))) (sym (not-true _ (c .if1 .taken)) ∙ z .zeros-after .ensures)
     ∙ short-as g t (s .pre .0) (s .args .i .0) (s .pre .1) (z .before .basic-slots .result) (s .args .n) r (z .before .basic-slots .ensures) (s .pre .2) (s .pre .3) refl
 
 basic-run-requires : tie.Need-basic-run-requires

@@ -7,14 +7,16 @@ use denote.Ref.{now}
 use lib.Dec.{eqb}
 use borrow.Author.Needs.{needs}
 use borrow.Author.Tests.{eq-eqb, ne-eqb, not-true, not-false}
+use Rattle.laws.specs.Folds.{allZero}
 use Rattle.bits.specs.Field.{field}
 use Rattle.table.specs.State.{overflowAt}
 use Rattle.table.specs.Decode.{decode}
-use Rattle.table.specs.Check.{allZero}
 use Rattle.table.specs.theory.Changes.{bits-high}
-use Rattle.table_check.specs.declared.steps.Step.the-variants.{Last}
-use Rattle.table_check.specs.Walk.{further, chainStep}
-use Rattle.table_check.proofs.Zeros.{over-room, over-zeros}
+use Rattle.table_read.specs.theory.Reads.{overflow-room}
+use Rattle.table_check.specs.Walk.{chainStep}
+use Rattle.table_check.proofs.Zeros.{over-zeros}
+use Rattle.table.specs.declared.step.Step.the-variants.{Last}
+use Rattle.table.specs.Follow.{further}
 use Rattle.table_check.proofs.StepLaws.{chain-used, chain-full, chain-free}
 use Rattle.table_check.proofs.steps.chain_step.Statement.{statement}
 use Rattle.table_check.proofs.steps.chain_step.Tie as tie
@@ -33,7 +35,7 @@ zeros-after-requires c κs =
     let s = c .before .before .before .before in
     let T = s .pre .0 in
     let e = c .overflow-slots .ensures in
-    let r = over-room (s .args .g) (now (s .args .t)) T (s .args .b .0) (s .pre .1) in
+    let r = overflow-room (s .args .g) (now (s .args .t)) T (s .args .b .0) (s .pre .1) in
     (omega arith, omega (arith, T .room), omega (arith, bits-high (s .args .g) (T .proper)))
 
 slots : (c : tie.After-zeros-after) → let s = c .before .before .before .before .before in

@@ -8,9 +8,10 @@ use denote.Ref.{now}
 use borrow.Author.Needs.{needs}
 use Rattle.bits.specs.theory.Puts.{put-length}
 use Rattle.table.specs.Decode.{decode}
-use Rattle.table_check.specs.declared.steps.Step.{Step}
-use Rattle.table_check.specs.declared.steps.Step.the-variants.{Last, Further, Broken}
-use Rattle.table_check.specs.Walk.{goOn, stepOf, walk}
+use Rattle.table.specs.declared.step.Step.{Step}
+use Rattle.table.specs.declared.step.Step.the-variants.{Last, Further, Damage}
+use Rattle.table.specs.Follow.{goOn}
+use Rattle.table_check.specs.Walk.{wayOn, walk}
 use Rattle.table_check.proofs.Marks.{walk-out, walk-high, walk-met, walk-on}
 use Rattle.table_check.proofs.walk.mark_from.Statement.{statement}
 use Rattle.table_check.proofs.walk.mark_from.Tie as tie
@@ -18,7 +19,7 @@ use Rattle.table_check.proofs.walk.mark_from.Tie as tie
 abbrev Inv-loop : tie.InvT-loop
 Inv-loop t g chain marks₀ first left₀ marks b left =
     (left ≤ g .nob) × (length marks ≡ length marks₀)
-    × (walk g (stepOf g (decode g t .overflow) chain) left (b .0) marks ≡ walk g (stepOf g (decode g t .overflow) chain) (g .nob) (first .0) marks₀)
+    × (walk g (wayOn g (decode g t .overflow) chain) left (b .0) marks ≡ walk g (wayOn g (decode g t .overflow) chain) (g .nob) (first .0) marks₀)
 
 abbrev μ-loop : tie.MeasureT-loop
 μ-loop t g chain marks₀ first left₀ marks b left = left
@@ -30,7 +31,7 @@ abbrev head : tie.After-put Inv-loop μ-loop → tie.At-loop Inv-loop μ-loop
 head p = p .before .before .before .before .before .before .before .before .before
 
 abbrev step : tie.At-loop Inv-loop μ-loop → ℕ → Step
-step m = stepOf (start m .args .g) (decode (start m .args .g) (now (start m .args .t)) .overflow) (start m .args .chain)
+step m = wayOn (start m .args .g) (decode (start m .args .g) (now (start m .args .t)) .overflow) (start m .args .chain)
 
 long : (p : tie.After-put Inv-loop μ-loop) → length (p .put .last .0) ≡ length (now (start (head p) .args .marks))
 long p = ap length (p .put .ensures) ∙ put-length _ _ _ _ ∙ head p .loop .inv .1
@@ -103,7 +104,7 @@ same-length-4 c = long (c .before .before .before .before .before)
 returns-4 : tie.Need-returns-4 Inv-loop μ-loop
 returns-4 c =
     let w = c .before .before in
-    sym (head (w .before .before .before) .loop .inv .2) ∙ turned w Broken (c .enum-told2 .given .1)
+    sym (head (w .before .before .before) .loop .inv .2) ∙ turned w Damage (c .enum-told2 .given .1)
 
 sub-left : tie.Need-sub-left Inv-loop μ-loop
 sub-left c = omega (arith, c .before .before .before .before .before .before .before .before .before .before .before .before .before .before .loop-test .taken)

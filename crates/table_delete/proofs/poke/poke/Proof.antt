@@ -9,10 +9,11 @@ use Rattle.bits.specs.theory.Fields.{field-lt}
 use Rattle.table.specs.Decode.{decode}
 use Rattle.table_read.specs.theory.Reads.{sized}
 use Rattle.table_read.specs.declared.lists.Spot.{Spot}
+use Rattle.table_read.specs.theory.Places.{overflow-slot-ends}
 use Rattle.table_store.specs.Stores.{slotPut}
-use Rattle.table_store.specs.theory.StoreLaws.{copy-asks, overflow-slot-ends, stored-as}
-use Rattle.table_delete.specs.DeleteSteps.{pokeSpot, pokeAt}
-use Rattle.table_delete.specs.theory.DeleteLaws.{poke-low, poke-high, spotted-at, stored-spot}
+use Rattle.table_store.specs.Places.{storeSpot, storeFrom}
+use Rattle.table_store.specs.theory.StoreLaws.{copy-asks, stored-as}
+use Rattle.table_store.specs.theory.PlaceLaws.{spotted-at, store-low, store-high, stored-spot}
 use Rattle.table_delete.proofs.poke.poke.Statement.{statement}
 use Rattle.table_delete.proofs.poke.poke.Tie as tie
 
@@ -27,8 +28,8 @@ returns c =
     let a = c .before .before .before .before .before .before .before .args in
     let st = decode (a .g) (now (a .t)) in
     let x = field (now (a .t)) (a .from) (a .g .slot) in
-    stored-as (pokeAt (a .g) (a .i .0) (a .h .0) (a .l .0) (a .p) x st) (c .before .before .poke-basic .ensures)
-    (poke-low (a .g) st (a .i .0) (a .l .0) (a .p) (a .h .0) x (c .before .before .before .before .if1 .taken))
+    stored-as (storeFrom (a .g) (a .i .0) (a .h .0) (a .l .0) (a .p) x st) (c .before .before .poke-basic .ensures)
+    (store-low (a .g) st (a .i .0) (a .l .0) (a .p) (a .h .0) x (c .before .before .before .before .if1 .taken))
 
 spot-of-requires : tie.Need-spot-of-requires
 spot-of-requires c κs = let s = c .before .before .before .before .before in (s .pre .0, s .pre .1 .reaches (c .before .before .if1 .left))
@@ -66,10 +67,10 @@ returns-2 c =
     let x = field (now (a .t)) (a .from) (a .g .slot) in
     let q = c .before .before .before .before .before in
     let k = spot-low q in
-    stored-as (pokeAt (a .g) (a .i .0) (a .h .0) (a .l .0) (a .p) x st)
+    stored-as (storeFrom (a .g) (a .i .0) (a .h .0) (a .l .0) (a .p) x st)
     (stored-spot (a .g) (now (a .t)) (s .pre .0) (q .spot-of .result) x _ (k .0) (k .1) (field-lt (now (a .t)) (a .from) (a .g .slot))
     (c .before .before .before .overflow-slot .ensures) _ (c .before .before .copy .ensures))
-    (ap (λ (y : Spot). pokeSpot (a .g) y x st) (q .spot-of .ensures) ∙ poke-high (a .g) st (a .i .0) (a .l .0) (a .p) (a .h .0) x (c .before .before .before .before .before .before .before .before .if1 .left))
+    (ap (λ (y : Spot). storeSpot y x st) (q .spot-of .ensures) ∙ store-high (a .g) st (a .i .0) (a .l .0) (a .p) (a .h .0) x (c .before .before .before .before .before .before .before .before .if1 .left))
 
 pub poke-spec : {M : Type 1} → statement M
 poke-spec =

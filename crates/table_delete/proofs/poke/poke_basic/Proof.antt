@@ -6,9 +6,11 @@ use borrow.Author.Needs.{needs}
 use Rattle.bits.specs.Field.{field}
 use Rattle.bits.specs.theory.Fields.{field-lt}
 use Rattle.table_read.specs.theory.Reads.{link-lt}
-use Rattle.table_store.specs.Stores.{basicSlot}
-use Rattle.table_store.specs.theory.StoreLaws.{table-kept, basic-slot-ends}
-use Rattle.table_delete.specs.theory.DeleteLaws.{head-before, stored-poke, stored-poke-same}
+use Rattle.table_store.specs.theory.StoreLaws.{table-kept}
+use Rattle.table_store.specs.theory.PlaceLaws.{stored-displaced, stored-displaced-same}
+use Rattle.table_delete.specs.theory.DeleteLaws.{head-before}
+use Rattle.table_read.specs.Places.{basicSlot}
+use Rattle.table_read.specs.theory.Places.{basic-slot-ends}
 use Rattle.table_delete.proofs.poke.poke_basic.Statement.{statement}
 use Rattle.table_delete.proofs.poke.poke_basic.Tie as tie
 
@@ -54,7 +56,7 @@ returns : tie.Need-returns
 returns c =
     let s = c .before .before .before .before .before .before .before .before .before .before .before .before .before .before in
     let a = s .args in
-    stored-poke (a .g) (now (a .t)) (s .pre .0) (a .i .0) (a .l .0) (a .p .0) (c .before .before .before .before .before .before .before .before .before .before .before .overflow-link .result) (field (now (a .t)) (a .from) (a .g .slot)) _ _
+    stored-displaced (a .g) (now (a .t)) (s .pre .0) (a .i .0) (a .l .0) (a .p .0) (c .before .before .before .before .before .before .before .before .before .before .before .overflow-link .result) (field (now (a .t)) (a .from) (a .g .slot)) _ _
     (s .pre .1) (s .pre .2) (s .pre .3) (field-lt (now (a .t)) (a .from) (a .g .slot)) (c .before .before .before .before .before .before .before .before .before .before .before .overflow-link .ensures) (c .before .before .before .before .before .before .before .before .before .before .basic-slots .ensures) (c .before .before .before .before .before .before .before .before .before .basic-slot .ensures) _ _
     (c .before .before .before .before .before .before .before .poke-displaced .ensures) _ (c .before .before .put-overflow-link .ensures)
 
@@ -65,7 +67,7 @@ returns-2 : tie.Need-returns-2
 returns-2 c =
     let s = c .before .before .before .before .before .before .before .before .before .before in
     let a = s .args in
-    stored-poke-same (a .g) (now (a .t)) (s .pre .0) (a .i .0) (a .l .0) (a .p .0) (c .before .before .before .before .before .before .before .overflow-link .result) (field (now (a .t)) (a .from) (a .g .slot)) _ _
+    stored-displaced-same (a .g) (now (a .t)) (s .pre .0) (a .i .0) (a .l .0) (a .p .0) (c .before .before .before .before .before .before .before .overflow-link .result) (field (now (a .t)) (a .from) (a .g .slot)) _ _
     (s .pre .1) (s .pre .2) (s .pre .3) (field-lt (now (a .t)) (a .from) (a .g .slot)) (c .before .before .before .before .before .before .before .overflow-link .ensures) (c .before .before .before .before .before .before .basic-slots .ensures) (c .before .before .before .before .before .basic-slot .ensures) _ _
     (c .before .before .before .poke-displaced .ensures) (c .if1 .left)
 

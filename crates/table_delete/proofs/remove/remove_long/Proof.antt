@@ -7,13 +7,15 @@ use borrow.Author.Needs.{needs}
 use Rattle.bits.specs.Field.{field}
 use Rattle.table.specs.State.{State, overflowAt}
 use Rattle.table.specs.Decode.{decode}
+use Rattle.table.specs.Delete.{cannotFree}
 use Rattle.table_read.specs.theory.Reads.{sized}
 use Rattle.table_read.specs.theory.Spots.{long-ends}
-use Rattle.table_delete.specs.DeleteSteps.{stuckWith, stuckAt, Shrinkable}
-use Rattle.table_delete.specs.theory.DeleteLaws.{slot-movable, poke-keeps, shrinkable-kept}
+use Rattle.table_delete.specs.DeleteSteps.{cannotFreeAt, Shrinkable}
+use Rattle.table_delete.specs.theory.DeleteLaws.{slot-movable, shrinkable-kept}
 use Rattle.table_delete.specs.theory.RemoveLaws.{Route, route, removed-shut, removed-open}
 use Rattle.table_delete.proofs.remove.remove_long.Statement.{statement}
 use Rattle.table_delete.proofs.remove.remove_long.Tie as tie
+use Rattle.table_store.specs.theory.PlaceLaws.{store-keeps}
 
 basic-head-requires : tie.Need-basic-head-requires
 basic-head-requires c κs = search needs
@@ -45,10 +47,10 @@ stuck-requires : tie.Need-stuck-requires
 stuck-requires c κs = search needs
 
 -- the counter that was read is the last block's
-told : (c : tie.After-stuck) → let a = c .before .before .before .before .before .before .before .before .before .before .args in c .stuck .result ≡ stuckAt (a .g) (c .before .before .before .before .before .end-of .result .last .0) (decode (a .g) (now (a .t)))
+told : (c : tie.After-stuck) → let a = c .before .before .before .before .before .before .before .before .before .before .args in c .stuck .result ≡ cannotFreeAt (a .g) (c .before .before .before .before .before .end-of .result .last .0) (decode (a .g) (now (a .t)))
 told c =
     let a = c .before .before .before .before .before .before .before .before .before .before .args in
-    c .stuck .ensures ∙ ap (λ (n : ℕ). stuckWith (a .g) n (decode (a .g) (now (a .t)))) (c .before .before .overflow-counter .ensures)
+    c .stuck .ensures ∙ ap (λ (n : ℕ). cannotFree (a .g) n (decode (a .g) (now (a .t)))) (c .before .before .overflow-counter .ensures)
 
 same-length : tie.Need-same-length
 same-length c = search needs
@@ -72,7 +74,7 @@ poke-requires c κs =
     let n = c .before .before .before .before .before in
     (s .pre .0, record { list = s .pre .1; last = w .low; reaches = w .reaches }, slot-movable (s .args .g) (s .pre .0 .proper) (q .end-of .result .last .0) (n .overflow-counter .result) _ (w .low) (slot-there n) (c .overflow-slot .ensures))
 
--- a poke keeps the last block's counter, and the free start
+-- a slot stored keeps the last block's counter, and the free start
 shrink-requires : tie.Need-shrink-requires
 shrink-requires c κs =
     let s = c .before .before .before .before .before .before .before .before .before .before .before .before .before .before .before .before .before in
@@ -82,12 +84,13 @@ shrink-requires c κs =
     let l = q .end-of .result .last .0 in
     let st = decode (a .g) (now (a .t)) in
     let e = c .before .before .before .poke .ensures in
-    let k = poke-keeps (a .g) st (a .i .0) (q .before .before .basic-head .result) l (a .p) (field (now (a .t)) (c .before .before .before .before .overflow-slot .result) (a .g .slot)) in (
+    let k = store-keeps (a .g) st (a .i .0) (q .before .before .basic-head .result) l (a .p) (field (now (a .t)) (c .before .before .before .before .overflow-slot .result) (a .g .slot)) in (
       e .table,
       s .pre .1,
       subst (λ (u : State). Shrinkable (a .g) u l) (sym (e .state))
           (shrinkable-kept (a .g) st (a .i .0) _ k l (record { low = w .low; few = w .few; free = sym (told (c .before .before .before .before .before .before .before)) ∙ c .before .before .before .before .before .before .if1 .left })),
       c .before .before .before .before .before .before .before .before .before .overflow-counter .ensures ∙ sym (ap (λ (u : State). overflowAt (u .overflow) l .counter) (e .state) ∙ k .counters l),
+      w .prior-low,
     )
 
 same-length-2 : tie.Need-same-length-2

@@ -8,12 +8,14 @@ use denote.Ref.{now}
 use borrow.Author.Needs.{needs}
 use Rattle.table.specs.State.{State, overflowAt}
 use Rattle.table.specs.Decode.{decode}
+use Rattle.table.specs.Delete.{handedBack}
 use Rattle.table_read.specs.theory.Reads.{link-lt}
-use Rattle.table_store.specs.theory.StoreLaws.{Stored, stored-as}
-use Rattle.table_delete.specs.DeleteSteps.{handed, shrinkAt}
-use Rattle.table_delete.specs.theory.DeleteLaws.{shrink-clipped, free-low, handed-free, stored-further, stored-back, stored-freed}
+use Rattle.table.specs.theory.FormedCalls.{handed-free}
+use Rattle.table_delete.specs.theory.DeleteLaws.{free-low, stored-further, stored-back, stored-kept, stored-freed}
+use Rattle.table.specs.Table.{Within}
 use Rattle.table_delete.proofs.shrink.shrink.Statement.{statement}
 use Rattle.table_delete.proofs.shrink.shrink.Tie as tie
+use Rattle.table_store.specs.Stores.{Stored}
 
 clip-requires : tie.Need-clip-requires
 clip-requires c κs = search needs
@@ -27,7 +29,7 @@ returns c =
     let a = s .args in
     let st = decode (a .g) (now (a .t)) in
     let h : 0 < overflowAt (decode (a .g) (now (a .t)) .overflow) (a .last .0) .counter = omega (arith, s .pre .3, c .before .before .before .before .if1 .taken) in
-    stored-as (shrinkAt (a .g) (a .i .0) (a .last .0) (a .before .0) st) (c .before .before .clip .ensures) (shrink-clipped (a .g) st (a .i .0) (a .last .0) (a .before .0) h)
+    stored-kept (a .i .0) (a .last .0) (a .before) h (c .before .before .clip .ensures)
 
 -- the last block has one slot only
 emptied : (c : tie.Else1) → let a = c .before .before .args in overflowAt (decode (a .g) (now (a .t)) .overflow) (a .last .0) .counter ≤ 0
@@ -36,48 +38,61 @@ emptied c = omega (arith, c .before .before .pre .3, c .if1 .left)
 overflow-link-requires : tie.Need-overflow-link-requires
 overflow-link-requires c κs = search needs
 
-sub-set-overflow : tie.Need-sub-set-overflow
-sub-set-overflow c = search needs
-
 -- the link that was read fits
 fits : (c : tie.After-overflow-link) → c .overflow-link .result < 2 ^ c .before .before .before .before .args .g .link
 fits c =
     let s = c .before .before .before .before in
     rw (c .overflow-link .ensures) (link-lt (s .args .g) (now (s .args .t)) (s .pre .0) _ (omega (arith, s .pre .2 .low)))
 
-set-overflow-requires : tie.Need-set-overflow-requires
-set-overflow-requires c κs = (c .before .before .before .before .before .before .before .before .before .pre .0, c .before .before .if2 .taken, omega arith, fits (c .before .before .before .before .before))
+enum-told : tie.Need-enum-told
+enum-told c = search needs
 
-set-basic-requires : tie.Need-set-basic-requires
-set-basic-requires c κs = (c .before .before .before .before .before .before .before .before .pre .0, c .before .before .before .before .before .before .before .before .pre .1, omega arith, fits (c .before .before .before .before))
+put-basic-front-requires : tie.Need-put-basic-front-requires
+put-basic-front-requires c κs =
+    let o = c .before .before .before in
+    let s = o .before .before .before .before in
+    (s .pre .0, s .pre .1, omega arith, fits o)
+
+enum-known-before : tie.Need-enum-known-before
+enum-known-before c = search needs
+
+sub-put-overflow-front : tie.Need-sub-put-overflow-front
+sub-put-overflow-front c = search needs
+
+put-overflow-front-requires : tie.Need-put-overflow-front-requires
+put-overflow-front-requires c κs =
+    let q = c .before .before .before in
+    let o = q .before .before in
+    let s = o .before .before .before .before in
+    (s .pre .0, subst (Within (s .args .g)) (q .before2 .given .1) (s .pre .4), omega arith, fits o)
 
 -- where the two ways meet, the displaced bits are handed on
-met : (c : tie.Joined2) → let a = c .before .before .before .before .before .before .before .args in Stored (a .g) (now (a .t)) (c .if2 .t) (handed (a .g) (a .i .0) (a .last .0) (a .before .0) (decode (a .g) (now (a .t))))
+met : (c : tie.At-match-came) → let a = c .before .before .before .before .before .args in Stored (a .g) (now (a .t)) (c .match .t) (handedBack (a .g) (a .i .0) (a .last .0) (a .before) (decode (a .g) (now (a .t))))
 met c =
-    let a = c .before .before .before .before .before .before .before .args in
-    let l = c .before .before .before .overflow-link in
-    let at : List ℕ → Type 0 = λ u. Stored (a .g) (now (a .t)) u (handed (a .g) (a .i .0) (a .last .0) (a .before .0) (decode (a .g) (now (a .t)))) in
+    let a = c .before .before .before .before .before .args in
+    let l = c .before .overflow-link in
+    let at : List ℕ → Type 0 = λ u. Stored (a .g) (now (a .t)) u (handedBack (a .g) (a .i .0) (a .last .0) (a .before) (decode (a .g) (now (a .t)))) in
     ⊎-elim
-    (λ w. subst at (sym (w .6)) (stored-further (a .i .0) (a .last .0) (a .before .0) (a .g .sio - 1) (l .result) refl (l .ensures) (w .0 .taken) (w .3 .ensures)))
-    (λ w. subst at (sym (w .5)) (stored-back (a .i .0) (a .last .0) (a .before .0) (l .result) (l .ensures) (w .0 .left) (w .2 .ensures)))
-    (c .if2 .came)
+    (λ w. subst at (sym (w .6)) (stored-back (a .i .0) (a .last .0) (a .before) (l .result) (w .1 .given .1) (l .ensures) (w .3 .ensures)))
+    (λ w. subst at (sym (w .8)) (stored-further (a .i .0) (a .last .0) (a .before) (w .1 .given .0 .0) (a .g .sio - 1) (l .result) (w .1 .given .1) refl (l .ensures) (w .5 .ensures)))
+    (c .match .came)
 
 release-requires : tie.Need-release-requires
 release-requires c κs =
-    let s = c .before .before .before .before .before .before .before .before in
+    let s = c .before .before .before .before .before .before in
     let a = s .args in
     let st = decode (a .g) (now (a .t)) in
     let m = met (c .before) in
-    let f = free-low (a .g) st (a .i .0) (a .last .0) (a .before .0) (s .pre .2) (emptied (c .before .before .before .before .before .before)) in
-    (m .table, s .pre .2 .low, omega (arith, f, ap (λ (u : State). u .free) (m .state), handed-free (a .g) st (a .i .0) (a .last .0) (a .before .0)))
+    let f = free-low (a .g) st (a .i .0) (a .last .0) (s .pre .2) (emptied (c .before .before .before .before)) in
+    (m .table, s .pre .2 .low, omega (arith, f, ap (λ (u : State). u .free) (m .state), handed-free (a .g) st (a .i .0) (a .last .0) (a .before)))
 
 same-length-2 : tie.Need-same-length-2
 same-length-2 c = omega (arith, c .before .before .release .kept .0, met (c .before .before .before .before) .only .long)
 
 returns-2 : tie.Need-returns-2
 returns-2 c =
-    let a = c .before .before .before .before .before .before .before .before .before .before .before .args in
-    stored-freed (a .i .0) (a .last .0) (a .before .0) (emptied (c .before .before .before .before .before .before .before .before .before)) (met (c .before .before .before .before)) (c .before .before .release .ensures)
+    let a = c .before .before .before .before .before .before .before .before .before .args in
+    stored-freed (a .i .0) (a .last .0) (a .before) (emptied (c .before .before .before .before .before .before .before)) (met (c .before .before .before .before)) (c .before .before .release .ensures)
 
 pub shrink-spec : {M : Type 1} → statement M
 shrink-spec =
@@ -87,9 +102,11 @@ shrink-spec =
     same-length
     returns
     overflow-link-requires
-    sub-set-overflow
-    set-overflow-requires
-    set-basic-requires
+    enum-told
+    put-basic-front-requires
+    enum-known-before
+    sub-put-overflow-front
+    put-overflow-front-requires
     release-requires
     same-length-2
     returns-2)

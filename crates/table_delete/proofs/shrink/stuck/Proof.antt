@@ -3,19 +3,19 @@ use mathlib.Core.Path.{ap}
 use lib.Dec.{ltb}
 use borrow.Author.Needs.{needs}
 use borrow.Author.Tests.{lt-ltb, le-ltb}
-use Rattle.table_delete.specs.DeleteSteps.{stuckWith}
 use Rattle.table_delete.proofs.shrink.stuck.Statement.{statement}
 use Rattle.table_delete.proofs.shrink.stuck.Tie as tie
+use Rattle.table.specs.Delete.{cannotFree}
 
 returns : tie.Need-returns
-unfolding stuckWith
+unfolding cannotFree
 returns c = rw (lt-ltb 0 (c .before .before .args .n) (c .if1 .taken))
 
 free-start-requires : tie.Need-free-start-requires
 free-start-requires c κs = search needs
 
 returns-2 : tie.Need-returns-2
-unfolding stuckWith
+unfolding cannotFree
 returns-2 c =
     let a = c .before .before .before .before .before .args in
     rw (le-ltb 0 (a .n) (c .before .before .before .if1 .left)) (ap (ltb (a .g .nob)) (c .before .before .free-start .ensures))

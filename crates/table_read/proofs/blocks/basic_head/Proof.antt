@@ -1,34 +1,20 @@
--- The field is within the block, and is what the decoded state has.
-use mathlib.Core.Path.{_≡_, refl, sym, ap, _∙_}
-use Prim.Native.Nat.{ℕ, suc, _+_, _*_, _^_, _≤_, _<_}
+-- The field is that of the decoded state.
+use mathlib.Core.Path.{sym, ap, _∙_}
 use native.Mathlib.Omega.{arith}
 use denote.Ref.{now}
-use borrow.Author.Needs.{needs}
-use Rattle.bits.specs.Field.{field}
-use Rattle.table.specs.State.{Basic, Overflow}
-use Rattle.table.specs.Decode.{blockAt, basicSlots, linkAt, overflowSlots, readBasic, readOverflow, decode}
-use Rattle.table.specs.theory.Changes.{basic-ends, basic-within, over-ends, over-within, start-high, bits-high, at-basic, at-over}
+use Rattle.table.specs.State.{Basic}
+use Rattle.table.specs.Decode.{basicSlots, readBasic}
+use Rattle.table.specs.theory.Changes.{at-basic}
+use Rattle.table_read.specs.theory.Places.{basic-in}
 use Rattle.table_read.proofs.blocks.basic_head.Statement.{statement}
 use Rattle.table_read.proofs.blocks.basic_head.Tie as tie
 
-basic-slots-requires : tie.Need-basic-slots-requires
-basic-slots-requires c κs = search needs
-
-short-field-requires : tie.Need-short-field-requires
-unfolding basicSlots
-short-field-requires c κs =
-    let a = c .before .before in
-    let F = a .pre .0 .proper in
-    let h = basic-ends (a .args .g) F (a .args .i .0) (a .pre .1) in
-    omega (arith, h, start-high (a .args .g) F, F .basic-is, F .link-fits, F .link-high, a .pre .0 .room, c .basic-slots .ensures)
+link-of-requires : tie.Need-link-of-requires
+link-of-requires c κs = let s = c .before in basic-in (s .args .g) (now (s .args .t)) (s .pre .0) (s .args .g .link) (omega arith) (s .args .i .0) (s .pre .1)
 
 returns : tie.Need-returns
-unfolding readBasic
-returns c =
-    let a = c .before .before .before in
-    c .short-field .ensures
-    ∙ ap (λ (x : ℕ). field (now (a .args .t)) x (a .args .g .link)) (c .before .basic-slots .ensures)
-    ∙ sym (ap (λ (b : Basic). b .head) (at-basic (a .args .g) (a .pre .0 .proper) (now (a .args .t)) (a .args .i .0) (a .pre .1)))
+unfolding basicSlots readBasic
+returns c = let s = c .before .before in c .link-of .ensures ∙ sym (ap (λ (x : Basic). x .head) (at-basic (s .args .g) (s .pre .0 .proper) (now (s .args .t)) (s .args .i .0) (s .pre .1)))
 
 pub basic-head-spec : {M : Type 1} → statement M
-basic-head-spec = tie.close (tie.spec basic-slots-requires short-field-requires returns)
+basic-head-spec = tie.close (tie.spec link-of-requires returns)

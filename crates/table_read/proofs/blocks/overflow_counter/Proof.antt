@@ -1,33 +1,20 @@
--- The field is within the block, and is what the decoded state has.
-use mathlib.Core.Path.{_≡_, refl, sym, ap, _∙_}
-use Prim.Native.Nat.{ℕ, suc, _+_, _*_, _^_, _≤_, _<_}
+-- The field is that of the decoded state.
+use mathlib.Core.Path.{sym, ap, _∙_}
 use native.Mathlib.Omega.{arith}
 use denote.Ref.{now}
-use borrow.Author.Needs.{needs}
-use Rattle.bits.specs.Field.{field}
-use Rattle.table.specs.State.{Basic, Overflow}
-use Rattle.table.specs.Decode.{blockAt, basicSlots, linkAt, overflowSlots, readBasic, readOverflow, decode}
-use Rattle.table.specs.theory.Changes.{basic-ends, basic-within, over-ends, over-within, start-high, bits-high, at-basic, at-over}
+use Rattle.table.specs.State.{Overflow}
+use Rattle.table.specs.Decode.{readOverflow}
+use Rattle.table.specs.theory.Changes.{at-over}
+use Rattle.table_read.specs.theory.Places.{over-in}
 use Rattle.table_read.proofs.blocks.overflow_counter.Statement.{statement}
 use Rattle.table_read.proofs.blocks.overflow_counter.Tie as tie
 
-block-at-requires : tie.Need-block-at-requires
-block-at-requires c κs = over-within _ (c .before .pre .0 .proper) _ (c .before .pre .1)
-
-short-field-requires : tie.Need-short-field-requires
-short-field-requires c κs =
-    let a = c .before .before in
-    let F = a .pre .0 .proper in
-    let h = over-ends (a .args .g) F (a .args .j .0) (a .pre .1) in
-    omega (arith, h, start-high (a .args .g) F, F .overflow-is, F .overflow-high, a .pre .0 .room, c .block-at .ensures)
+counter-of-requires : tie.Need-counter-of-requires
+counter-of-requires c κs = let s = c .before in over-in (s .args .g) (now (s .args .t)) (s .pre .0) 0 (omega arith) (s .args .j .0) (s .pre .1)
 
 returns : tie.Need-returns
 unfolding readOverflow
-returns c =
-    let a = c .before .before .before in
-    c .short-field .ensures
-    ∙ ap (λ (x : ℕ). field (now (a .args .t)) x (a .args .g .overflow .counter)) (c .before .block-at .ensures)
-    ∙ sym (ap (λ (b : Overflow). b .counter) (at-over (a .args .g) (a .pre .0 .proper) (now (a .args .t)) (a .args .j .0) (a .pre .1)))
+returns c = let s = c .before .before in c .counter-of .ensures ∙ sym (ap (λ (x : Overflow). x .counter) (at-over (s .args .g) (s .pre .0 .proper) (now (s .args .t)) (s .args .j .0) (s .pre .1)))
 
 pub overflow-counter-spec : {M : Type 1} → statement M
-overflow-counter-spec = tie.close (tie.spec block-at-requires short-field-requires returns)
+overflow-counter-spec = tie.close (tie.spec counter-of-requires returns)

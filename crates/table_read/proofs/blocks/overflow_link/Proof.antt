@@ -1,33 +1,20 @@
--- The field is within the block, and is what the decoded state has.
+-- The field is that of the decoded state.
 use mathlib.Core.Path.{sym, ap, _∙_}
-use Prim.Native.Nat.{ℕ}
 use native.Mathlib.Omega.{arith}
 use denote.Ref.{now}
-use borrow.Author.Needs.{needs}
-use Rattle.bits.specs.Field.{field}
 use Rattle.table.specs.State.{Overflow}
 use Rattle.table.specs.Decode.{linkAt, readOverflow}
-use Rattle.table.specs.theory.Changes.{over-ends, at-over}
+use Rattle.table.specs.theory.Changes.{at-over}
+use Rattle.table_read.specs.theory.Places.{over-in}
 use Rattle.table_read.proofs.blocks.overflow_link.Statement.{statement}
 use Rattle.table_read.proofs.blocks.overflow_link.Tie as tie
 
-link-at-requires : tie.Need-link-at-requires
-link-at-requires c κs = search needs
-
-short-field-requires : tie.Need-short-field-requires
-unfolding linkAt
-short-field-requires c κs =
-    let a = c .before .before in
-    let F = a .pre .0 .proper in
-    omega (arith, over-ends (a .args .g) F (a .args .j .0) (a .pre .1), F .overflow-is, F .link-high, a .pre .0 .room, c .link-at .ensures)
+link-of-requires : tie.Need-link-of-requires
+link-of-requires c κs = let s = c .before in over-in (s .args .g) (now (s .args .t)) (s .pre .0) (s .args .g .link) (omega arith) (s .args .j .0) (s .pre .1)
 
 returns : tie.Need-returns
-unfolding readOverflow
-returns c =
-    let a = c .before .before .before in
-    c .short-field .ensures
-    ∙ ap (λ (x : ℕ). field (now (a .args .t)) x (a .args .g .link)) (c .before .link-at .ensures)
-    ∙ sym (ap (λ (b : Overflow). b .link) (at-over (a .args .g) (a .pre .0 .proper) (now (a .args .t)) (a .args .j .0) (a .pre .1)))
+unfolding linkAt readOverflow
+returns c = let s = c .before .before in c .link-of .ensures ∙ sym (ap (λ (x : Overflow). x .link) (at-over (s .args .g) (s .pre .0 .proper) (now (s .args .t)) (s .args .j .0) (s .pre .1)))
 
 pub overflow-link-spec : {M : Type 1} → statement M
-overflow-link-spec = tie.close (tie.spec link-at-requires short-field-requires returns)
+overflow-link-spec = tie.close (tie.spec link-of-requires returns)

@@ -3,8 +3,10 @@ use mathlib.Core.Path.{_≡_, sym, ap, _∙_}
 use Prim.Native.Nat.{_+_, _-_, _≤_}
 use native.Mathlib.Omega.{arith}
 use denote.Ref.{now}
+use borrow.Author.Needs.{needs}
 use Rattle.table.specs.Decode.{decode}
 use Rattle.table_read.specs.Steps.{lastFrom, lastAs}
+use Rattle.table.specs.theory.Ways.{told-last, told-further, told-damage}
 use Rattle.table_read.specs.theory.Walks.{last-high, last-out, last-here, last-bad, last-further}
 use Rattle.table_read.specs.theory.Lasts.{last-block, last-none}
 use Rattle.table_read.proofs.lists.follow.Statement.{statement}
@@ -29,20 +31,37 @@ returns c =
 overflow-front-requires : tie.Need-overflow-front-requires Inv-loop μ-loop
 overflow-front-requires c κs = omega arith
 
+abbrev head : tie.After-step-of Inv-loop μ-loop → tie.At-loop Inv-loop μ-loop
+head w = w .before .before .before .before .before .before .before
+
+step-of-requires : tie.Need-step-of-requires Inv-loop μ-loop
+step-of-requires c κs = search needs
+
+enum-told : tie.Need-enum-told Inv-loop μ-loop
+enum-told c = search needs
+
 returns-2 : tie.Need-returns-2 Inv-loop μ-loop
 returns-2 c =
-    let m = c .before .before .before .before .before .before .before .before .before in
+    let w = c .before .before in
+    let m = head w in
     let s = m .before .before .args in
     last-block (s .g) (m .loop .b) (omega arith)
-    ∙ ap (lastAs (s .g)) (sym (last-here (s .g) (decode (s .g) (now (s .t)) .overflow) (s .g .nob - m .loop .k) (m .loop .b .0) (omega arith) (omega arith) (omega (arith, c .before .before .before .overflow-front .ensures .0)))
+    ∙ ap (lastAs (s .g)) (sym (last-here (s .g) (decode (s .g) (now (s .t)) .overflow) (s .g .nob - m .loop .k) (m .loop .b .0) (omega arith) (omega arith) (omega (arith, w .before .overflow-front .ensures .0, told-last _ _ _ _ (w .step-of .ensures) (c .enum-told .given .1))))
     ∙ m .loop .inv .1)
+
+enum-known-next : tie.Need-enum-known-next Inv-loop μ-loop
+enum-known-next c = search needs
+
+enum-told-2 : tie.Need-enum-told-2 Inv-loop μ-loop
+enum-told-2 c = search needs
 
 returns-3 : tie.Need-returns-3 Inv-loop μ-loop
 returns-3 c =
-    let m = c .before .before .before .before .before .before .before .before .before .before .before .before in
+    let w = c .before .before in
+    let m = head w in
     let s = m .before .before .args in
     last-none (s .g) (s .g .nob) (omega arith)
-    ∙ ap (lastAs (s .g)) (sym (last-bad (s .g) (decode (s .g) (now (s .t)) .overflow) (s .g .nob - m .loop .k) (m .loop .b .0) (omega (arith, c .before .before .before .before .before .before .overflow-front .ensures .0)))
+    ∙ ap (lastAs (s .g)) (sym (last-bad (s .g) (decode (s .g) (now (s .t)) .overflow) (s .g .nob - m .loop .k) (m .loop .b .0) (omega (arith, w .before .overflow-front .ensures .0, told-damage _ _ _ _ (w .step-of .ensures) (c .enum-told2 .given .1))))
     ∙ m .loop .inv .1)
 
 add-k : tie.Need-add-k Inv-loop μ-loop
@@ -53,12 +72,14 @@ loop-less c = omega arith
 
 loop-again : tie.Need-loop-again Inv-loop μ-loop
 loop-again c =
-    let m = c .before .before .before .before .before .before .before .before .before .before .before .before in
+    let w = c .before .before .before in
+    let m = head w in
     let s = m .before .before .args in
-    let os = decode (s .g) (now (s .t)) .overflow in (
+    let os = decode (s .g) (now (s .t)) .overflow in
+    let e = told-further _ _ _ _ (w .step-of .ensures) _ (c .before .next .given .1) in (
       omega arith,
-      ap (lastFrom (s .g) (s .g .nob - (m .loop .k + 1)) os) (c .before .before .before .before .before .before .overflow-front .ensures .1)
-          ∙ sym (last-further (s .g) os (s .g .nob - m .loop .k) (s .g .nob - (m .loop .k + 1)) (m .loop .b .0) (omega arith) (omega arith) (omega (arith, c .before .before .before .before .before .before .overflow-front .ensures .0)))
+      ap (lastFrom (s .g) (s .g .nob - (m .loop .k + 1)) os) (e .link ∙ w .before .overflow-front .ensures .1)
+          ∙ sym (last-further (s .g) os (s .g .nob - m .loop .k) (s .g .nob - (m .loop .k + 1)) (m .loop .b .0) (omega arith) (omega arith) (omega (arith, w .before .overflow-front .ensures .0, e .full)))
           ∙ m .loop .inv .1,
     )
 
@@ -78,7 +99,11 @@ follow-spec =
     loop-holds
     returns
     overflow-front-requires
+    step-of-requires
+    enum-told
     returns-2
+    enum-known-next
+    enum-told-2
     returns-3
     add-k
     loop-less

@@ -1,6 +1,6 @@
 -- A field of at most 64 bits is the entry's low half; of more, its last 64 bits are, and the others its high half.
 use mathlib.Core.Path.{sym, ap, ap₂, _∙_}
-use Prim.Native.Nat.{ℕ, _-_}
+use Prim.Native.Nat.{ℕ}
 use native.Mathlib.Omega.{arith}
 use denote.Ref.{now}
 use lib.Dec.{eqb}

@@ -1,12 +1,9 @@
 -- What was admitted decides: the call with the key, or its refusal, which leaves every byte.
 use mathlib.Core.Path.{_≡_, sym, ap, _∙_}
-use mathlib.Core.List.{List}
-use Prim.Native.Nat.{ℕ}
 use denote.Ref.{now}
 use borrow.Author.Needs.{needs}
 use Rattle.keys.specs.declared.Key.{Key}
 use Rattle.table.specs.Calls.{deleteAnswer, deleteBytes}
-use Rattle.table.specs.declared.answers.DeleteAnswer.{DeleteAnswer}
 use Rattle.table.specs.declared.answers.DeleteAnswer.the-variants as deleting
 use Rattle.settings.specs.declared.refusal.Refusal.{Refusal}
 use Rattle.text_read.specs.declared.Parsed.{Parsed}

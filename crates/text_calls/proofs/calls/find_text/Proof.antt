@@ -1,10 +1,7 @@
 -- What was admitted decides: the call with the key, or its refusal.
-use mathlib.Core.Path.{_≡_, sym, ap, _∙_}
-use mathlib.Core.List.{List}
-use Prim.Native.Nat.{ℕ}
+use mathlib.Core.Path.{sym, ap, _∙_}
 use denote.Ref.{now}
 use borrow.Author.Needs.{needs}
-use Rattle.keys.specs.declared.Key.{Key}
 use Rattle.table.specs.Calls.{findAnswer}
 use Rattle.table.specs.declared.answers.FindAnswer.the-variants as finding
 use Rattle.text_read.specs.declared.Parsed.{Parsed}

@@ -9,7 +9,8 @@ use lib.Dec.{eqb, lit<}
 use Rattle.text_read.specs.Class.{dot}
 use Rattle.text_read.specs.Numerals.{decimal}
 use Rattle.text_read.specs.ReaderSteps.{until, numeralOf, dottedFrom}
-use Rattle.text_read.proofs.Fields.{digit-more, digit-most}
+use Rattle.text_read.specs.theory.Joined.{digit-more}
+use Rattle.text_read.proofs.Fields.{digit-most}
 use Rattle.text_read.proofs.Splits.{Past, numeral-if, no-decimal, one-decimal, decimal-le, dotted-bad, dotted-many, dotted-last, dotted-more}
 use Rattle.text_read.proofs.reader.dotted.Statement.{statement}
 use Rattle.text_read.proofs.reader.dotted.Tie as tie

@@ -1,10 +1,10 @@
 -- Groups with a colon after each are the groups parted by colons, and one colon more: `closed-front`.
 use mathlib.Core.Path.{_∙_}
 use native.Mathlib.Omega.{arith}
+use Rattle.laws.specs.Lists.{take-stored}
 use Rattle.text_write.specs.Writing.{partText}
 use Rattle.text_write.specs.WriterSteps.{keyGroups}
 use Rattle.text_write.proofs.Groups.{eight}
-use Rattle.text_write.specs.theory.Stores.{fill-one}
 use Rattle.text_write.specs.theory.Texts.{closed-front}
 use borrow.Author.Needs.{needs}
 use Rattle.text_write.proofs.writer.put_front.Statement.{statement}
@@ -20,7 +20,7 @@ returns : tie.Need-returns
 unfolding partText
 returns c =
     let a = c .before .before .args in
-    (omega arith, rw (c .if1 .taken) (fill-one (a .text .now) 0 58 (omega (arith, c .before .before .pre))))
+    (omega arith, rw (c .if1 .taken) (take-stored (a .text .now) 0 58 (omega (arith, c .before .before .pre))))
 
 put-groups-requires : tie.Need-put-groups-requires
 put-groups-requires c κs = search needs

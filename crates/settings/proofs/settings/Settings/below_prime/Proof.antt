@@ -1,13 +1,12 @@
 -- Each of the two is what `below` ensures, and p is above 2 ^ bii.
-use mathlib.Core.Path.{_≡_}
-use mathlib.Core.Bool.{Bool, _&&_}
+use mathlib.Core.Path.{_≡_, sym}
+use mathlib.Core.Bool.{Bool, _&&_, and-assoc}
 use Prim.Native.Nat.{ℕ, _≤_}
 use native.Mathlib.Omega.{arith}
 use lib.Dec.{leb, ltb}
 use borrow.Author.Needs.{needs}
 use Rattle.settings.specs.Prime.{primeAbove}
 use Rattle.settings.specs.Legal.{belowPrime}
-use Rattle.settings.specs.theory.Cases.{and-assoc}
 use Rattle.settings.specs.theory.Primes.{prime-above}
 use Rattle.settings.specs.declared.settings.Settings.{Settings}
 use Rattle.settings.proofs.settings.Settings.below_prime.Statement.{statement}
@@ -30,7 +29,7 @@ both : (s : Settings) {p : ℕ} {x y : Bool} → p ≡ primeAbove (s .bii) → x
 unfolding belowPrime
 both s e f g =
     let p = primeAbove (s .bii) in
-    rw (f, g, e) (and-assoc (leb 1 (s .a) && ltb (s .a) p) (leb 1 (s .b)) (ltb (s .b) p))
+    rw (f, g, e) (sym (and-assoc (leb 1 (s .a) && ltb (s .a) p) (leb 1 (s .b)) (ltb (s .b) p)))
 
 returns : tie.Need-returns
 returns c =

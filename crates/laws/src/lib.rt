@@ -1,0 +1,1 @@
+// Laws of Bools, lists and numbers that no crate has to itself: theory alone, no code.

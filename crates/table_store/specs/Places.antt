@@ -1,0 +1,26 @@
+-- A slot stored in a place of a list, by the numbers that functions have at hand.
+use Prim.Native.Nat.{ℕ, _-_, _≤_, _<_}
+use mathlib.Core.Bool.{cond}
+use lib.Dec.{ltb}
+use Rattle.settings.specs.declared.layout.Layout.{Layout}
+use Rattle.table.specs.State.{State}
+use Rattle.table.specs.Updates.{withSlot, overOverflow}
+use Rattle.table.specs.Store.{storeDisplaced}
+use Rattle.table_read.specs.Spots.{blocksFrom, spotIn, Reaches}
+use Rattle.table_read.specs.declared.lists.Spot.{Spot}
+
+-- x in the slot s of an overflow block
+abbrev pub storeSpot : Spot → ℕ → State → State
+storeSpot s x = overOverflow (s .block .0) (withSlot (s .slot .0) x)
+
+module _ (g : Layout) where
+  -- x in place p of list i, whose overflow blocks go from h to l
+  unfoldable pub storeFrom : ℕ → ℕ → ℕ → ℕ → ℕ → State → State
+  storeFrom i h l p x st =
+      cond (ltb p (g .sib)) (storeDisplaced g i l p x st) (storeSpot (spotIn g (blocksFrom g (st .overflow) h) (p - g .sib)) x st)
+
+  -- list i, whose overflow blocks go from h to l, has a place p
+  pub record Storable (st : State) (i h l p : ℕ) : Type 0 where
+    pub list : i < g .lists
+    pub last : l < g .nob
+    pub reaches : g .sib ≤ p → Reaches g (st .overflow) h (p - g .sib)

@@ -1,0 +1,157 @@
+-- Places of a list: where they are in the blocks, and what a slot stored there does.
+use mathlib.Core.Path.{_≡_, refl, sym, ap, subst, _∙_}
+use mathlib.Core.List.{List, [], _∷_}
+use Prim.Native.Nat.{ℕ, _-_, _^_, _≤_, _<_}
+use native.Mathlib.Omega.{arith}
+use native.Mathlib.Decide.{decLe, ℕ-discrete}
+use lib.ListN.{length, set}
+use lib.Seq.{getD-set-same, getD-set-other, set-out}
+use lib.Dec.{ltb}
+use borrow.Author.Tests.{lt-ltb, le-ltb}
+use Rattle.table_read.specs.Places.{basicSlot, overflowSlot}
+use Rattle.bits.specs.Put.{putField}
+use Rattle.bits.specs.theory.Fields.{field-lt}
+use Rattle.bits.specs.theory.Puts.{put-own}
+use Rattle.laws.specs.Cases.{cases}
+use Rattle.settings.specs.declared.layout.Layout.{Layout}
+use Rattle.table.specs.State.{Overflow, State, mkState, absentBlock, basicAt, overflowAt, unpack, headOf, restOf}
+use Rattle.table.specs.Updates.{withLink, withSlot, withRest, overBasic, overOverflow}
+use Rattle.table.specs.Decode.{basicSlots, linkAt, readOverflow, decode}
+use Rattle.table.specs.Table.{Table}
+use Rattle.table.specs.Follow.{lastOf, gather}
+use Rattle.table.specs.Store.{storeDisplaced, storeOverflow, storeAt}
+use Rattle.table_read.specs.Spots.{blocksFrom, spotIn, Reaches}
+use Rattle.table.specs.theory.Changes.{at-over}
+use Rattle.table_read.specs.theory.Reads.{link-lt}
+use Rattle.table_read.specs.theory.Walks.{Chain, ends, more}
+use Rattle.table_read.specs.theory.Spots.{chained, one-more, last-one}
+use Rattle.table_read.specs.declared.lists.Spot.{Spot}
+use Rattle.table_store.specs.Stores.{Poked, Stored, linkPut, slotPut}
+use Rattle.table_store.specs.Places.{storeSpot, storeFrom}
+use Rattle.table_store.specs.theory.StoreLaws.{stored-then, stored-as, stored-link, stored-overflow-slot, poked-head, stored-poked}
+
+module _ (g : Layout) (os : List Overflow) (sized : (j : ℕ) → j < g .nob → length (overflowAt os j .slots) ≡ g .sio) where
+  -- what is known of place q of the blocks, and what a slot stored there does
+  pub record Spotted (bs : List ℕ) (q : ℕ) : Type 0 where
+    pub low : spotIn g bs q .block .0 < g .nob
+    pub few : spotIn g bs q .slot .0 < g .sio
+    pub stored : (x : ℕ) → storeOverflow g os bs q x
+        ≡ set os (spotIn g bs q .block .0) (withSlot (spotIn g bs q .slot .0) x (overflowAt os (spotIn g bs q .block .0)))
+
+  spotted-here : {b : ℕ} (cs : List ℕ) (q : ℕ) → b < g .nob → q < g .sio → Spotted (b ∷ cs) q
+  unfolding storeOverflow
+  spotted-here {b} cs q h l =
+      record { low = rw (lt-ltb q (g .sio) l) h; few = rw (lt-ltb q (g .sio) l) l; stored = λ x. rw (lt-ltb q (g .sio) l) }
+
+  spotted-on : {b : ℕ} (cs : List ℕ) (q : ℕ) → g .sio ≤ q → Spotted cs (q - g .sio) → Spotted (b ∷ cs) q
+  unfolding storeOverflow
+  spotted-on cs q l s =
+      record {
+        low = rw (le-ltb q (g .sio) l) (s .low);
+        few = rw (le-ltb q (g .sio) l) (s .few);
+        stored = λ x. rw (le-ltb q (g .sio) l) (s .stored x);
+      }
+
+  pub spotted : {b : ℕ} {cs : List ℕ} → Chain g os b cs → (q : ℕ) → q < length (gather g os (b ∷ cs)) → Spotted (b ∷ cs) q
+  spotted (ends {b} h l) q m = spotted-here [] q h (last-one g os sized h m)
+  spotted (more {b} {cs} h e c) q m = pick (decLe (g .sio) q) (λ l. spotted c (q - g .sio) (one-more g os sized (gather g os (overflowAt os b .link ∷ cs)) h l m))
+    where
+      pick : Dec (g .sio ≤ q) → (g .sio ≤ q → Spotted (overflowAt os b .link ∷ cs) (q - g .sio)) → Spotted (b ∷ overflowAt os b .link ∷ cs) q
+      pick (no l) f = spotted-here (overflowAt os b .link ∷ cs) q h (omega arith)
+      pick (yes l) f = spotted-on (overflowAt os b .link ∷ cs) q l (f l)
+
+  pub spotted-at : (b q : ℕ) → Reaches g os b q → Spotted (blocksFrom g os b) q
+  spotted-at b q r =
+      let c = chained g os b (r .ends) in
+      rw (c .are) (spotted (c .chain) q (rw (c .are) at (r .within)))
+
+-- ---- a slot stored in a place
+
+module _ (g : Layout) (st : State) (i : ℕ) where
+  module _ (l p : ℕ) where
+    pub store-low : (h x : ℕ) → p < g .sib → storeDisplaced g i l p x st ≡ storeFrom g i h l p x st
+    unfolding storeFrom
+    store-low h x k = rw (lt-ltb p (g .sib) k)
+
+    pub store-high : (h x : ℕ) → g .sib ≤ p → storeSpot (spotIn g (blocksFrom g (st .overflow) h) (p - g .sib)) x st ≡ storeFrom g i h l p x st
+    unfolding storeFrom
+    store-high h x k = rw (le-ltb p (g .sib) k)
+
+  -- storeAt, where the blocks are h and then cs
+  pub store-is : ((j : ℕ) → j < g .nob → length (overflowAt (st .overflow) j .slots) ≡ g .sio) → {h : ℕ} {cs : List ℕ} → Chain g (st .overflow) h cs
+      → blocksFrom g (st .overflow) h ≡ h ∷ cs → (p x : ℕ) → (g .sib ≤ p → p - g .sib < length (gather g (st .overflow) (h ∷ cs)))
+      → storeAt g st i (h ∷ cs) p x ≡ storeFrom g i h (lastOf h cs) p x st
+  unfolding storeAt storeFrom
+  store-is sized {h} {cs} c e p x k = pick (decLe (g .sib) p)
+    where
+      pick : Dec (g .sib ≤ p) → storeAt g st i (h ∷ cs) p x ≡ storeFrom g i h (lastOf h cs) p x st
+      pick (no l) = let m : p < g .sib = omega arith in rw (lt-ltb p (g .sib) m)
+      pick (yes l) =
+          rw (le-ltb p (g .sib) l, e)
+          (ap (λ (os : List Overflow). mkState (st .free) (st .basic) os) (spotted g (st .overflow) sized c (p - g .sib) (k l) .stored x))
+
+  -- a slot stored keeps counters, and the free start
+  counter-kept : (j : ℕ) (o : Overflow) → o .counter ≡ overflowAt (st .overflow) j .counter → (l : ℕ)
+      → overflowAt (set (st .overflow) j o) l .counter ≡ overflowAt (st .overflow) l .counter
+  counter-kept j o e l = pick (ℕ-discrete l j) (decLe (length (st .overflow)) j)
+    where
+      pick : Dec (l ≡ j) → Dec (length (st .overflow) ≤ j) → overflowAt (set (st .overflow) j o) l .counter ≡ overflowAt (st .overflow) l .counter
+      pick (no n) d = ap (λ (x : Overflow). x .counter) (getD-set-other (st .overflow) j l o absentBlock n)
+      pick (yes q) (yes d) = ap (λ (xs : List Overflow). overflowAt xs l .counter) (set-out (st .overflow) j o d)
+      pick (yes q) (no d) =
+          rw q (ap (λ (x : Overflow). x .counter) (getD-set-same (st .overflow) j o absentBlock (omega arith)) ∙ e)
+
+  pub record Kept (u : State) : Type 0 where
+    pub free : u .free ≡ st .free
+    pub counters : (l : ℕ) → overflowAt (u .overflow) l .counter ≡ overflowAt (st .overflow) l .counter
+
+  pub store-keeps : (h l p x : ℕ) → Kept (storeFrom g i h l p x st)
+  unfolding storeFrom
+  store-keeps h l p x =
+      cases (ltb p (g .sib))
+      (λ q. rw q (record { free = refl; counters = counter-kept l _ refl }))
+      (λ q. rw q (record { free = refl; counters = counter-kept (spotIn g (blocksFrom g (st .overflow) h) (p - g .sib) .block .0) _ refl }))
+
+-- ---- stores
+
+-- a link that stands there already
+link-own : (g : Layout) (t : List ℕ) → Table g t → (j : ℕ) → j < g .nob → linkPut g t j (overflowAt (decode g t .overflow) j .link) ≡ t
+unfolding linkPut readOverflow
+link-own g t T j h =
+    ap (λ (o : Overflow). putField t (linkAt g j) (g .link) (o .link)) (at-over g (T .proper) t j h) ∙ put-own t (linkAt g j) (g .link)
+
+module _ (g : Layout) (t : List ℕ) (T : Table g t) where
+  -- a slot under the displaced bits, which count as the last block's link, v
+  module _ (i l p v x base at : ℕ) (hi : i < g .lists) (hl : l < g .nob) (hp : p < g .sib) (hx : x < 2 ^ g .slot) (ev : v ≡ overflowAt (decode g t .overflow) l .link)
+      (eb : base ≡ basicSlots g i) (ea : at ≡ basicSlot g i p) (a : List ℕ) (r : ℕ) (P : Poked g t a base v at x r) where
+    hv : v < 2 ^ g .link
+    hv = rw ev (link-lt g t T l hl)
+
+    Q : Poked g t a (basicSlots g i) v (basicSlot g i p) x r
+    Q = subst (λ (n : ℕ). Poked g t a n v (basicSlot g i p) x r) eb (subst (λ (n : ℕ). Poked g t a base v n x r) ea P)
+
+    under : Stored g t a (overBasic i (λ b. withRest (restOf g (set (unpack g v (b .rest)) p x)) b) (decode g t))
+    under = stored-poked g t T i hi p v x hp hv hx a r Q
+
+    pub stored-displaced : (u : List ℕ) → u ≡ linkPut g a l r → Stored g t u (storeDisplaced g i l p x (decode g t))
+    stored-displaced u eu =
+        let hr : r < 2 ^ g .link = rw (Q .head) (field-lt _ (basicSlots g i) (g .link)) in
+        let st = decode g t in
+        let es : ℕ → List ℕ = λ n. set (unpack g n (basicAt (st .basic) i .rest)) p x in
+        stored-as (storeDisplaced g i l p x st)
+        (stored-then (overOverflow l (withLink r)) under (stored-link g a (under .table) l hl u r hr eu))
+        (ap (λ (n : ℕ). overOverflow l (withLink n) (overBasic i (withRest (restOf g (es v))) st)) (poked-head g t T i hi p v x hp hv hx a r Q)
+        ∙ ap (λ (n : ℕ). overOverflow l (withLink (headOf g (es n))) (overBasic i (withRest (restOf g (es n))) st)) ev)
+
+    -- these bits are as before, and so is the link
+    pub stored-displaced-same : r ≡ v → Stored g t a (storeDisplaced g i l p x (decode g t))
+    stored-displaced-same e =
+        stored-displaced a
+        (sym
+        (ap (linkPut g a l) (e ∙ ev ∙ sym (ap (λ (st : State). overflowAt (st .overflow) l .link) (under .state)))
+        ∙ link-own g a (under .table) l hl))
+
+  pub stored-spot : (s : Spot) (x at : ℕ) → s .block .0 < g .nob → s .slot .0 < g .sio → x < 2 ^ g .slot → at ≡ overflowSlot g (s .block .0) (s .slot .0) → (u : List ℕ) → u ≡ slotPut g t at x
+      → Stored g t u (storeSpot s x (decode g t))
+  stored-spot s x at hb hs hx ea u eu =
+      stored-overflow-slot g t T (s .block .0) hb (s .slot .0) x hs hx u (eu ∙ ap (λ (n : ℕ). slotPut g t n x) ea)
