@@ -1,5 +1,5 @@
 -- What the functions below delete are asked and answer. Only their contracts cite these; the call's own cites `Call`.
-use Prim.Native.Nat.{ℕ, _+_, _<_, _≤_}
+use Prim.Native.Nat.{ℕ, _<_}
 use mathlib.Core.Path.{_≡_}
 use mathlib.Core.Bool.{Bool, false, cond}
 use mathlib.Core.List.{List, [], _∷_}
@@ -14,11 +14,6 @@ use Rattle.table.specs.Done.{Done, damage, done}
 use Rattle.table_delete.specs.declared.shrink.End.{End}
 use Rattle.table_store.specs.Stores.{Stored}
 use Rattle.table.specs.declared.step.Before.{Before}
-
--- a slot at bit `from`, behind the basic blocks
-pub record Movable (g : Layout) (from : ℕ) : Type 0 where
-  pub behind : g .overflow .start ≤ from
-  pub ends : from + g .slot ≤ g .bits
 
 -- block l, and what stands before it
 abbrev pub end : ℕ → Before → End

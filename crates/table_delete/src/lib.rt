@@ -1,5 +1,4 @@
 // Delete: a key out of its list.
-mod poke;
 mod remove;
 mod shrink;
 

@@ -1,6 +1,5 @@
 // Delete: ""none", or "gone" with the label; the list's last slot moves into the hole and the slot left
 // vacant is zeroed."
-use crate::poke::poke;
 use crate::shrink::end_of;
 use crate::shrink::shrink;
 use crate::shrink::stuck;
@@ -22,7 +21,9 @@ use table_read::places::basic_slot;
 use table_read::places::overflow_slot;
 use table_store::clear;
 use table_store::copy;
+use table_store::get_slot;
 use table_store::put_basic_counter;
+use table_store::store_at_place;
 ghost use mathlib.Core.Path.{_≡_};
 ghost use Prim.Native.Nat.{_^_, _≤_, _<_};
 ghost use Rattle.keys.specs.Key.{keyNumber};
@@ -62,15 +63,9 @@ fn remove_long(t: &mut [u8], g: Layout, i: ListNumber, p: usize) -> bool
     if stuck(t, g, n) {
         return false;
     }
-    poke(
-        t,
-        g,
-        i,
-        first,
-        last,
-        p,
-        overflow_slot(g, last, SlotNumber(n)),
-    );
+    let at = overflow_slot(g, last, SlotNumber(n));
+    let moved = get_slot(t, at, g.bie, g.val);
+    store_at_place(t, g, i, first, last, p, moved);
     shrink(t, g, i, last, before, n);
     true
 }

@@ -6,6 +6,7 @@ use Rattle.settings.specs.declared.layout.Layout.{Layout}
 use Rattle.table.specs.State.{State}
 use Rattle.table.specs.Updates.{withSlot, overOverflow}
 use Rattle.table.specs.Store.{storeDisplaced}
+use Rattle.table_read.specs.Places.{basicSlot, overflowSlot}
 use Rattle.table_read.specs.Spots.{blocksFrom, spotIn, Reaches}
 use Rattle.table_read.specs.declared.lists.Spot.{Spot}
 
@@ -18,6 +19,12 @@ module _ (g : Layout) where
   unfoldable pub storeFrom : ℕ → ℕ → ℕ → ℕ → ℕ → State → State
   storeFrom i h l p x st =
       cond (ltb p (g .sib)) (storeDisplaced g i l p x st) (storeSpot (spotIn g (blocksFrom g (st .overflow) h) (p - g .sib)) x st)
+
+  -- where place p of list i begins, whose overflow blocks go on from h
+  unfoldable pub placeFrom : ℕ → ℕ → ℕ → State → ℕ
+  placeFrom i h p st =
+      let s = spotIn g (blocksFrom g (st .overflow) h) (p - g .sib) in
+      cond (ltb p (g .sib)) (basicSlot g i p) (overflowSlot g (s .block .0) (s .slot .0))
 
   -- list i, whose overflow blocks go from h to l, has a place p
   pub record Storable (st : State) (i h l p : ℕ) : Type 0 where

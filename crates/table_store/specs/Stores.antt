@@ -38,10 +38,10 @@ module _ (g : Layout) (t : List ℕ) where
   unfoldable pub emptied : ℕ → ℕ → List ℕ
   emptied j l = putField (putField t (blockAt (g .overflow) j) (g .overflow .bits) 0) (linkAt g j) (g .link) l
 
--- u is t with the slot x stored at bit `at` where the L bits from `base` on count as h; these bits themselves stay, and r is what they would be
-pub record Poked (g : Layout) (t u : List ℕ) (base h at x r : ℕ) : Type 0 where
-  pub head : r ≡ field (slotPut g (putField t base (g .link) h) at x) base (g .link)
-  pub bytes : u ≡ putField (slotPut g (putField t base (g .link) h) at x) base (g .link) (field t base (g .link))
+-- u is t with the n bits of x stored at bit `at`, where the m bits from `base` on count as h; these bits themselves stay, and r is what they would be
+pub record StoredOver (m n : ℕ) (t u : List ℕ) (base h at x r : ℕ) : Type 0 where
+  pub head : r ≡ field (putField (putField t base m h) at n x) base m
+  pub bytes : u ≡ putField (putField (putField t base m h) at n x) base m (field t base m)
 
 -- u is the table t with the state st in it, and nothing else changed
 pub record Stored (g : Layout) (t u : List ℕ) (st : State) : Type 0 where

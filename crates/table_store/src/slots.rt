@@ -1,12 +1,43 @@
 // A slot, which may stand under displaced bits.
-use settings::Layout;
+use keys::Key;
+use table_read::slots::Slots;
 ghost use mathlib.Core.Path.{_≡_};
 ghost use Prim.Native.Nat.{_+_, _-_, _*_, _/_, _%_, _^_, _≤_, _<_};
 ghost use lib.ListN.{length};
 ghost use Rattle.bits.specs.Field.{field};
 ghost use Rattle.bits.specs.Put.{putField};
-ghost use Rattle.table.specs.Table.{Table};
-ghost use Rattle.table_store.specs.Stores.{Poked};
+ghost use Rattle.keys.specs.Key.{keyNumber};
+ghost use Rattle.table_store.specs.Stores.{StoredOver};
+
+// What a slot holds.
+pub struct Slot {
+    pub entry: Key,
+    pub label: u32,
+}
+
+// The slot at bit `at`, as it stands: its entry, of bie bits, and its label, of val bits.
+pub fn get_slot(t: &[u8], at: usize, bie: usize, val: usize) -> Slot
+    requires { ⌜ (at + (bie + val) ≤ 8 * length (now t)) × (at + (bie + val) ≤ 2 ^ 27) × (bie ≤ 128) × (val ≤ 32) ⌝ }
+    ensures { λ r. ⌜ (keyNumber (r .entry) ≡ field (now (t .entry)) at bie) × (r .label ≡ field (now (t .entry)) (at + bie) val) ⌝ }
+{
+    let label = bits::get(t, at + bie, val) as u32;
+    if bie <= 64 {
+        let low = bits::get(t, at, bie);
+        return Slot {
+            entry: Key { high: 0, low: low },
+            label: label,
+        };
+    }
+    let high = bits::get(t, at, bie - 64);
+    let low = bits::get(t, at + (bie - 64), 64);
+    Slot {
+        entry: Key {
+            high: high,
+            low: low,
+        },
+        label: label,
+    }
+}
 
 // A slot's bits above its low 64: high, and the bits of low that val label bits push out.
 fn above(high: u64, low: u64, val: usize) -> u64
@@ -70,28 +101,26 @@ pub fn copy(t: &mut [u8], from: usize, to: usize, n: usize)
     bits::put_wide(&mut t[..], to, 128, high, low);
 }
 
-// The slot at bit `from` also to bit `at`, where the L bits from `base` on count as h and themselves stay. The answer is
-// what they would be then. A slot behind them does not touch them; under them, they are put back, the slot is stored,
-// they are read again, and what stood there returns.
-pub fn poke_displaced(
+// The slot v at bit `at`, where the first `link` bits of the slots b count as `head` and themselves stay. The answer is
+// what they would be then: they are put back, the slot is stored, they are read again, and what stood there returns. A
+// label alone is a slot without an entry: bie is 0, and `at` is where it begins.
+pub fn store_over_displaced(
     t: &mut [u8],
-    g: Layout,
-    base: usize,
-    h: usize,
-    from: usize,
+    b: Slots,
     at: usize,
+    bie: usize,
+    val: usize,
+    v: Slot,
 ) -> usize
-    requires { ⌜ Table g (now t) × (h < 2 ^ g .link) × (base ≤ at) × (at + g .slot ≤ g .bits) × (base + g .link ≤ from) × (from + g .slot ≤ g .bits) ⌝ }
-    ensures { λ r. ⌜ Poked g (now (t .entry)) (now (t .exit)) base h at (field (now (t .entry)) from (g .slot)) r ⌝ }
+    requires { ⌜ (at + (bie + val) ≤ 8 * length (now t)) × (at + (bie + val) ≤ 2 ^ 27) × (bie ≤ 128) × (val ≤ 32) × (keyNumber (v .entry) < 2 ^ bie) × (v .label < 2 ^ val) ⌝ }
+    requires { ⌜ (b .start + b .link ≤ 8 * length (now t)) × (b .link ≤ 16) × (b .head < 2 ^ b .link) ⌝ }
+    ensures { λ r. ⌜ StoredOver (b .link) (bie + val) (now (t .entry)) (now (t .exit)) (b .start) (b .head) at (keyNumber (v .entry) * 2 ^ val + v .label) r ⌝ }
 {
-    if at >= base + g.link {
-        copy(t, from, at, g.slot);
-        return h;
-    }
-    let old = bits::get(t, base, g.link);
-    bits::put(t, base, g.link, h as u64);
-    copy(t, from, at, g.slot);
-    let new = bits::get(t, base, g.link);
-    bits::put(t, base, g.link, old);
+    let entry = v.entry;
+    let old = bits::get(t, b.start, b.link);
+    bits::put(t, b.start, b.link, b.head);
+    put_slot(t, at, bie, val, entry.high, entry.low, v.label);
+    let new = bits::get(t, b.start, b.link);
+    bits::put(t, b.start, b.link, old);
     new as usize
 }

@@ -26,8 +26,7 @@ use Rattle.table.specs.Rebuilt.{slotsOf}
 use Rattle.table.specs.Check.{blocksOf, basicUnused, overflowUnused, freeZero, noEntryTwice, listSound, listsSound, chainFrom, freeChain, occursInLists, chainSound, stateSound}
 use Rattle.plain_set.specs.theory.Count.{one, sum}
 use Rattle.table.specs.theory.Formed.{All, all-nil, Fits, Formed, overflow-fits}
-use Rattle.table.specs.theory.FormedCalls.{SeenFits, holds-none, holds-some}
-use Rattle.table.specs.theory.FormedCalls.{Holds as Whole, content-holds as content-formed}
+use Rattle.table.specs.theory.FormedCalls.{SeenFits, holds-none, holds-some, Holds as Whole, content-holds as content-formed}
 use Rattle.table.specs.theory.Every.{lists-at}
 use Rattle.table.specs.theory.FormedUpdates.{unpack-each}
 use Rattle.plain_set.specs.theory.Pad.{padded-id, padded-append-le, zeros-padded}

@@ -32,7 +32,6 @@ use Rattle.table.specs.Follow.{Seen, content}
 use Rattle.table.specs.Find.{isHeld, findSeen, findIn}
 use Rattle.table.specs.Add.{append, addSeen, addIn}
 use Rattle.table.specs.Done.{Done, damage, noBlock, done, Answered, unchanged, answered}
-use Rattle.table.specs.Check.{blocksOf}
 use Rattle.table.specs.theory.Written.{written-own}
 use Rattle.table.specs.declared.answers.FindAnswer.the-variants as found
 use Rattle.table.specs.declared.answers.AddAnswer.{AddAnswer}

@@ -10,17 +10,15 @@ use borrow.Author.Tests.{eqb-false, ltb-false, lt-ltb, le-ltb}
 use lib.Pow.{pow-pos}
 use Rattle.laws.specs.Cases.{cases}
 use Rattle.bits.specs.Put.{putField}
-use Rattle.settings.specs.Proper.{Proper}
 use Rattle.keys.specs.declared.BlockNumber.{BlockNumber}
 use Rattle.settings.specs.declared.layout.Layout.{Layout}
 use Rattle.table.specs.State.{Overflow, State, overflowAt, emptyBlock}
 use Rattle.table.specs.Updates.{overBasic, overOverflow, withFree, withFront, withSlot, withCounter, withBasicFront}
-use Rattle.table.specs.Decode.{basicSlots, overflowSlots, decode, blockAt}
+use Rattle.table.specs.Decode.{decode, blockAt}
 use Rattle.table.specs.Table.{Table, Within}
 use Rattle.table.specs.Follow.{lastOf, gather}
 use Rattle.table.specs.Take.{linkFree, freed}
 use Rattle.table.specs.Delete.{lastSlotOff, handedBack, shrinkAt, cannotFree, priorOf}
-use Rattle.table.specs.theory.Changes.{basic-ends, over-low}
 use Rattle.table_read.specs.Steps.{Followed}
 use Rattle.table_read.specs.Spots.{blocksFrom}
 use Rattle.table_read.specs.theory.Walks.{Chain, ends, more}
@@ -28,10 +26,9 @@ use Rattle.table_read.specs.theory.Spots.{chained, gather-some}
 use Rattle.table_store.specs.Stores.{freePut, overflowCounterPut, slotPut, Stored}
 use Rattle.table_store.specs.theory.StoreLaws.{overflow-twice, stored-then, stored-as, stored-free, stored-overflow-counter, stored-overflow-slot}
 use Rattle.table_store.specs.theory.PlaceLaws.{Kept}
-use Rattle.table_delete.specs.DeleteSteps.{Movable, end, endIn, cannotFreeAt, Shrinkable}
+use Rattle.table_delete.specs.DeleteSteps.{end, endIn, cannotFreeAt, Shrinkable}
 use Rattle.table.specs.theory.Formed.{overflows}
 use Rattle.table_read.specs.Places.{overflowSlot}
-use Rattle.table_read.specs.theory.Places.{overflow-slot-ends}
 use Rattle.table_delete.specs.declared.shrink.End.{End}
 use Rattle.table.specs.declared.step.Before.{Before}
 use Rattle.table.specs.declared.step.Before.the-variants as prior
@@ -111,16 +108,6 @@ module _ (g : Layout) (st : State) (i : ℕ) where
       record { low = s .low; few = omega (arith, k .counters l, s .few); free = free-kept u k l ∙ s .free }
 
 -- ---- stores
-
--- the basic blocks end where the overflow blocks begin
-module _ (g : Layout) (F : Proper g) where
-  pub head-before : (i : ℕ) → i < g .lists → basicSlots g i + g .link ≤ g .overflow .start
-  unfolding basicSlots
-  head-before i h = omega (arith, basic-ends g F i h, F .basic-is, F .link-fits)
-
-  pub slot-movable : (j n at : ℕ) → j < g .nob → n < g .sio → at ≡ overflowSlot g j n → Movable g at
-  unfolding overflowSlot overflowSlots
-  slot-movable j n at h l e = record { behind = omega (arith, over-low g F j, e); ends = omega (arith, overflow-slot-ends g F j h n l, e) }
 
 module _ (g : Layout) (t : List ℕ) (T : Table g t) where
   pub stored-slot-off : (j : ℕ) → j < g .nob → (n at place : ℕ) → n < g .sio → n ≡ overflowAt (decode g t .overflow) j .counter → at ≡ overflowSlot g j n → place ≡ blockAt (g .overflow) j

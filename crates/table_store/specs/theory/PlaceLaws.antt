@@ -1,7 +1,7 @@
 -- Places of a list: where they are in the blocks, and what a slot stored there does.
 use mathlib.Core.Path.{_≡_, refl, sym, ap, subst, _∙_}
 use mathlib.Core.List.{List, [], _∷_}
-use Prim.Native.Nat.{ℕ, _-_, _^_, _≤_, _<_}
+use Prim.Native.Nat.{ℕ, _+_, _-_, _^_, _≤_, _<_}
 use native.Mathlib.Omega.{arith}
 use native.Mathlib.Decide.{decLe, ℕ-discrete}
 use lib.ListN.{length, set}
@@ -9,6 +9,7 @@ use lib.Seq.{getD-set-same, getD-set-other, set-out}
 use lib.Dec.{ltb}
 use borrow.Author.Tests.{lt-ltb, le-ltb}
 use Rattle.table_read.specs.Places.{basicSlot, overflowSlot}
+use Rattle.bits.specs.Bytes.{Bytes}
 use Rattle.bits.specs.Put.{putField}
 use Rattle.bits.specs.theory.Fields.{field-lt}
 use Rattle.bits.specs.theory.Puts.{put-own}
@@ -16,19 +17,20 @@ use Rattle.laws.specs.Cases.{cases}
 use Rattle.settings.specs.declared.layout.Layout.{Layout}
 use Rattle.table.specs.State.{Overflow, State, mkState, absentBlock, basicAt, overflowAt, unpack, headOf, restOf}
 use Rattle.table.specs.Updates.{withLink, withSlot, withRest, overBasic, overOverflow}
-use Rattle.table.specs.Decode.{basicSlots, linkAt, readOverflow, decode}
+use Rattle.table.specs.Decode.{basicSlots, linkAt, overflowSlots, readOverflow, decode}
 use Rattle.table.specs.Table.{Table}
 use Rattle.table.specs.Follow.{lastOf, gather}
 use Rattle.table.specs.Store.{storeDisplaced, storeOverflow, storeAt}
 use Rattle.table_read.specs.Spots.{blocksFrom, spotIn, Reaches}
-use Rattle.table.specs.theory.Changes.{at-over}
-use Rattle.table_read.specs.theory.Reads.{link-lt}
+use Rattle.table.specs.theory.Changes.{basic-ends, over-low, at-over}
+use Rattle.table_read.specs.theory.Places.{basic-slot-ends, overflow-slot-ends}
+use Rattle.table_read.specs.theory.Reads.{link-lt, sized}
 use Rattle.table_read.specs.theory.Walks.{Chain, ends, more}
 use Rattle.table_read.specs.theory.Spots.{chained, one-more, last-one}
 use Rattle.table_read.specs.declared.lists.Spot.{Spot}
-use Rattle.table_store.specs.Stores.{Poked, Stored, linkPut, slotPut}
-use Rattle.table_store.specs.Places.{storeSpot, storeFrom}
-use Rattle.table_store.specs.theory.StoreLaws.{stored-then, stored-as, stored-link, stored-overflow-slot, poked-head, stored-poked}
+use Rattle.table_store.specs.Stores.{StoredOver, Stored, linkPut, slotPut}
+use Rattle.table_store.specs.Places.{storeSpot, storeFrom, placeFrom, Storable}
+use Rattle.table_store.specs.theory.StoreLaws.{stored-then, stored-as, stored-link, stored-overflow-slot, over-behind, over-head, over-rest}
 
 module _ (g : Layout) (os : List Overflow) (sized : (j : ℕ) → j < g .nob → length (overflowAt os j .slots) ≡ g .sio) where
   -- what is known of place q of the blocks, and what a slot stored there does
@@ -123,15 +125,15 @@ link-own g t T j h =
 module _ (g : Layout) (t : List ℕ) (T : Table g t) where
   -- a slot under the displaced bits, which count as the last block's link, v
   module _ (i l p v x base at : ℕ) (hi : i < g .lists) (hl : l < g .nob) (hp : p < g .sib) (hx : x < 2 ^ g .slot) (ev : v ≡ overflowAt (decode g t .overflow) l .link)
-      (eb : base ≡ basicSlots g i) (ea : at ≡ basicSlot g i p) (a : List ℕ) (r : ℕ) (P : Poked g t a base v at x r) where
+      (eb : base ≡ basicSlots g i) (ea : at ≡ basicSlot g i p) (a : List ℕ) (r : ℕ) (P : StoredOver (g .link) (g .slot) t a base v at x r) where
     hv : v < 2 ^ g .link
     hv = rw ev (link-lt g t T l hl)
 
-    Q : Poked g t a (basicSlots g i) v (basicSlot g i p) x r
-    Q = subst (λ (n : ℕ). Poked g t a n v (basicSlot g i p) x r) eb (subst (λ (n : ℕ). Poked g t a base v n x r) ea P)
+    Q : StoredOver (g .link) (g .slot) t a (basicSlots g i) v (basicSlot g i p) x r
+    Q = subst (λ (n : ℕ). StoredOver (g .link) (g .slot) t a n v (basicSlot g i p) x r) eb (subst (λ (n : ℕ). StoredOver (g .link) (g .slot) t a base v n x r) ea P)
 
     under : Stored g t a (overBasic i (λ b. withRest (restOf g (set (unpack g v (b .rest)) p x)) b) (decode g t))
-    under = stored-poked g t T i hi p v x hp hv hx a r Q
+    under = over-rest g t T i hi p v x hp hv hx a r Q
 
     pub stored-displaced : (u : List ℕ) → u ≡ linkPut g a l r → Stored g t u (storeDisplaced g i l p x (decode g t))
     stored-displaced u eu =
@@ -140,7 +142,7 @@ module _ (g : Layout) (t : List ℕ) (T : Table g t) where
         let es : ℕ → List ℕ = λ n. set (unpack g n (basicAt (st .basic) i .rest)) p x in
         stored-as (storeDisplaced g i l p x st)
         (stored-then (overOverflow l (withLink r)) under (stored-link g a (under .table) l hl u r hr eu))
-        (ap (λ (n : ℕ). overOverflow l (withLink n) (overBasic i (withRest (restOf g (es v))) st)) (poked-head g t T i hi p v x hp hv hx a r Q)
+        (ap (λ (n : ℕ). overOverflow l (withLink n) (overBasic i (withRest (restOf g (es v))) st)) (over-head g t T i hi p v x hp hv hx a r Q)
         ∙ ap (λ (n : ℕ). overOverflow l (withLink (headOf g (es n))) (overBasic i (withRest (restOf g (es n))) st)) ev)
 
     -- these bits are as before, and so is the link
@@ -151,7 +153,71 @@ module _ (g : Layout) (t : List ℕ) (T : Table g t) where
         (ap (linkPut g a l) (e ∙ ev ∙ sym (ap (λ (st : State). overflowAt (st .overflow) l .link) (under .state)))
         ∙ link-own g a (under .table) l hl))
 
-  pub stored-spot : (s : Spot) (x at : ℕ) → s .block .0 < g .nob → s .slot .0 < g .sio → x < 2 ^ g .slot → at ≡ overflowSlot g (s .block .0) (s .slot .0) → (u : List ℕ) → u ≡ slotPut g t at x
+  stored-spot : (s : Spot) (x at : ℕ) → s .block .0 < g .nob → s .slot .0 < g .sio → x < 2 ^ g .slot → at ≡ overflowSlot g (s .block .0) (s .slot .0) → (u : List ℕ) → u ≡ slotPut g t at x
       → Stored g t u (storeSpot s x (decode g t))
   stored-spot s x at hb hs hx ea u eu =
       stored-overflow-slot g t T (s .block .0) hb (s .slot .0) x hs hx u (eu ∙ ap (λ (n : ℕ). slotPut g t n x) ea)
+
+  -- ---- at a place that is in the list
+
+  module _ (i h l p at : ℕ) (W : Storable g (decode g t) i h l p) (ea : at ≡ placeFrom g i h p (decode g t)) where
+    abbrev spot : Spot
+    spot = spotIn g (blocksFrom g (decode g t .overflow) h) (p - g .sib)
+
+    spot-there : g .sib ≤ p → Spotted g (decode g t .overflow) (sized g t T) (blocksFrom g (decode g t .overflow) h) (p - g .sib)
+    spot-there k = spotted-at g (decode g t .overflow) (sized g t T) h (p - g .sib) (W .reaches k)
+
+    at-low : p < g .sib → at ≡ basicSlot g i p
+    unfolding placeFrom
+    at-low k = ea ∙ rw (lt-ltb p (g .sib) k)
+
+    at-high : g .sib ≤ p → at ≡ overflowSlot g (spot .block .0) (spot .slot .0)
+    unfolding placeFrom
+    at-high k = ea ∙ rw (le-ltb p (g .sib) k)
+
+    pub place-ends : at + g .slot ≤ g .bits
+    place-ends = pick (decLe (g .sib) p)
+      where
+        pick : Dec (g .sib ≤ p) → at + g .slot ≤ g .bits
+        pick (no f) = let k : p < g .sib = omega arith in omega (arith, at-low k, basic-slot-ends g (T .proper) i (W .list) p k)
+        pick (yes k) = let s = spot-there k in omega (arith, at-high k, overflow-slot-ends g (T .proper) (spot .block .0) (s .low) (spot .slot .0) (s .few))
+
+    -- the overflow blocks stand behind the basic blocks
+    under-low : at < basicSlots g i + g .link → p < g .sib
+    unfolding basicSlots overflowSlot overflowSlots
+    under-low b = pick (decLe (g .sib) p)
+      where
+        pick : Dec (g .sib ≤ p) → p < g .sib
+        pick (no f) = omega arith
+        pick (yes k) = let F = T .proper in absurd (omega (arith, at-high k, over-low g F (spot .block .0), basic-ends g F i (W .list), F .basic-is, F .link-fits))
+
+    module _ (x : ℕ) (hx : x < 2 ^ g .slot) where
+      -- behind the displaced bits it is one store
+      pub stored-plain : Bytes t → basicSlots g i + g .link ≤ at → (u : List ℕ) → u ≡ putField t at (g .slot) x → Stored g t u (storeFrom g i h l p x (decode g t))
+      unfolding slotPut
+      stored-plain y b u eu = pick (decLe (g .sib) p)
+        where
+          v : ℕ
+          v = overflowAt (decode g t .overflow) l .link
+
+          pick : Dec (g .sib ≤ p) → Stored g t u (storeFrom g i h l p x (decode g t))
+          pick (no f) =
+              let k : p < g .sib = omega arith in
+              stored-as (storeFrom g i h l p x (decode g t))
+              (stored-displaced-same i l p v x (basicSlots g i) at (W .list) (W .last) k hx refl refl (at-low k) u v
+              (over-behind (g .link) (g .slot) t u (basicSlots g i) v at x y b (omega (arith, place-ends, T .room)) (link-lt g t T l (W .last)) eu) refl)
+              (store-low g (decode g t) i l p h x k)
+          pick (yes k) =
+              let s = spot-there k in
+              stored-as (storeFrom g i h l p x (decode g t))
+              (stored-spot spot x at (s .low) (s .few) hx (at-high k) u eu)
+              (store-high g (decode g t) i l p h x k)
+
+      -- under them, what they are then goes to the link of block l
+      pub stored-under : at < basicSlots g i + g .link → (v base r : ℕ) (a u : List ℕ) → v ≡ overflowAt (decode g t .overflow) l .link → base ≡ basicSlots g i
+          → StoredOver (g .link) (g .slot) t a base v at x r → u ≡ linkPut g a l r → Stored g t u (storeFrom g i h l p x (decode g t))
+      stored-under b v base r a u ev eb P eu =
+          let k = under-low b in
+          stored-as (storeFrom g i h l p x (decode g t))
+          (stored-displaced i l p v x base at (W .list) (W .last) k hx ev eb (at-low k) a r P u eu)
+          (store-low g (decode g t) i l p h x k)

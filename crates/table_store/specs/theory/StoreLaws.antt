@@ -29,7 +29,7 @@ use Rattle.table_read.specs.Places.{basicSlot, overflowSlot}
 use Rattle.table.specs.theory.Changes.{bits-high, basic-ends, over-ends, start-low, start-high, slot-ends, slot-low, decode-free, decode-basic, decode-over, at-basic, at-over}
 use Rattle.table_read.specs.theory.Places.{basic-slot-ends}
 use Rattle.table_read.specs.theory.Reads.{unpacked-fields}
-use Rattle.table_store.specs.Stores.{Slotted, Poked, freePut, basicCounterPut, headPut, overflowCounterPut, linkPut, slotPut, Stored, emptied}
+use Rattle.table_store.specs.Stores.{Slotted, freePut, basicCounterPut, headPut, overflowCounterPut, linkPut, slotPut, Stored, emptied, StoredOver}
 use Rattle.table.specs.theory.Formed.{basics, overflows}
 use Rattle.table.specs.theory.Written.{join-fits}
 
@@ -111,31 +111,30 @@ put-back t a u at m p k n x y v b l ep en hy ev ea eu =
     ∙ ap (λ (o : ℕ). putField (putField t at m x) o k y) (sym ep)
     ∙ put-comm t at m x p k y b (omega arith) l)
 
-pub poked : (g : Layout) (t a b u : List ℕ) (base h at x old new : ℕ) → old ≡ field t base (g .link) → a ≡ putField t base (g .link) h → b ≡ slotPut g a at x
-    → new ≡ field b base (g .link) → u ≡ putField b base (g .link) old → Poked g t u base h at x new
-poked g t a b u base h at x old new eo ea eb en eu = record { head = rw (en, eb, ea); bytes = rw (eu, eb, ea, eo) }
+-- ---- a store over displaced bits
 
--- behind the displaced bits nothing of them is touched
-pub poked-behind : (g : Layout) (t u : List ℕ) (base h at x : ℕ) → Bytes t → base + g .link ≤ at → at + g .slot ≤ 8 * length t → h < 2 ^ g .link
-    → u ≡ putField t at (g .slot) x → Poked g t u base h at x h
-unfolding slotPut
-poked-behind g t u base h at x b l r hh e =
-    let m = g .link in
-    let n = g .slot in
-    let shown = putField t base (g .link) h in
-    let y = putField t at (g .slot) x in
-    let long : length y ≡ length t = put-length t at (g .slot) x in
-    let c : putField shown at (g .slot) x ≡ putField y base (g .link) h = put-comm t base (g .link) h at (g .slot) x b l r in
-    record {
-      head = sym (ap (λ (s : List ℕ). field s base (g .link)) c ∙ put-same y base (g .link) h (omega arith) hh);
-      bytes =
-          e
-          ∙ sym
-          (ap (λ (s : List ℕ). putField s base (g .link) (field t base (g .link))) c
-          ∙ put-put y base (g .link) h (field t base (g .link)) (put-bytes t at (g .slot) x b) (omega arith)
-          ∙ ap (putField y base (g .link)) (sym (put-out t at (g .slot) x base (g .link) r (inl l)))
-          ∙ put-own y base (g .link));
-    }
+module _ (m n : ℕ) (t u : List ℕ) (base h at x : ℕ) where
+  -- store by store
+  pub stored-over : (a b : List ℕ) (old new : ℕ) → old ≡ field t base m → a ≡ putField t base m h → b ≡ putField a at n x → new ≡ field b base m → u ≡ putField b base m old
+      → StoredOver m n t u base h at x new
+  stored-over a b old new eo ea eb en eu = record { head = rw (en, eb, ea); bytes = rw (eu, eb, ea, eo) }
+
+  -- behind the displaced bits nothing of them is touched
+  pub over-behind : Bytes t → base + m ≤ at → at + n ≤ 8 * length t → h < 2 ^ m → u ≡ putField t at n x → StoredOver m n t u base h at x h
+  over-behind b l r hh e =
+      let y = putField t at n x in
+      let long : length y ≡ length t = put-length t at n x in
+      let c : putField (putField t base m h) at n x ≡ putField y base m h = put-comm t base m h at n x b l r in
+      record {
+        head = sym (ap (λ (s : List ℕ). field s base m) c ∙ put-same y base m h (omega arith) hh);
+        bytes =
+            e
+            ∙ sym
+            (ap (λ (s : List ℕ). putField s base m (field t base m)) c
+            ∙ put-put y base m h (field t base m) (put-bytes t at n x b) (omega arith)
+            ∙ ap (putField y base m) (sym (put-out t at n x base m r (inl l)))
+            ∙ put-own y base m);
+      }
 
 -- ---- zeros
 
@@ -500,17 +499,18 @@ module _ (g : Layout) (t : List ℕ) (T : Table g t) (i : ℕ) (h : i < g .lists
   unfolding readBasic
   stored-head-is = sym (ap (λ (b : Basic). b .head) (at-basic g (T .proper) stored i h))
 
-  pub poked-head : (u : List ℕ) (r : ℕ) → Poked g t u (basicSlots g i) v (basicSlot g i p) x r
+  pub over-head : (u : List ℕ) (r : ℕ) → StoredOver (g .link) (g .slot) t u (basicSlots g i) v (basicSlot g i p) x r
       → r ≡ headOf g (set (unpack g v (basicAt (decode g t .basic) i .rest)) p x)
-  poked-head u r P =
+  unfolding slotPut
+  over-head u r P =
       P .head ∙ stored-head-is
       ∙ ap (λ (st : State). basicAt (st .basic) i .head) (stored-is .state)
       ∙ ap (λ (b : Basic). b .head) (getD-set-same (decode g t .basic) i (slotIn g p x (back (basicAt (decode g t .basic) i))) emptyBasic there-is)
 
-  pub stored-poked : (u : List ℕ) (r : ℕ) → Poked g t u (basicSlots g i) v (basicSlot g i p) x r
+  pub over-rest : (u : List ℕ) (r : ℕ) → StoredOver (g .link) (g .slot) t u (basicSlots g i) v (basicSlot g i p) x r
       → Stored g t u (overBasic i (λ b. withRest (restOf g (set (unpack g v (b .rest)) p x)) b) (decode g t))
-  unfolding headPut
-  stored-poked u r P =
+  unfolding headPut slotPut
+  over-rest u r P =
       let old = field t (basicSlots g i) (g .link) in
       let to : Basic → Basic = withHead old in
       stored-as (overBasic i (λ b. withRest (restOf g (set (unpack g v (b .rest)) p x)) b) (decode g t))

@@ -19,7 +19,6 @@ use Rattle.table_read.specs.Steps.{shown, First, slotsIn}
 use Rattle.table_read.specs.theory.Reads.{entry-view}
 use Rattle.table_read.specs.theory.Rows.{fewer}
 use Rattle.table_read.specs.theory.Scans.{run-row}
-use Rattle.table_read.specs.theory.Reads.{entry-view}
 use Rattle.table_check.specs.Entries.{alone, slotsAfter}
 use Rattle.table_check.proofs.Runs.{entry-is, met-before, none-before, alone-before, alone-behind, alone-yes}
 use Rattle.table_check.proofs.entries.slots_apart.Statement.{statement}

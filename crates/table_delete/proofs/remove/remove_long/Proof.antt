@@ -1,21 +1,25 @@
 -- The blocks are followed once; the last slot goes into the hole, and the list is shrunk.
-use mathlib.Core.Path.{_≡_, refl, sym, ap, subst, _∙_}
-use Prim.Native.Nat.{ℕ, _<_}
+use mathlib.Core.Path.{_≡_, sym, ap, ap₂, subst, _∙_}
+use Prim.Native.Nat.{ℕ, _+_, _*_, _^_, _<_}
 use native.Mathlib.Omega.{arith}
 use denote.Ref.{now}
 use borrow.Author.Needs.{needs}
 use Rattle.bits.specs.Field.{field}
-use Rattle.table.specs.State.{State, overflowAt}
+use Rattle.bits.specs.theory.Fields.{field-cat, field-lt}
+use Rattle.keys.specs.Key.{keyNumber}
+use Rattle.table.specs.State.{State, overflowAt, slotOf}
 use Rattle.table.specs.Decode.{decode}
 use Rattle.table.specs.Delete.{cannotFree}
+use Rattle.table.specs.theory.Changes.{bits-high}
+use Rattle.table_read.specs.theory.Places.{overflow-slot-ends}
 use Rattle.table_read.specs.theory.Reads.{sized}
 use Rattle.table_read.specs.theory.Spots.{long-ends}
+use Rattle.table_store.specs.theory.PlaceLaws.{store-keeps}
 use Rattle.table_delete.specs.DeleteSteps.{cannotFreeAt, Shrinkable}
-use Rattle.table_delete.specs.theory.DeleteLaws.{slot-movable, shrinkable-kept}
+use Rattle.table_delete.specs.theory.DeleteLaws.{shrinkable-kept}
 use Rattle.table_delete.specs.theory.RemoveLaws.{Route, route, removed-shut, removed-open}
 use Rattle.table_delete.proofs.remove.remove_long.Statement.{statement}
 use Rattle.table_delete.proofs.remove.remove_long.Tie as tie
-use Rattle.table_store.specs.theory.PlaceLaws.{store-keeps}
 
 basic-head-requires : tie.Need-basic-head-requires
 basic-head-requires c κs = search needs
@@ -64,48 +68,80 @@ returns c =
     (c .before .stuck .result) (told (c .before)) (c .if1 .taken)
 
 overflow-slot-requires : tie.Need-overflow-slot-requires
-overflow-slot-requires c κs = (c .before .before .before .before .before .before .before .before .before .before .before .before .pre .0 .proper, way (c .before .before .before .before .before .before .before) .low, slot-there (c .before .before .before .before))
+overflow-slot-requires c κs = (c .before .before .before .before .before .before .before .before .before .before .before .pre .0 .proper, way (c .before .before .before .before .before .before) .low, slot-there (c .before .before .before))
 
-poke-requires : tie.Need-poke-requires
-poke-requires c κs =
-    let s = c .before .before .before .before .before .before .before .before .before .before .before .before .before in
-    let q = c .before .before .before .before .before .before .before .before in
-    let w = way q in
-    let n = c .before .before .before .before .before in
-    (s .pre .0, record { list = s .pre .1; last = w .low; reaches = w .reaches }, slot-movable (s .args .g) (s .pre .0 .proper) (q .end-of .result .last .0) (n .overflow-counter .result) _ (w .low) (slot-there n) (c .overflow-slot .ensures))
+get-slot-requires : tie.Need-get-slot-requires
+get-slot-requires c κs =
+    let e = c .before .before in
+    let s = e .before .before .before .before .before .before .before .before .before .before .before in
+    let F = s .pre .0 .proper in
+    let l = overflow-slot-ends (s .args .g) F _ (way (e .before .before .before .before .before .before) .low) _ (slot-there (e .before .before .before)) in
+    let p = c .before .overflow-slot .ensures in
+    (omega (arith, l, p, F .slot-is, s .pre .0 .room), omega (arith, l, p, F .slot-is, bits-high (s .args .g) F), F .bie-high, F .val-high)
+
+-- what was read is the slot's bits
+abbrev value : tie.After-get-slot → ℕ
+value c = let g = c .before .before .before .before .before .before .before .before .before .before .before .before .before .before .args .g in slotOf g (keyNumber (c .get-slot .result .entry)) (c .get-slot .result .label)
+
+value-is : (c : tie.After-get-slot) → let a = c .before .before .before .before .before .before .before .before .before .before .before .before .before .before .args in
+    value c ≡ field (now (a .t)) (c .before .before .overflow-slot .result) (a .g .slot)
+value-is c =
+    let s = c .before .before .before .before .before .before .before .before .before .before .before .before .before .before in
+    let g = s .args .g in
+    let at = c .before .before .overflow-slot .result in
+    ap₂ (λ (x y : ℕ). x * 2 ^ g .val + y) (c .get-slot .ensures .0) (c .get-slot .ensures .1)
+    ∙ sym (field-cat (now (s .args .t)) at (g .bie) (g .val))
+    ∙ ap (field (now (s .args .t)) at) (sym (s .pre .0 .proper .slot-is))
+
+store-at-place-requires : tie.Need-store-at-place-requires
+store-at-place-requires c κs =
+    let v = c .before .get-slot in
+    let e = c .before .before .before .before in
+    let s = e .before .before .before .before .before .before .before .before .before .before .before in
+    let w = way (e .before .before .before .before .before .before) in (
+      s .pre .0,
+      record { list = s .pre .1; last = w .low; reaches = w .reaches },
+      record { entry-fits = rw (v .ensures .0) (field-lt _ _ _); label-fits = rw (v .ensures .1) (field-lt _ _ _) },
+    )
 
 -- a slot stored keeps the last block's counter, and the free start
 shrink-requires : tie.Need-shrink-requires
 shrink-requires c κs =
-    let s = c .before .before .before .before .before .before .before .before .before .before .before .before .before .before .before .before .before in
+    let m = c .before .before .before in
+    let v = m .before .before in
+    let e = v .before .before .before in
+    let q = e .before .before .before .before .before .before in
+    let s = q .before .before .before .before .before in
     let a = s .args in
-    let q = c .before .before .before .before .before .before .before .before .before .before .before .before in
     let w = way q in
     let l = q .end-of .result .last .0 in
     let st = decode (a .g) (now (a .t)) in
-    let e = c .before .before .before .poke .ensures in
-    let k = store-keeps (a .g) st (a .i .0) (q .before .before .basic-head .result) l (a .p) (field (now (a .t)) (c .before .before .before .before .overflow-slot .result) (a .g .slot)) in (
-      e .table,
+    let d = m .store-at-place .ensures in
+    let k = store-keeps (a .g) st (a .i .0) (q .before .before .basic-head .result) l (a .p) (value v) in (
+      d .table,
       s .pre .1,
-      subst (λ (u : State). Shrinkable (a .g) u l) (sym (e .state))
-          (shrinkable-kept (a .g) st (a .i .0) _ k l (record { low = w .low; few = w .few; free = sym (told (c .before .before .before .before .before .before .before)) ∙ c .before .before .before .before .before .before .if1 .left })),
-      c .before .before .before .before .before .before .before .before .before .overflow-counter .ensures ∙ sym (ap (λ (u : State). overflowAt (u .overflow) l .counter) (e .state) ∙ k .counters l),
+      subst (λ (u : State). Shrinkable (a .g) u l) (sym (d .state))
+          (shrinkable-kept (a .g) st (a .i .0) _ k l (record { low = w .low; few = w .few; free = sym (told (e .before)) ∙ e .if1 .left })),
+      e .before .before .before .overflow-counter .ensures ∙ sym (ap (λ (u : State). overflowAt (u .overflow) l .counter) (d .state) ∙ k .counters l),
       w .prior-low,
     )
 
 same-length-2 : tie.Need-same-length-2
-same-length-2 c = omega (arith, c .before .before .shrink .kept .0, c .before .before .before .before .before .before .poke .kept .0)
+same-length-2 c = omega (arith, c .before .before .shrink .kept .0, c .before .before .before .before .before .before .store-at-place .kept .0)
 
 returns-2 : tie.Need-returns-2
 returns-2 c =
-    let s = c .before .before .before .before .before .before .before .before .before .before .before .before .before .before .before .before .before .before .before .before in
+    let m = c .before .before .before .before .before .before in
+    let v = m .before .before in
+    let e = v .before .before .before in
+    let q = e .before .before .before .before .before .before in
+    let s = q .before .before .before .before .before in
     let a = s .args in
-    let q = c .before .before .before .before .before .before .before .before .before .before .before .before .before .before .before in
-    let n = c .before .before .before .before .before .before .before .before .before .before .before .before .overflow-counter in
-    let p = c .before .before .before .before .before .before .before .overflow-slot in
+    let n = e .before .before .before .overflow-counter in
+    let p = v .before .before .overflow-slot in
     removed-open (a .g) (now (a .t)) (s .pre .0) (a .i .0) (a .p) (s .pre .2) (sized (a .g) (now (a .t)) (s .pre .0)) (s .pre .3) (q .before .before .basic-head .result) (q .end-of .result) (way q)
-    (c .before .before .before .before .before .before .before .before .before .before .stuck .result) (told (c .before .before .before .before .before .before .before .before .before .before)) (c .before .before .before .before .before .before .before .before .before .if1 .left) (n .result) (p .result) (field (now (a .t)) (p .result) (a .g .slot))
-    (n .ensures) (p .ensures) refl _ _ (c .before .before .before .before .before .before .poke .ensures) (c .before .before .shrink .ensures)
+    (e .before .stuck .result) (told (e .before)) (e .if1 .left) (n .result) (p .result) (value v)
+    (n .ensures) (p .ensures) (value-is v) _ _ (m .store-at-place .ensures) (c .before .before .shrink .ensures)
 
 pub remove-long-spec : {M : Type 1} → statement M
 remove-long-spec =
@@ -118,7 +154,8 @@ remove-long-spec =
     same-length
     returns
     overflow-slot-requires
-    poke-requires
+    get-slot-requires
+    store-at-place-requires
     shrink-requires
     same-length-2
     returns-2)
