@@ -21,8 +21,8 @@ abbrev pub lowFirstFour : List ℕ → ℕ → ℕ
 lowFirstFour s i = getD s i 0 + getD s (i + 1) 0 * 256 + getD s (i + 2) 0 * 65536 + getD s (i + 3) 0 * 16777216
 
 -- x, with its eight bytes in the other order
-abbrev pub turned : ℕ → ℕ
-turned x =
+abbrev pub swapped : ℕ → ℕ
+swapped x =
     x % 256 * 72057594037927936
     + x / 256 % 256 * 281474976710656
     + x / 65536 % 256 * 1099511627776

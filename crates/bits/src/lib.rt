@@ -9,7 +9,7 @@ pub use number::join;
 pub use number::part_of_two;
 pub use number::pow;
 pub use word::store_four;
-pub use word::turn;
+pub use word::swap_bytes;
 ghost use mathlib.Core.Path.{_≡_};
 ghost use Prim.Native.Nat.{_+_, _*_, _/_, _^_, _≤_, _<_};
 ghost use lib.Dec.{eqb};
@@ -17,7 +17,7 @@ ghost use lib.ListN.{length, replicate};
 ghost use Rattle.bits.specs.Field.{field};
 ghost use Rattle.bits.specs.Put.{putField};
 ghost use Rattle.bits.specs.Within.{Within};
-ghost use Rattle.bits.specs.Word.{turned};
+ghost use Rattle.bits.specs.Word.{swapped};
 
 // The field of n bits from bit off on: one load of eight bytes, and a ninth byte where it goes on.
 pub fn get(s: &[u8], off: usize, n: usize) -> u64
@@ -120,10 +120,10 @@ pub fn put_wide(s: &mut [u8], off: usize, n: usize, high: u64, low: u64)
     byte::put(s, i + 16, 0, b, low % number::pow(b));
 }
 
-// Whether the eight bytes from byte i on are the number whose bytes q has in the other order: so none is turned round.
+// Whether the eight bytes from byte i on are the number whose bytes q has in the other order: so none is swapped round.
 pub fn word_is(s: &[u8], i: usize, q: u64) -> bool
     requires { ⌜ i + 8 ≤ length (now s) ⌝ }
-    ensures { λ r. ⌜ r ≡ eqb (field (now (s .entry)) (8 * i) 64) (turned q) ⌝ }
+    ensures { λ r. ⌜ r ≡ eqb (field (now (s .entry)) (8 * i) 64) (swapped q) ⌝ }
 {
     word::low_first(s, i) == q
 }
@@ -131,7 +131,7 @@ pub fn word_is(s: &[u8], i: usize, q: u64) -> bool
 // The same of four bytes.
 pub fn four_is(s: &[u8], i: usize, q: u64) -> bool
     requires { ⌜ (i + 4 ≤ length (now s)) × (q < 2 ^ 32) ⌝ }
-    ensures { λ r. ⌜ r ≡ eqb (field (now (s .entry)) (8 * i) 32) (turned (q * 2 ^ 32)) ⌝ }
+    ensures { λ r. ⌜ r ≡ eqb (field (now (s .entry)) (8 * i) 32) (swapped (q * 2 ^ 32)) ⌝ }
 {
     word::low_first_four(s, i) == q
 }

@@ -1,4 +1,4 @@
-// Words of eight bytes, the first byte highest. The bytes are taken lowest first and then turned
+// Words of eight bytes, the first byte highest. The bytes are taken lowest first and then swapped
 // round, because LLVM makes one load, or one store, and a byte swap of exactly that.
 use crate::byte::long;
 use crate::number::part;
@@ -8,7 +8,7 @@ ghost use Prim.Native.Nat.{_+_, _*_, _%_, _^_, _≤_, _<_};
 ghost use lib.ListN.{length};
 ghost use Rattle.bits.specs.Field.{field};
 ghost use Rattle.bits.specs.Put.{putField};
-ghost use Rattle.bits.specs.Word.{lowFirst, lowFirstFour, turned, setFour};
+ghost use Rattle.bits.specs.Word.{lowFirst, lowFirstFour, swapped, setFour};
 
 // The eight bytes from i on, the first one lowest.
 pub(crate) fn low_first(s: &[u8], i: usize) -> u64
@@ -34,8 +34,8 @@ pub(crate) fn low_first_four(s: &[u8], i: usize) -> u64
 }
 
 // x, with its eight bytes in the other order.
-pub fn turn(x: u64) -> u64
-    ensures { λ r. ⌜ r ≡ turned x ⌝ }
+pub fn swap_bytes(x: u64) -> u64
+    ensures { λ r. ⌜ r ≡ swapped x ⌝ }
 {
     (x % 256) * 72057594037927936
         + (x / 256 % 256) * 281474976710656
@@ -52,7 +52,7 @@ fn load(s: &[u8], i: usize) -> u64
     requires { ⌜ i + 8 ≤ length (now s) ⌝ }
     ensures { λ r. ⌜ r ≡ field (now (s .entry)) (8 * i) 64 ⌝ }
 {
-    turn(low_first(s, i))
+    swap_bytes(low_first(s, i))
 }
 
 // The lowest byte of x.
@@ -79,7 +79,7 @@ fn store(s: &mut [u8], i: usize, w: u64)
     requires { ⌜ i + 8 ≤ length (now s) ⌝ }
     ensures { λ _. ⌜ now (s .exit) ≡ putField (now (s .entry)) (8 * i) 64 w ⌝ }
 {
-    let x = turn(w);
+    let x = swap_bytes(w);
     store_four(s, i, x);
     store_four(s, i + 4, x / 4294967296);
 }

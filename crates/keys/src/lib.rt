@@ -22,7 +22,7 @@ pub struct BlockNumber(pub usize);
 
 pub struct SlotNumber(pub usize);
 
-// "free start: first free overflow block, nob if none". No block's number: it is one once nob is excluded.
+// The free start: "first free overflow block, nob if none". It is a block's number only where it is not nob.
 pub struct FreeStart(pub usize);
 
 // Where a key belongs: its list, and what a slot of the list stores of it.

@@ -24,11 +24,11 @@ use Rattle.table.specs.Add.{oneMore, extended, append}
 use Rattle.table_read.specs.Steps.{lastIn, lastFrom, Followed}
 use Rattle.table.specs.Done.{Done, done, Answered, unchanged, answered}
 use Rattle.table.specs.Store.{slotIn}
-use Rattle.table_read.specs.Spots.{hasBlock}
+use Rattle.table_read.specs.BlockSlots.{hasBlock}
 use Rattle.table_read.specs.theory.Walks.{followed, content-short, content-long}
 use Rattle.table.specs.theory.Formed.{basics, overflows}
 use Rattle.table.specs.theory.Written.{written-own}
-use Rattle.table_read.specs.theory.Spots.{has-as}
+use Rattle.table_read.specs.theory.BlockSlots.{has-as}
 use Rattle.table.specs.declared.answers.AddAnswer.{AddAnswer}
 use Rattle.table.specs.declared.answers.AddAnswer.the-variants as answer
 use Rattle.table_store.specs.Stores.{freePut, basicCounterPut, overflowCounterPut, slotPut, Stored}

@@ -17,12 +17,12 @@ use Rattle.table.specs.Follow.{Seen, seen, lastOf, gather}
 use Rattle.table.specs.Take.{occurs, nextFree, taking, taken}
 use Rattle.table.specs.Add.{extended}
 use Rattle.table_read.specs.Steps.{lastFrom}
-use Rattle.table_read.specs.Spots.{blocksFrom, spot, spotIn, Reaches}
+use Rattle.table_read.specs.BlockSlots.{blocksFrom, blockSlot, blockSlotIn, Reaches}
 use Rattle.table.specs.Done.{Done, damage, done, Answered, unchanged, answered}
 use Rattle.table_read.specs.theory.Walks.{last-low, content-short}
-use Rattle.table_read.specs.theory.Spots.{Chained, gather-some, last-spot, long-full, long-ends, long-blocks, long-length}
+use Rattle.table_read.specs.theory.BlockSlots.{Chained, gather-some, last-spot, long-full, long-ends, long-blocks, long-length}
 use Rattle.table_read.specs.theory.Reads.{unpack-length}
-use Rattle.table_read.specs.declared.lists.Spot.{Spot}
+use Rattle.table_read.specs.declared.lists.BlockSlot.{BlockSlot}
 use Rattle.table.specs.declared.answers.AddAnswer.{AddAnswer}
 use Rattle.table.specs.declared.answers.AddAnswer.the-variants as answer
 use Rattle.keys.specs.declared.BlockNumber.{BlockNumber}
@@ -187,15 +187,15 @@ module _ (g : Layout) (st : State) (i n : ℕ) (R : Readable g st i n) where
       abbrev last : ℕ
       last = lastOf (basicAt (st .basic) i .head) (blocks many .others)
 
-      spot-is : spotIn g (blocksFrom g (st .overflow) (basicAt (st .basic) i .head)) (n - g .sib - 1)
-          ≡ spot last (overflowAt (st .overflow) last .counter)
+      spot-is : blockSlotIn g (blocksFrom g (st .overflow) (basicAt (st .basic) i .head)) (n - g .sib - 1)
+          ≡ blockSlot last (overflowAt (st .overflow) last .counter)
       spot-is =
           let c = blocks many in
           let e : n - g .sib - 1 ≡ length (gather g (st .overflow) (basicAt (st .basic) i .head ∷ c .others)) - 1 = omega (arith, entries many) in
           rw (c .are, e) (last-spot g (st .overflow) sized (c .chain))
 
       -- the last entry stands in the last block, in the slot that the counter there names
-      pub ends-in : (h : ℕ) → h ≡ basicAt (st .basic) i .head → (s : Spot) → s ≡ spotIn g (blocksFrom g (st .overflow) h) (n - g .sib - 1)
+      pub ends-in : (h : ℕ) → h ≡ basicAt (st .basic) i .head → (s : BlockSlot) → s ≡ blockSlotIn g (blocksFrom g (st .overflow) h) (n - g .sib - 1)
           → EndsIn g st i h (s .block .0) × (s .slot .0 ≡ overflowAt (st .overflow) (s .block .0) .counter)
       unfolding lastFrom
       ends-in h eh s =

@@ -10,8 +10,8 @@ use table::AddAnswer;
 use table_read::blocks::basic_head;
 use table_read::blocks::free_start;
 use table_read::blocks::overflow_link;
+use table_read::lists::block_slot_of;
 use table_read::lists::list_has_block;
-use table_read::lists::spot_of;
 use table_read::places::basic_slot;
 use table_read::places::overflow_slot;
 use table_store::empty_block;
@@ -60,7 +60,7 @@ pub enum Free {
 }
 
 // "The last free block links to itself", and the free start is "nob if none".
-fn free_block(t: &[u8], g: Layout) -> Free
+fn first_free(t: &[u8], g: Layout) -> Free
     requires { ⌜ Table g (now t) ⌝ }
     ensures { λ r. ⌜ r ≡ freeOf g (decode g (now (t .entry))) ⌝ }
 {
@@ -131,7 +131,7 @@ fn append_first(t: &mut [u8], g: Layout, i: ListNumber, v: Item) -> AddAnswer
     requires { ⌜ Appendable g (now t) (i .0) v × (basicAt (decode g (now t) .basic) (i .0) .counter ≡ g .sib) ⌝ }
     ensures { λ r. ⌜ Appended g (now (t .entry)) (now (t .exit)) (i .0) v r ⌝ }
 {
-    match free_block(t, g) {
+    match first_free(t, g) {
         Free::Block { number, next } => {
             let displaced = basic_head(t, g, i);
             put_basic_front(t, g, i, g.sib + 1, number.0);
@@ -154,7 +154,7 @@ fn append_more(
     requires { ⌜ Appendable g (now t) (i .0) v × EndsIn g (decode g (now t)) (i .0) (h .0) (j .0) × (g .sio ≤ suc (overflowAt (decode g (now t) .overflow) (j .0) .counter)) ⌝ }
     ensures { λ r. ⌜ Appended g (now (t .entry)) (now (t .exit)) (i .0) v r ⌝ }
 {
-    match free_block(t, g) {
+    match first_free(t, g) {
         Free::Block { number, next } => {
             if list_has_block(t, g, h, number) {
                 return AddAnswer::Refused(Refusal::Damage);
@@ -212,6 +212,6 @@ pub(crate) fn append(t: &mut [u8], g: Layout, i: ListNumber, v: Item) -> AddAnsw
         return append_first(t, g, i, v);
     }
     let h = BlockNumber(basic_head(t, g, i));
-    let last = spot_of(t, g, h, c - g.sib - 1);
+    let last = block_slot_of(t, g, h, c - g.sib - 1);
     append_overflow(t, g, i, h, last.block, last.slot.0 + 1, v)
 }

@@ -18,7 +18,7 @@ use Rattle.table.specs.Table.{Table}
 use Rattle.table.specs.Follow.{further, stepAt}
 use Rattle.table.specs.Find.{position}
 use Rattle.table.specs.Check.{hasEntry, noEntryTwice}
-use Rattle.table_read.specs.Steps.{shown, First, Run, slotsIn, basicRun, displacedRun, lastFrom}
+use Rattle.table_read.specs.Steps.{shown, First, SlotsWithin, slotsIn, basicRun, displacedRun, lastFrom}
 use Rattle.table_read.specs.theory.Reads.{slots-length, entry-in, overflow-run-within, basic-slots-in, displaced-slots-in, overflow-slots-in, link-lt}
 use Rattle.table_read.specs.declared.slots.Slots.{Slots}
 use Rattle.table.specs.declared.step.Step.{Step}
@@ -30,7 +30,7 @@ use Rattle.table_check.proofs.Doubles.{held-position, held-left, held-r
 
 -- ---- slot j of a run
 
-module _ (g : Layout) (F : Proper g) (t : List ℕ) (b : Slots) (R : Run g t b) where
+module _ (g : Layout) (F : Proper g) (t : List ℕ) (b : Slots) (R : SlotsWithin g t b) where
   pub entry-is : (j at : ℕ) → j < b .count → at ≡ b .start + j * g .slot → field (shown t b) at (g .bie) ≡ entryOf g (getD (slotsIn g t b) j 0)
   entry-is j at h e =
       ap (λ (a : ℕ). field (shown t b) a (g .bie)) e ∙ sym (entry-in g t b F j h)
@@ -64,7 +64,7 @@ module _ (g : Layout) (xs ys : List ℕ) (j e : ℕ) (is : e ≡ entryOf g (getD
 -- ---- the blocks of a list
 
 module _ (g : Layout) (t : List ℕ) (T : Table g t) where
-  pub run-within : (b c : ℕ) → b < g .nob → Run g t (runOf g b c)
+  pub run-within : (b c : ℕ) → b < g .nob → SlotsWithin g t (runOf g b c)
   unfolding runOf
   run-within b c l = overflow-run-within g t T b (min c (g .sio)) l
 

@@ -23,11 +23,12 @@ ghost use Rattle.settings.specs.Proper.{Proper};
 ghost use Rattle.table.specs.Decode.{decode};
 ghost use Rattle.table.specs.Table.{Table};
 ghost use Rattle.table.specs.Check.{hasEntry, noEntryTwice};
-ghost use Rattle.table_read.specs.Steps.{shown, View, First, Run, slotsIn};
+ghost use Rattle.table_read.specs.Steps.{shown, View, First, SlotsWithin, slotsIn};
 ghost use Rattle.table_read.specs.Rows.{Row};
 ghost use Rattle.table_check.specs.Entries.{runOf, slotsFrom, slotsAfter, alone};
 
-// The same as `entry_at`: few entries stand among displaced bits, and the others are read where they stand.
+// The same as `entry_at`, with a way of its own for entries behind the displaced bits, as most are. It serves one loop, and
+// is inlined there.
 fn next_entry(t: &[u8], b: Slots, at: usize, n: usize) -> Key
     requires { ⌜ View (now t) b at n × (n ≤ 128) ⌝ }
     ensures { λ r. ⌜ r ≡ keyOf (field (shown (now (t .entry)) b) at n) ⌝ }
@@ -122,7 +123,7 @@ fn held_after(t: &[u8], g: Layout, way: Step, most: usize, entry: Key) -> bool
 // Whether each of the slots has an entry that stands neither in the slots before it nor in the blocks
 // that a step behind them leads to.
 pub(crate) fn slots_apart(t: &[u8], g: Layout, b: Slots, way: Step, most: usize) -> bool
-    requires { ⌜ Table g (now t) × Run g (now t) b ⌝ }
+    requires { ⌜ Table g (now t) × SlotsWithin g (now t) b ⌝ }
     ensures { λ r. ⌜ r ≡ everyBelow (b .count) (alone g (slotsIn g (now (t .entry)) b) (slotsAfter g most (decode g (now (t .entry)) .overflow) way)) ⌝ }
 {
     let mut at = b.start;

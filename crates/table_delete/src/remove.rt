@@ -1,8 +1,8 @@
 // Delete: ""none", or "gone" with the label; the list's last slot moves into the hole and the slot left
 // vacant is zeroed."
+use crate::shrink::cannot_free;
 use crate::shrink::end_of;
 use crate::shrink::shrink;
-use crate::shrink::stuck;
 use keys::BlockNumber;
 use keys::Key;
 use keys::ListNumber;
@@ -60,7 +60,7 @@ fn remove_long(t: &mut [u8], g: Layout, i: ListNumber, p: usize) -> bool
     let last = end.last;
     let before = end.before;
     let n = overflow_counter(t, g, last);
-    if stuck(t, g, n) {
+    if cannot_free(t, g, n) {
         return false;
     }
     let at = overflow_slot(g, last, SlotNumber(n));

@@ -25,7 +25,7 @@ ghost use Rattle.table.specs.Decode.{decode};
 ghost use Rattle.table.specs.Table.{Table, Within};
 ghost use Rattle.table.specs.Take.{linkFree, freed};
 ghost use Rattle.table_read.specs.Steps.{Followed};
-ghost use Rattle.table_read.specs.Spots.{blocksFrom};
+ghost use Rattle.table_read.specs.BlockSlots.{blocksFrom};
 ghost use Rattle.table.specs.Delete.{lastSlotOff, shrinkAt, cannotFree};
 ghost use Rattle.table_delete.specs.DeleteSteps.{endIn, Shrinkable};
 ghost use Rattle.table_store.specs.Stores.{Stored};
@@ -57,7 +57,7 @@ pub(crate) fn end_of(t: &[u8], g: Layout, first: BlockNumber) -> End
 }
 
 // Whether the last block, whose counter is n, would be freed and cannot: "when freeing one, free start above nob".
-pub(crate) fn stuck(t: &[u8], g: Layout, n: usize) -> bool
+pub(crate) fn cannot_free(t: &[u8], g: Layout, n: usize) -> bool
     requires { ⌜ Table g (now t) ⌝ }
     ensures { λ r. ⌜ r ≡ cannotFree g n (decode g (now (t .entry))) ⌝ }
 {
@@ -68,7 +68,7 @@ pub(crate) fn stuck(t: &[u8], g: Layout, n: usize) -> bool
 }
 
 // The last slot of block j off, whose counter is n.
-fn clip(t: &mut [u8], g: Layout, j: BlockNumber, n: usize)
+fn drop_last_slot(t: &mut [u8], g: Layout, j: BlockNumber, n: usize)
     requires { ⌜ Table g (now t) × (j .0 < g .nob) × (0 < n) × (n < g .sio) × (n ≡ overflowAt (decode g (now t) .overflow) (j .0) .counter) ⌝ }
     ensures { λ _. ⌜ Stored g (now (t .entry)) (now (t .exit)) (overOverflow (j .0) lastSlotOff (decode g (now (t .entry)))) ⌝ }
 {
@@ -93,7 +93,7 @@ fn link_free(g: Layout, f: FreeStart, j: BlockNumber) -> BlockNumber
 }
 
 // "An emptied overflow block goes to the front of the free chain."
-fn release(t: &mut [u8], g: Layout, j: BlockNumber)
+fn free_block(t: &mut [u8], g: Layout, j: BlockNumber)
     requires { ⌜ Table g (now t) × (j .0 < g .nob) × (decode g (now t) .free ≤ g .nob) ⌝ }
     ensures { λ _. ⌜ Stored g (now (t .entry)) (now (t .exit)) (freed g (j .0) (decode g (now (t .entry)))) ⌝ }
 {
@@ -116,7 +116,7 @@ pub(crate) fn shrink(
     ensures { λ _. ⌜ Stored g (now (t .entry)) (now (t .exit)) (shrinkAt g (i .0) (last .0) before (decode g (now (t .entry)))) ⌝ }
 {
     if n > 0 {
-        clip(t, g, last, n);
+        drop_last_slot(t, g, last, n);
         return;
     }
     let link = overflow_link(t, g, last);
@@ -124,5 +124,5 @@ pub(crate) fn shrink(
         Before::Basic => put_basic_front(t, g, i, g.sib, link),
         Before::Block(p) => put_overflow_front(t, g, p, g.sio - 1, link),
     }
-    release(t, g, last);
+    free_block(t, g, last);
 }

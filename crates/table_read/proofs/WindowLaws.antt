@@ -10,7 +10,7 @@ use lib.Pow.{pow-mono, high, low, mod-mod-pow}
 use lib.Pow as P
 use borrow.Author.Count.{below-more}
 use Rattle.bits.specs.Field.{field}
-use Rattle.bits.specs.Word.{turned}
+use Rattle.bits.specs.Word.{swapped}
 use Rattle.bits.specs.theory.Fields.{sub-field}
 use Rattle.bits.specs.theory.Numbers.{no-high}
 use Rattle.bits.specs.theory.Words.{turned-twice}
@@ -115,14 +115,14 @@ all-of h l n g f =
     let d : l ≡ h * 2 ^ 64 + l = omega arith in
     rw z (d ∙ sym (mod-eq-of-lt f))
 
--- ---- the low four bytes of a number, turned round
+-- ---- the low four bytes of a number, swapped round
 
 -- a byte that is left where only the low bits of w are
 low-byte : (w k i : ℕ) → w % 2 ^ (i + 8 + k) / 2 ^ k % 2 ^ 8 ≡ w / 2 ^ k % 2 ^ 8
 low-byte w k i = ap (λ (x : ℕ). x % 2 ^ 8) (P.field w (i + 8) k) ∙ mod-mod-pow (w / 2 ^ k) i 8
 
 turned-low : (w : ℕ)
-    → turned (w % 4294967296) ≡ w % 256 * 72057594037927936 + w / 256 % 256 * 281474976710656 + w / 65536 % 256 * 1099511627776 + w / 16777216 % 256 * 4294967296
+    → swapped (w % 4294967296) ≡ w % 256 * 72057594037927936 + w / 256 % 256 * 281474976710656 + w / 65536 % 256 * 1099511627776 + w / 16777216 % 256 * 4294967296
 turned-low w =
     let e4 : w % 4294967296 / 4294967296 % 256 ≡ 0 = omega arith in
     let e5 : w % 4294967296 / 1099511627776 % 256 ≡ 0 = omega arith in
@@ -134,8 +134,8 @@ high-four : (x y b0 b1 b2 b3 : ℕ) → x ≡ b0 * 72057594037927936 + b1 * 2814
     → x / 4294967296 * 4294967296 ≡ b0 * 72057594037927936 + b1 * 281474976710656 + b2 * 1099511627776 + b3 * 4294967296
 high-four x y b0 b1 b2 b3 e h = omega arith
 
-pub turned-four : (w : ℕ) → turned (turned w / 4294967296 * 2 ^ 32) ≡ w % 2 ^ 32
+pub turned-four : (w : ℕ) → swapped (swapped w / 4294967296 * 2 ^ 32) ≡ w % 2 ^ 32
 turned-four w =
     let y : ℕ = w / 4294967296 % 256 * 16777216 + w / 1099511627776 % 256 * 65536 + w / 281474976710656 % 256 * 256 + w / 72057594037927936 % 256 in
-    ap turned (high-four (turned w) y (w % 256) (w / 256 % 256) (w / 65536 % 256) (w / 16777216 % 256) (omega arith) (omega arith) ∙ sym (turned-low w))
+    ap swapped (high-four (swapped w) y (w % 256) (w / 256 % 256) (w / 65536 % 256) (w / 16777216 % 256) (omega arith) (omega arith) ∙ sym (turned-low w))
     ∙ turned-twice (w % 4294967296) (omega arith)

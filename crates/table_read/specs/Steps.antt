@@ -42,7 +42,7 @@ pub record First (t : List ℕ) (at step n q count : ℕ) (r : ℕ) : Type 0 whe
 
 module _ (g : Layout) where
   -- the slots b are within the bytes
-  pub record Run (t : List ℕ) (b : Slots) : Type 0 where
+  pub record SlotsWithin (t : List ℕ) (b : Slots) : Type 0 where
     pub ends : b .start + b .count * g .slot ≤ 8 * length t
     pub near : b .start + b .count * g .slot ≤ 2 ^ 27
     pub block : b .start + b .link ≤ 8 * length t

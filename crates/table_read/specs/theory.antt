@@ -3,6 +3,6 @@ pub mod Reads
 pub mod Rows
 pub mod Walks
 pub mod Lasts
-pub mod Spots
+pub mod BlockSlots
 pub mod Finds
 pub mod Scans

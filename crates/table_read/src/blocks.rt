@@ -116,7 +116,7 @@ pub fn overflow_link(t: &[u8], g: Layout, j: BlockNumber) -> usize
     link_of(t, g.overflow, j.0, g.link)
 }
 
-// The step of a block with this counter and link. It is told sio alone, and is part of each loop that follows a list.
+// The step of a block with these first bits. Every loop along a list takes it, and has it inlined.
 pub fn step_of(front: Front, sio: usize) -> Step
     ensures { λ r. ⌜ r ≡ stepOf sio (front .counter) (front .link) ⌝ }
 {

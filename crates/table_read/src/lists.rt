@@ -15,7 +15,7 @@ ghost use Prim.Native.Nat.{_<_, _≤_};
 ghost use Rattle.settings.specs.Proper.{Proper};
 ghost use Rattle.table.specs.Decode.{decode};
 ghost use Rattle.table.specs.Table.{Table};
-ghost use Rattle.table_read.specs.Spots.{blocksFrom, spotIn, Reaches, hasBlock};
+ghost use Rattle.table_read.specs.BlockSlots.{blocksFrom, blockSlotIn, Reaches, hasBlock};
 ghost use Rattle.table_read.specs.Steps.{lastFrom, lastAs, basicRun, displacedRun, overflowRun, Followed};
 
 // Where a list ends: in its last overflow block, or nowhere, if there is damage.
@@ -85,16 +85,16 @@ pub fn overflow_run(g: Layout, j: BlockNumber, c: usize) -> Slots
     }
 }
 
-// A place in an overflow block.
-pub struct Spot {
+// A slot of an overflow block.
+pub struct BlockSlot {
     pub block: BlockNumber,
     pub slot: SlotNumber,
 }
 
 // Place p of the overflow blocks from `first` on.
-pub fn spot_of(t: &[u8], g: Layout, first: BlockNumber, p: usize) -> Spot
+pub fn block_slot_of(t: &[u8], g: Layout, first: BlockNumber, p: usize) -> BlockSlot
     requires { ⌜ Table g (now t) × Reaches g (decode g (now t) .overflow) (first .0) p ⌝ }
-    ensures { λ r. ⌜ r ≡ spotIn g (blocksFrom g (decode g (now (t .entry)) .overflow) (first .0)) p ⌝ }
+    ensures { λ r. ⌜ r ≡ blockSlotIn g (blocksFrom g (decode g (now (t .entry)) .overflow) (first .0)) p ⌝ }
 {
     let mut b = first;
     let mut q = p;
@@ -105,7 +105,7 @@ pub fn spot_of(t: &[u8], g: Layout, first: BlockNumber, p: usize) -> Spot
         b = next;
         q -= g.sio;
     }
-    Spot {
+    BlockSlot {
         block: b,
         slot: SlotNumber(q),
     }

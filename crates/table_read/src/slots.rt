@@ -14,7 +14,7 @@ ghost use Rattle.bits.specs.Field.{field};
 ghost use Rattle.settings.specs.Proper.{Proper};
 ghost use Rattle.keys.specs.Key.{keyNumber, keyOf};
 ghost use Rattle.table.specs.State.{labelOf};
-ghost use Rattle.table_read.specs.Steps.{shown, View, First, Run, slotsIn};
+ghost use Rattle.table_read.specs.Steps.{shown, View, First, SlotsWithin, slotsIn};
 ghost use Rattle.table_read.specs.Rows.{Row};
 
 // Slots of a block: where the first begins, how many they are, and what their first `link` bits count
@@ -41,7 +41,7 @@ fn part(x: u64, k: usize, n: usize) -> u64
 }
 
 // The field of n bits from bit `at` on, where the first bits of the slots are what they count as.
-pub fn seen(t: &[u8], b: Slots, at: usize, n: usize) -> u64
+pub fn restored(t: &[u8], b: Slots, at: usize, n: usize) -> u64
     requires { ⌜ View (now t) b at n × (n ≤ 64) ⌝ }
     ensures { λ r. ⌜ r ≡ field (shown (now (t .entry)) b) at n ⌝ }
 {
@@ -63,12 +63,12 @@ fn same_entry(t: &[u8], b: Slots, at: usize, n: usize, entry: Key) -> bool
     ensures { λ r. ⌜ r ≡ eqb (field (shown (now (t .entry)) b) at n) (keyNumber entry) ⌝ }
 {
     if n <= 64 {
-        return seen(t, b, at, n) == entry.low;
+        return restored(t, b, at, n) == entry.low;
     }
-    if seen(t, b, at + (n - 64), 64) != entry.low {
+    if restored(t, b, at + (n - 64), 64) != entry.low {
         return false;
     }
-    seen(t, b, at, n - 64) == entry.high
+    restored(t, b, at, n - 64) == entry.high
 }
 
 // Whether the n bits from bit `at` on are the number high * 2^64 + low. Of more than 64 bits the low ones are compared
@@ -155,7 +155,7 @@ pub fn scan(t: &[u8], b: Slots, room: usize, slot: usize, bie: usize, entry: Key
 }
 
 // The first of the slots that holds the entry, where their first bits are what they count as.
-fn scan_seen(t: &[u8], b: Slots, slot: usize, bie: usize, entry: Key) -> SlotNumber
+fn scan_restored(t: &[u8], b: Slots, slot: usize, bie: usize, entry: Key) -> SlotNumber
     requires { ⌜ Row (now t) (b .start) slot bie (b .count) × (b .start + b .link ≤ 8 * length (now t)) × (b .link ≤ 16) × (b .head < 2 ^ b .link) × (keyNumber entry < 2 ^ bie) ⌝ }
     ensures { λ r. ⌜ First (shown (now (t .entry)) b) (b .start) slot bie (keyNumber entry) (b .count) (r .0) ⌝ }
 {
@@ -201,7 +201,7 @@ pub fn scan_displaced(
 {
     let entry = Key { high, low };
     if b.link >= bie {
-        return scan_seen(&t[..], b, slot, bie, entry);
+        return scan_restored(&t[..], b, slot, bie, entry);
     }
     if first_holds(t, b, bie, entry) {
         return SlotNumber(0);
@@ -224,12 +224,12 @@ pub fn entry_at(t: &[u8], b: Slots, at: usize, n: usize) -> Key
     if n <= 64 {
         return Key {
             high: 0,
-            low: seen(t, b, at, n),
+            low: restored(t, b, at, n),
         };
     }
     Key {
-        high: seen(t, b, at, n - 64),
-        low: seen(t, b, at + (n - 64), 64),
+        high: restored(t, b, at, n - 64),
+        low: restored(t, b, at + (n - 64), 64),
     }
 }
 
@@ -241,13 +241,13 @@ pub fn label_at(t: &[u8], b: Slots, at: usize, val: usize) -> u32
     if at >= b.start + b.link {
         return bits::get(t, at, val) as u32;
     }
-    seen(&t[..], b, at, val) as u32
+    restored(&t[..], b, at, val) as u32
 }
 
 // The label in slot j.
 pub fn label_in(t: &[u8], g: Layout, b: Slots, j: SlotNumber) -> u32
-    requires { ⌜ Proper g × Run g (now t) b × (j .0 < b .count) ⌝ }
+    requires { ⌜ Proper g × SlotsWithin g (now t) b × (j .0 < b .count) ⌝ }
     ensures { λ r. ⌜ r ≡ labelOf g (getD (slotsIn g (now (t .entry)) b) (j .0) 0) ⌝ }
 {
-    seen(t, b, b.start + j.0 * g.slot + g.bie, g.val) as u32
+    restored(t, b, b.start + j.0 * g.slot + g.bie, g.val) as u32
 }

@@ -2,7 +2,7 @@
 // not hold the number; the first slot with the same window, and those behind it, are for the caller to compare whole.
 ghost use Prim.Native.Nat.{ℕ, _+_, _*_, _/_, _%_, _^_, _≤_, _<_};
 ghost use lib.ListN.{length};
-ghost use Rattle.bits.specs.Word.{turned};
+ghost use Rattle.bits.specs.Word.{swapped};
 ghost use Rattle.table_read.specs.Rows.{Row, Unlike};
 
 // Up to so many slots are looked at without a branch on the data.
@@ -13,7 +13,7 @@ pub const FEW: usize = 10;
 // move: with few slots no branch depends on the data.
 fn first_word(t: &[u8], i: usize, step: usize, n: usize, q: u64) -> usize
     requires { ⌜ ((k : ℕ) → k < n → i + k * step + 8 ≤ length (now t)) × (i + n * step ≤ 2 ^ 28) ⌝ }
-    ensures { λ r. ⌜ Unlike (now (t .entry)) (8 * i) (8 * step) 64 (turned q) n r ⌝ }
+    ensures { λ r. ⌜ Unlike (now (t .entry)) (8 * i) (8 * step) 64 (swapped q) n r ⌝ }
 {
     let mut r = n;
     let mut j = n;
@@ -31,7 +31,7 @@ fn first_word(t: &[u8], i: usize, step: usize, n: usize, q: u64) -> usize
 // The same, for many slots: it stops at the first.
 fn next_word(t: &[u8], i: usize, step: usize, n: usize, q: u64) -> usize
     requires { ⌜ ((k : ℕ) → k < n → i + k * step + 8 ≤ length (now t)) × (i + n * step ≤ 2 ^ 28) ⌝ }
-    ensures { λ r. ⌜ Unlike (now (t .entry)) (8 * i) (8 * step) 64 (turned q) n r ⌝ }
+    ensures { λ r. ⌜ Unlike (now (t .entry)) (8 * i) (8 * step) 64 (swapped q) n r ⌝ }
 {
     let mut p = i;
     let mut j: usize = 0;
@@ -48,7 +48,7 @@ fn next_word(t: &[u8], i: usize, step: usize, n: usize, q: u64) -> usize
 // The same of four bytes.
 fn next_four(t: &[u8], i: usize, step: usize, n: usize, q: u64) -> usize
     requires { ⌜ ((k : ℕ) → k < n → i + k * step + 4 ≤ length (now t)) × (i + n * step ≤ 2 ^ 28) × (q < 2 ^ 32) ⌝ }
-    ensures { λ r. ⌜ Unlike (now (t .entry)) (8 * i) (8 * step) 32 (turned (q * 2 ^ 32)) n r ⌝ }
+    ensures { λ r. ⌜ Unlike (now (t .entry)) (8 * i) (8 * step) 32 (swapped (q * 2 ^ 32)) n r ⌝ }
 {
     let mut p = i;
     let mut j: usize = 0;
@@ -101,7 +101,7 @@ fn next_tail(t: &[u8], at: usize, step: usize, n: usize, m: usize, q: u64) -> us
 // The first slot with the eight bytes: of few slots without a branch on the data, of many by stopping there.
 fn candidate_words(t: &[u8], i: usize, step: usize, n: usize, q: u64) -> usize
     requires { ⌜ ((k : ℕ) → k < n → i + k * step + 8 ≤ length (now t)) × (i + n * step ≤ 2 ^ 28) ⌝ }
-    ensures { λ r. ⌜ Unlike (now (t .entry)) (8 * i) (8 * step) 64 (turned q) n r ⌝ }
+    ensures { λ r. ⌜ Unlike (now (t .entry)) (8 * i) (8 * step) 64 (swapped q) n r ⌝ }
 {
     if n <= FEW {
         return first_word(t, i, step, n, q);
@@ -144,11 +144,11 @@ pub fn candidate(
                 i,
                 slot / 8,
                 n,
-                bits::turn(bits::part_of_two(high, low, bie - o - 64)),
+                bits::swap_bytes(bits::part_of_two(high, low, bie - o - 64)),
             );
         }
         if o + 32 <= bie {
-            let q = bits::turn(bits::part_of_two(high, low, bie - o - 32)) / 4294967296;
+            let q = bits::swap_bytes(bits::part_of_two(high, low, bie - o - 32)) / 4294967296;
             return next_four(t, i, slot / 8, n, q);
         }
     }

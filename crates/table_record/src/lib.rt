@@ -36,7 +36,7 @@ ghost use Rattle.table.specs.Table.{Table};
 ghost use Rattle.table.specs.Follow.{content};
 ghost use Rattle.table.specs.Record.{recordIn};
 ghost use Rattle.table.specs.Calls.{recordAnswer};
-ghost use Rattle.table_read.specs.Steps.{Run, slotsIn, Followed, Overflows, gatherFrom};
+ghost use Rattle.table_read.specs.Steps.{SlotsWithin, slotsIn, Followed, Overflows, gatherFrom};
 ghost use Rattle.table_record.specs.RecordSteps.{Ready, Bounded, nthOf, nthIn};
 ghost use Rattle.table.specs.declared.answers.RecordAnswer.the-variants as answer;
 
@@ -153,7 +153,7 @@ fn nth_blocks(t: &[u8], g: Layout, first: BlockNumber, n: u64) -> Nth
 
 // Entry n of slots in a row.
 fn nth_of(t: &[u8], g: Layout, b: Slots, n: u64) -> Nth
-    requires { ⌜ Proper g × Run g (now t) b ⌝ }
+    requires { ⌜ Proper g × SlotsWithin g (now t) b ⌝ }
     ensures { λ r. ⌜ (r ≡ nthOf g (slotsIn g (now (t .entry)) b) n) × Bounded g r ⌝ }
 {
     let count = b.count as u64;
@@ -169,7 +169,7 @@ fn nth_of(t: &[u8], g: Layout, b: Slots, n: u64) -> Nth
 
 // The entry in slot j.
 fn entry_in(t: &[u8], g: Layout, b: Slots, j: SlotNumber) -> Key
-    requires { ⌜ Proper g × Run g (now t) b × (j .0 < b .count) ⌝ }
+    requires { ⌜ Proper g × SlotsWithin g (now t) b × (j .0 < b .count) ⌝ }
     ensures { λ r. ⌜ r ≡ keyOf (entryOf g (getD (slotsIn g (now (t .entry)) b) (j .0) 0)) ⌝ }
 {
     entry_at(t, b, b.start + j.0 * g.slot, g.bie)

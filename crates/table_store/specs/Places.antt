@@ -7,23 +7,23 @@ use Rattle.table.specs.State.{State}
 use Rattle.table.specs.Updates.{withSlot, overOverflow}
 use Rattle.table.specs.Store.{storeDisplaced}
 use Rattle.table_read.specs.Places.{basicSlot, overflowSlot}
-use Rattle.table_read.specs.Spots.{blocksFrom, spotIn, Reaches}
-use Rattle.table_read.specs.declared.lists.Spot.{Spot}
+use Rattle.table_read.specs.BlockSlots.{blocksFrom, blockSlotIn, Reaches}
+use Rattle.table_read.specs.declared.lists.BlockSlot.{BlockSlot}
 
 -- x in the slot s of an overflow block
-abbrev pub storeSpot : Spot → ℕ → State → State
+abbrev pub storeSpot : BlockSlot → ℕ → State → State
 storeSpot s x = overOverflow (s .block .0) (withSlot (s .slot .0) x)
 
 module _ (g : Layout) where
   -- x in place p of list i, whose overflow blocks go from h to l
   unfoldable pub storeFrom : ℕ → ℕ → ℕ → ℕ → ℕ → State → State
   storeFrom i h l p x st =
-      cond (ltb p (g .sib)) (storeDisplaced g i l p x st) (storeSpot (spotIn g (blocksFrom g (st .overflow) h) (p - g .sib)) x st)
+      cond (ltb p (g .sib)) (storeDisplaced g i l p x st) (storeSpot (blockSlotIn g (blocksFrom g (st .overflow) h) (p - g .sib)) x st)
 
   -- where place p of list i begins, whose overflow blocks go on from h
   unfoldable pub placeFrom : ℕ → ℕ → ℕ → State → ℕ
   placeFrom i h p st =
-      let s = spotIn g (blocksFrom g (st .overflow) h) (p - g .sib) in
+      let s = blockSlotIn g (blocksFrom g (st .overflow) h) (p - g .sib) in
       cond (ltb p (g .sib)) (basicSlot g i p) (overflowSlot g (s .block .0) (s .slot .0))
 
   -- list i, whose overflow blocks go from h to l, has a place p

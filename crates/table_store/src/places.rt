@@ -8,8 +8,8 @@ use keys::ListNumber;
 use keys::SlotNumber;
 use settings::Layout;
 use table_read::blocks::overflow_link;
+use table_read::lists::block_slot_of;
 use table_read::lists::displaced_run;
-use table_read::lists::spot_of;
 use table_read::places::basic_slot;
 use table_read::places::basic_slots;
 use table_read::places::overflow_slot;
@@ -30,7 +30,7 @@ fn place_at(t: &[u8], g: Layout, i: ListNumber, h: BlockNumber, l: BlockNumber, 
     if p < g.sib {
         return basic_slot(g, i, SlotNumber(p));
     }
-    let s = spot_of(t, g, h, p - g.sib);
+    let s = block_slot_of(t, g, h, p - g.sib);
     overflow_slot(g, s.block, s.slot)
 }
 

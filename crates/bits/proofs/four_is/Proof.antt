@@ -1,4 +1,4 @@
--- The bytes taken lowest first are q exactly if the field is q turned round (`four-same`, `same-four`).
+-- The bytes taken lowest first are q exactly if the field is q swapped round (`four-same`, `same-four`).
 use mathlib.Core.Path.{ap, _∙_}
 use Prim.Native.Nat.{ℕ}
 use native.Mathlib.Omega.{arith}

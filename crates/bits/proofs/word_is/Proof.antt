@@ -1,4 +1,4 @@
--- The bytes taken lowest first are q exactly if the word is q turned round (`word-same`, `same-word`).
+-- The bytes taken lowest first are q exactly if the word is q swapped round (`word-same`, `same-word`).
 use mathlib.Core.Path.{ap, _∙_}
 use Prim.Native.Nat.{ℕ}
 use native.Mathlib.Omega.{arith}

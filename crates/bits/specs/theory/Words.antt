@@ -9,7 +9,7 @@ use lib.Pow as P
 use Rattle.bits.specs.Bytes.{Bytes}
 use Rattle.bits.specs.Field.{field}
 use Rattle.bits.specs.Put.{replaced, putField}
-use Rattle.bits.specs.Word.{lowFirst, lowFirstFour, turned, setFour}
+use Rattle.bits.specs.Word.{lowFirst, lowFirstFour, swapped, setFour}
 use Rattle.bits.specs.theory.Fields.{field-zero, field-cat, field-byte}
 use Rattle.bits.specs.theory.Puts.{put-zero, put-cat, put-in, put-bytes, put-length}
 
@@ -106,8 +106,8 @@ module _ (s : List ℕ) (i : ℕ) (b : Bytes s) where
         byte-more s (8 * i) 56 (i + 7) (omega arith) (b (i + 7)),
       )
 
-  -- the bytes taken lowest first and then turned round
-  pub load-word : (x : ℕ) → x ≡ lowFirst s i → turned x ≡ field s (8 * i) 64
+  -- the bytes taken lowest first and then swapped round
+  pub load-word : (x : ℕ) → x ≡ lowFirst s i → swapped x ≡ field s (8 * i) 64
   load-word x e =
       let d =
       eight x (getD s i 0) (getD s (i + 1) 0) (getD s (i + 2) 0) (getD s (i + 3) 0) (getD s (i + 4) 0) (getD s (i + 5) 0) (getD s (i + 6) 0) (getD s (i + 7) 0)
@@ -143,8 +143,8 @@ module _ (s : List ℕ) (i : ℕ) (b : Bytes s) where
         put-zero,
       )
 
-  -- a number turned round and its bytes set lowest first
-  pub store-word : (w x : ℕ) → i + 8 ≤ length s → x ≡ turned w
+  -- a number swapped round and its bytes set lowest first
+  pub store-word : (w x : ℕ) → i + 8 ≤ length s → x ≡ swapped w
       → setFour (setFour s i x) (i + 4) (x / 4294967296) ≡ putField s (8 * i) 64 w
   store-word w x l e =
       let d =
@@ -158,17 +158,17 @@ module _ (s : List ℕ) (i : ℕ) (b : Bytes s) where
       let q7 : x / 4294967296 / 16777216 ≡ x / 72057594037927936 = omega arith in
       rw (p5, p6, p7, q5, q6, q7, d .at0, d .at1, d .at2, d .at3, d .at4, d .at5, d .at6, d .at7) (sym (put-eight w l))
 
--- ---- turned round twice
+-- ---- swapped round twice
 
 sum-of : (x x1 x2 x3 x4 x5 x6 x7 b0 b1 b2 b3 b4 b5 b6 b7 : ℕ) → x ≡ x1 * 256 + b0 → x1 ≡ x2 * 256 + b1 → x2 ≡ x3 * 256 + b2
     → x3 ≡ x4 * 256 + b3 → x4 ≡ x5 * 256 + b4 → x5 ≡ x6 * 256 + b5 → x6 ≡ x7 * 256 + b6 → x7 ≡ b7
     → b7 * 72057594037927936 + b6 * 281474976710656 + b5 * 1099511627776 + b4 * 4294967296 + b3 * 16777216 + b2 * 65536 + b1 * 256 + b0 ≡ x
 sum-of x x1 x2 x3 x4 x5 x6 x7 b0 b1 b2 b3 b4 b5 b6 b7 e0 e1 e2 e3 e4 e5 e6 e7 = omega arith
 
-turned-bytes : (x : ℕ) → Eight (turned x) (x / 72057594037927936 % 256) (x / 281474976710656 % 256) (x / 1099511627776 % 256) (x / 4294967296 % 256)
+turned-bytes : (x : ℕ) → Eight (swapped x) (x / 72057594037927936 % 256) (x / 281474976710656 % 256) (x / 1099511627776 % 256) (x / 4294967296 % 256)
     (x / 16777216 % 256) (x / 65536 % 256) (x / 256 % 256) (x % 256)
 turned-bytes x =
-    eight (turned x) (x / 72057594037927936 % 256) (x / 281474976710656 % 256) (x / 1099511627776 % 256) (x / 4294967296 % 256) (x / 16777216 % 256) (x / 65536 % 256) (x / 256 % 256) (x % 256)
+    eight (swapped x) (x / 72057594037927936 % 256) (x / 281474976710656 % 256) (x / 1099511627776 % 256) (x / 4294967296 % 256) (x / 16777216 % 256) (x / 65536 % 256) (x / 256 % 256) (x % 256)
     (omega arith) (omega arith) (omega arith) (omega arith) (omega arith) (omega arith) (omega arith) (omega arith) (omega arith)
 
 bytes-of : (x : ℕ) → x < 2 ^ 64
@@ -179,7 +179,7 @@ bytes-of x h =
     sum-of x (x / 256) (x / 65536) (x / 16777216) (x / 4294967296) (x / 1099511627776) (x / 281474976710656) (x / 72057594037927936) _ _ _ _ _ _ _ _
     (omega arith) (omega arith) (omega arith) (omega arith) (omega arith) (omega arith) (omega arith) (omega arith)
 
-pub turned-twice : (x : ℕ) → x < 2 ^ 64 → turned (turned x) ≡ x
+pub turned-twice : (x : ℕ) → x < 2 ^ 64 → swapped (swapped x) ≡ x
 turned-twice x h = let d = turned-bytes x in rw (d .at0, d .at1, d .at2, d .at3, d .at4, d .at5, d .at6, d .at7) (bytes-of x h)
 
 -- ---- bytes compared as they stand
@@ -191,13 +191,13 @@ module _ (s : List ℕ) (i : ℕ) (b : Bytes s) where
   word-low : lowFirst s i < 2 ^ 64
   word-low = omega (arith, b i, b (i + 1), b (i + 2), b (i + 3), b (i + 4), b (i + 5), b (i + 6), b (i + 7))
 
-  pub word-same : (q : ℕ) → lowFirst s i ≡ q → field s (8 * i) 64 ≡ turned q
-  word-same q e = sym (load-word s i b (lowFirst s i) refl) ∙ ap turned e
+  pub word-same : (q : ℕ) → lowFirst s i ≡ q → field s (8 * i) 64 ≡ swapped q
+  word-same q e = sym (load-word s i b (lowFirst s i) refl) ∙ ap swapped e
 
-  pub same-word : (q : ℕ) → q < 2 ^ 64 → field s (8 * i) 64 ≡ turned q → lowFirst s i ≡ q
+  pub same-word : (q : ℕ) → q < 2 ^ 64 → field s (8 * i) 64 ≡ swapped q → lowFirst s i ≡ q
   same-word q h e =
       sym (turned-twice (lowFirst s i) word-low)
-      ∙ ap turned (load-word s i b (lowFirst s i) refl ∙ e)
+      ∙ ap swapped (load-word s i b (lowFirst s i) refl ∙ e)
       ∙ turned-twice q h
 
   -- four bytes, as a number of 64 bits whose first bytes they are
@@ -212,7 +212,7 @@ module _ (s : List ℕ) (i : ℕ) (b : Bytes s) where
         byte-more s (8 * i) 24 (i + 3) (omega arith) (b (i + 3)),
       )
 
-  turned-four : turned (lowFirstFour s i * 4294967296) ≡ field s (8 * i) 32
+  turned-four : swapped (lowFirstFour s i * 4294967296) ≡ field s (8 * i) 32
   turned-four =
       let d =
       eight (lowFirstFour s i * 4294967296) 0 0 0 0 (getD s i 0) (getD s (i + 1) 0) (getD s (i + 2) 0) (getD s (i + 3) 0)
@@ -222,11 +222,11 @@ module _ (s : List ℕ) (i : ℕ) (b : Bytes s) where
   four-low : lowFirstFour s i * 4294967296 < 2 ^ 64
   four-low = omega (arith, b i, b (i + 1), b (i + 2), b (i + 3))
 
-  pub four-same : (q : ℕ) → lowFirstFour s i ≡ q → field s (8 * i) 32 ≡ turned (q * 2 ^ 32)
-  four-same q e = sym turned-four ∙ ap (λ (x : ℕ). turned (x * 4294967296)) e
+  pub four-same : (q : ℕ) → lowFirstFour s i ≡ q → field s (8 * i) 32 ≡ swapped (q * 2 ^ 32)
+  four-same q e = sym turned-four ∙ ap (λ (x : ℕ). swapped (x * 4294967296)) e
 
-  pub same-four : (q : ℕ) → q < 2 ^ 32 → field s (8 * i) 32 ≡ turned (q * 2 ^ 32) → lowFirstFour s i ≡ q
+  pub same-four : (q : ℕ) → q < 2 ^ 32 → field s (8 * i) 32 ≡ swapped (q * 2 ^ 32) → lowFirstFour s i ≡ q
   same-four q h e =
       let z : lowFirstFour s i * 4294967296 ≡ q * 4294967296 =
-      sym (turned-twice (lowFirstFour s i * 4294967296) four-low) ∙ ap turned (turned-four ∙ e) ∙ turned-twice (q * 4294967296) (four-fits q h) in
+      sym (turned-twice (lowFirstFour s i * 4294967296) four-low) ∙ ap swapped (turned-four ∙ e) ∙ turned-twice (q * 4294967296) (four-fits q h) in
       omega arith

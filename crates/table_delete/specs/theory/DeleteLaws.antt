@@ -20,9 +20,9 @@ use Rattle.table.specs.Follow.{lastOf, gather}
 use Rattle.table.specs.Take.{linkFree, freed}
 use Rattle.table.specs.Delete.{lastSlotOff, handedBack, shrinkAt, cannotFree, priorOf}
 use Rattle.table_read.specs.Steps.{Followed}
-use Rattle.table_read.specs.Spots.{blocksFrom}
+use Rattle.table_read.specs.BlockSlots.{blocksFrom}
 use Rattle.table_read.specs.theory.Walks.{Chain, ends, more}
-use Rattle.table_read.specs.theory.Spots.{chained, gather-some}
+use Rattle.table_read.specs.theory.BlockSlots.{chained, gather-some}
 use Rattle.table_store.specs.Stores.{freePut, overflowCounterPut, slotPut, Stored}
 use Rattle.table_store.specs.theory.StoreLaws.{overflow-twice, stored-then, stored-as, stored-free, stored-overflow-counter, stored-overflow-slot}
 use Rattle.table_store.specs.theory.PlaceLaws.{Kept}

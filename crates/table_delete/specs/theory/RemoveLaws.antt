@@ -32,14 +32,14 @@ use Rattle.table.specs.Find.{position, isHeld, labelAt, findSeen, findIn}
 use Rattle.table.specs.Delete.{priorOf, basicSlotOff, shrinkAt, shrink, deleteSeen, deleteIn}
 use Rattle.table.specs.Calls.{deleteAnswer, deleteBytes}
 use Rattle.table_read.specs.Steps.{shown, basicRun}
-use Rattle.table_read.specs.Spots.{blocksFrom, Reaches}
+use Rattle.table_read.specs.BlockSlots.{blocksFrom, Reaches}
 use Rattle.table.specs.Done.{Done, damage, done, Answered, unchanged, answered}
 use Rattle.table.specs.Store.{slotIn, storeAt}
 use Rattle.table.specs.theory.Arrays.{getD-tab}
 use Rattle.table.specs.theory.Changes.{at-over}
 use Rattle.table_read.specs.theory.Reads.{unpack-length, slot-in, basic-slots-in}
 use Rattle.table_read.specs.theory.Walks.{last-low, content-short}
-use Rattle.table_read.specs.theory.Spots.{Chained, last-few, gather-some, content-chained, long-full, long-ends, long-blocks, long-length}
+use Rattle.table_read.specs.theory.BlockSlots.{Chained, last-few, gather-some, content-chained, long-full, long-ends, long-blocks, long-length}
 use Rattle.table.specs.theory.Opened.{opened-illegal, opened-short, opened-on, keyed-out, keyed-on}
 use Rattle.table.specs.theory.Formed.{basics}
 use Rattle.table.specs.declared.answers.FindAnswer.the-variants as found
@@ -317,8 +317,8 @@ module _ (g : Layout) (t : List ℕ) (T : Table g t) (y : Bytes t) (i e : ℕ) w
         (stored-as (R .state) (R .stored) (ap (λ (x : Bool). cond x (R .state) (decode g t)) q))
         (F .goes ∙ ap (answered answer.Refused (decode g t) (answer.Gone l n)) (R .is ∙ ap (λ (x : Bool). cond x (done (R .state)) damage) q))
 
-    pub deleted-stuck : r ≡ false → Deleted g t u i e (answer.Refused refusal.Damage)
-    deleted-stuck q =
+    pub deleted-cannot-free : r ≡ false → Deleted g t u i e (answer.Refused refusal.Damage)
+    deleted-cannot-free q =
         deleted u (decode g t) (answer.Refused refusal.Damage)
         (stored-as (decode g t) (R .stored) (ap (λ (x : Bool). cond x (R .state) (decode g t)) q))
         (F .goes ∙ ap (answered answer.Refused (decode g t) (answer.Gone l n)) (R .is ∙ ap (λ (x : Bool). cond x (done (R .state)) damage) q))

@@ -26,6 +26,22 @@ Inv-loop t g entry k first n₀ q₀ b n q =
 abbrev μ-loop : tie.MeasureT-loop
 μ-loop t g entry k first n₀ q₀ b n q = g .nob - q
 
+-- places, each named once
+abbrev to-start : tie.At-loop Inv-loop μ-loop → tie.Start Inv-loop μ-loop
+to-start c = c .before .before
+
+abbrev to-loop : tie.Then1 Inv-loop μ-loop → tie.At-loop Inv-loop μ-loop
+to-loop c = c .before .before
+
+abbrev to-then1 : tie.After-scan Inv-loop μ-loop → tie.Then1 Inv-loop μ-loop
+to-then1 c = c .before .before .before
+
+abbrev to-then1-2 : tie.Else2 Inv-loop μ-loop → tie.Then1 Inv-loop μ-loop
+to-then1-2 c = c .before .before .before .before .before .before
+
+abbrev to-else2 : tie.After-known-told Inv-loop μ-loop → tie.Else2 Inv-loop μ-loop
+to-else2 c = c .before .before .before .before .before
+
 -- the block that a turn stands at
 here : (c : tie.At-loop Inv-loop μ-loop)
     → (let s = c .before .before .args in Turn (s .g) (decode (s .g) (now (s .t)) .overflow) (s .g .nob - c .loop .q) (c .loop .b .0))
@@ -47,18 +63,18 @@ plain c = ap (λ (r : Slots). r .link) (c .overflow-run .ensures)
 
 -- the entry's place in them
 place : (d : tie.After-scan Inv-loop μ-loop)
-    → (let s = d .before .before .before .before .before .before .before .args in
+    → (let s = (to-start (to-loop (to-then1 d))) .args in
     d .scan .result .0 ≡ position (s .g) (keyNumber (s .entry)) (slotsIn (s .g) (now (s .t)) (d .before .overflow-run .result)))
 unfolding keyNumber
 place d =
-    let s = d .before .before .before .before .before .before .before in
+    let s = to-start (to-loop (to-then1 d)) in
     plain-position (s .args .g) (s .pre .0 .proper) (now (s .args .t)) (d .before .overflow-run .result) (plain (d .before))
     (keyNumber (s .args .entry)) (d .scan .result .0) (d .scan .ensures)
 
 -- and the label of the slot found
 inside : (c : tie.Then2 Inv-loop μ-loop)
     → (let d = c .before .before .before in
-    let s = d .before .before .before .before .before .before .before .args in
+    let s = (to-start (to-loop (to-then1 d))) .args in
     let end = d .before .overflow-run .result .start + d .scan .result .0 * s .g .slot + s .g .bie + s .g .val in (end ≤ 8 * length (now (s .t))) × (end ≤ 2 ^ 27))
 inside c =
     let d = c .before .before .before in
@@ -179,7 +195,7 @@ returns-2 c =
 
 add-q : tie.Need-add-q Inv-loop μ-loop
 add-q c =
-    let m = c .before .before .before .before .before .before .before .before .before .before .before .before .before in
+    let m = to-loop (to-then1-2 (to-else2 c)) in
     omega (arith, m .loop .inv .0, m .before .before .pre .0 .proper .nob-high)
 
 loop-less : tie.Need-loop-less Inv-loop μ-loop

@@ -7,7 +7,7 @@ use lib.ListN.{length}
 use Rattle.keys.specs.Key.{keyNumber}
 use Rattle.table.specs.Decode.{decode}
 use Rattle.table.specs.Find.{position}
-use Rattle.table_read.specs.Steps.{shown, Run, slotsIn, displacedRun, lastFrom}
+use Rattle.table_read.specs.Steps.{shown, SlotsWithin, slotsIn, displacedRun, lastFrom}
 use Rattle.table_read.specs.theory.Reads.{displaced-run-within, head-lt, link-lt}
 use Rattle.table_read.specs.theory.Walks.{followed}
 use Rattle.table_read.specs.theory.Lasts.{EndsAt, ends-at, no-end}
@@ -19,6 +19,22 @@ use borrow.Author.Needs.{needs}
 use Rattle.table_find.proofs.find_long.Statement.{statement}
 use Rattle.table_find.proofs.find_long.Tie as tie
 
+-- places, each named once
+abbrev to-start : tie.After-last → tie.Start
+to-start c = c .before .before .before .before
+
+abbrev to-last : tie.After-overflow-link → tie.After-last
+to-last c = c .before .before
+
+abbrev to-overflow-link : tie.After-scan-displaced → tie.After-overflow-link
+to-overflow-link c = c .before .before
+
+abbrev to-overflow-link-2 : tie.Then1 → tie.After-overflow-link
+to-overflow-link-2 c = c .before .before .before .before .before
+
+abbrev to-overflow-link-3 : tie.Else1 → tie.After-overflow-link
+to-overflow-link-3 c = c .before .before .before .before .before
+
 -- the list's last block
 end : (c : tie.After-last) → let a = c .before .before .before .before .args in
     EndsAt (a .g) (lastFrom (a .g) (a .g .nob) (decode (a .g) (now (a .t)) .overflow) (a .first .0)) (c .last .given .0 .0)
@@ -26,7 +42,7 @@ end c = ends-at _ _ _ (sym (c .before .before .follow .ensures) ∙ c .last .giv
 
 -- the basic block's slots
 run-within : (c : tie.After-displaced-run)
-    → (let s = c .before .before .before .before .before .before .before .args in Run (s .g) (now (s .t)) (c .displaced-run .result))
+    → (let s = (to-start (to-last (c .before))) .args in SlotsWithin (s .g) (now (s .t)) (c .displaced-run .result))
 run-within c =
     let k = c .before in
     let s = k .before .before .before .before .before .before in
@@ -35,28 +51,28 @@ run-within c =
     (displaced-run-within (s .args .g) (now (s .args .t)) (s .pre .0) (s .args .i .0) _ (s .pre .1)
     (omega (arith, k .overflow-link .ensures, f, s .pre .2 .head, head-lt (s .args .g) (now (s .args .t)) (s .pre .0) (s .args .i .0) (s .pre .1))))
 
-all : (c : tie.After-displaced-run) → c .displaced-run .result .count ≡ c .before .before .before .before .before .before .before .args .g .sib
+all : (c : tie.After-displaced-run) → c .displaced-run .result .count ≡ (to-start (to-last (c .before))) .args .g .sib
 unfolding displacedRun
 all c = ap (λ (r : Slots). r .count) (c .displaced-run .ensures)
 
 -- the entry's place in them
 place : (d : tie.After-scan-displaced)
-    → (let s = d .before .before .before .before .before .before .before .before .args in
+    → (let s = (to-start (to-last (to-overflow-link d))) .args in
     d .scan-displaced .result .0 ≡ position (s .g) (keyNumber (s .entry)) (slotsIn (s .g) (now (s .t)) (d .before .displaced-run .result)))
 unfolding shown keyNumber
 place d =
-    let s = d .before .before .before .before .before .before .before .before in
+    let s = to-start (to-last (to-overflow-link d)) in
     first-position (s .args .g) (s .pre .0 .proper) (now (s .args .t)) (d .before .displaced-run .result)
     (keyNumber (s .args .entry)) (d .scan-displaced .result .0) (d .scan-displaced .ensures)
 
 -- and the label of the slot found
 inside : (c : tie.Then1)
     → (let d = c .before .before .before in
-    let s = d .before .before .before .before .before .before .before .before .args in
+    let s = (to-start (to-last (to-overflow-link d))) .args in
     let end = d .before .displaced-run .result .start + d .scan-displaced .result .0 * s .g .slot + s .g .bie + s .g .val in (end ≤ 8 * length (now (s .t))) × (end ≤ 2 ^ 27))
 inside c =
     let d = c .before .before .before in
-    let s = d .before .before .before .before .before .before .before .before in
+    let s = to-start (to-last (to-overflow-link d)) in
     label-inside (s .args .g) (s .pre .0 .proper) (now (s .args .t)) (d .before .displaced-run .result) (d .scan-displaced .result .0)
     (run-within (d .before)) (omega (arith, c .if1 .taken, all (d .before)))
 
@@ -85,7 +101,7 @@ displaced-run-requires c κs = search needs
 scan-displaced-requires : tie.Need-scan-displaced-requires
 unfolding keyNumber
 scan-displaced-requires c κs =
-    let s = c .before .before .before .before .before .before .before in
+    let s = to-start (to-last (c .before)) in
     let R = run-within c in
     ((run-row (s .args .g) (s .pre .0 .proper) (now (s .args .t)) (c .displaced-run .result) R, omega (arith, all c, s .pre .0 .proper .sib-low), s .pre .3), (R .block, R .link, R .fits))
 
@@ -102,7 +118,7 @@ label-at-requires : tie.Need-label-at-requires
 label-at-requires c κs =
     let k = c .before .before .before .before in
     let d = k .before .before .before in
-    let s = d .before .before .before .before .before .before .before .before in
+    let s = to-start (to-last (to-overflow-link d)) in
     let R = run-within (d .before) in (
       record {
         from = omega arith;
@@ -121,7 +137,7 @@ add-t19 c = search needs
 cast-t20 : tie.Need-cast-t20
 cast-t20 c =
     let k = c .before .before .before .before .before .before in
-    let s = k .before .before .before .before .before .before .before .before .before .before .before in
+    let s = to-start (to-last (to-overflow-link-2 k)) in
     omega (arith, k .if1 .taken, s .pre .0 .proper .sib-high)
 
 returns-2 : tie.Need-returns-2
@@ -141,7 +157,7 @@ returns-2 c =
 
 find-blocks-requires : tie.Need-find-blocks-requires
 find-blocks-requires c κs =
-    let e = c .before .before .before .before .before .before .before in
+    let e = to-last (to-overflow-link-3 c) in
     let s = e .before .before .before .before in (
       s .pre .0,
       followed (s .args .g) (decode (s .args .g) (now (s .args .t)) .overflow) (s .args .g .nob) (s .args .first .0) (omega (arith, end e .is, end e .low)),

@@ -20,6 +20,19 @@ use borrow.Author.Needs.{needs}
 use Rattle.table_find.proofs.find_short.Statement.{statement}
 use Rattle.table_find.proofs.find_short.Tie as tie
 
+-- places, each named once
+abbrev to-start : tie.After-basic-run → tie.Start
+to-start c = c .before .before
+
+abbrev to-basic-run : tie.After-confirm → tie.After-basic-run
+to-basic-run c = c .before .before .before .before .before
+
+abbrev to-confirm : tie.Then2 → tie.After-confirm
+to-confirm c = c .before .before
+
+abbrev to-then2 : tie.After-struct-known7 → tie.Then2
+to-then2 c = c .before .before .before .before .before
+
 -- the slots b are the first of the basic block
 module _ (s : tie.Start) (b : Slots) (is : b ≡ basicRun (s .args .g) (s .args .i .0) (s .args .count)) where
   abbrev g : Layout
@@ -108,17 +121,17 @@ confirm-requires c κs =
     )
 
 -- a slot is found among those in use, or none is
-few : (f : tie.After-confirm) → f .confirm .result .0 ≤ f .before .before .before .before .before .before .before .args .count
+few : (f : tie.After-confirm) → f .confirm .result .0 ≤ (to-start (to-basic-run f)) .args .count
 few f =
     let d = f .before .before .before .before .before in
     omega (arith, f .confirm .ensures .high, all (d .before .before) (d .basic-run .result) (d .basic-run .ensures))
 
 label-in : (c : tie.Then2)
-    → let d = c .before .before .before .before .before .before .before in
+    → let d = to-basic-run (to-confirm c) in
     let a = d .before .before .args in
     let end = d .basic-run .result .start + c .before .before .confirm .result .0 * a .g .slot + a .g .bie + a .g .val in (end ≤ 8 * length (now (a .t))) × (end ≤ 2 ^ 27)
 label-in c =
-    let d = c .before .before .before .before .before .before .before in
+    let d = to-basic-run (to-confirm c) in
     let s = d .before .before in
     inside s (d .basic-run .result) (d .basic-run .ensures) (c .before .before .confirm .result .0) (omega (arith, c .if2 .taken, few (c .before .before), all s (d .basic-run .result) (d .basic-run .ensures)))
 
@@ -133,21 +146,21 @@ add-held-2 c = omega (arith, label-in (c .before .before .before .before))
 
 add-held-3 : tie.Need-add-held-3
 add-held-3 c =
-    let f = c .before .before .before .before .before .before .before in
-    let s = f .before .before .before .before .before .before .before in
+    let f = to-confirm (to-then2 c) in
+    let s = to-start (to-basic-run f) in
     omega (arith, few f, s .pre .2, s .pre .0 .proper .sib-high)
 
 held-requires : tie.Need-held-requires
 held-requires c κs =
     let k = c .before .before .before .before .before in
-    let d = k .before .before .before .before .before .before .before in
+    let d = to-basic-run (to-confirm k) in
     let s = d .before .before in
     (label-in k .0, s .pre .0 .proper .val-high, omega (arith, few (k .before .before), s .pre .2, s .pre .0 .proper .sib-high))
 
 returns-2 : tie.Need-returns-2
 returns-2 c =
     let k = c .before .before .before .before .before .before in
-    let d = k .before .before .before .before .before .before .before in
+    let d = to-basic-run (to-confirm k) in
     let s = d .before .before in
     let g = s .args .g in
     let t = now (s .args .t) in
@@ -163,7 +176,7 @@ returns-2 c =
 cast-t21 : tie.Need-cast-t21
 cast-t21 c =
     let f = c .before .before .before in
-    let s = f .before .before .before .before .before .before .before in
+    let s = to-start (to-basic-run f) in
     omega (arith, few f, s .pre .2, s .pre .0 .proper .sib-high)
 
 returns-3 : tie.Need-returns-3

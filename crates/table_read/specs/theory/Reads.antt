@@ -24,7 +24,7 @@ use Rattle.table.specs.Arrays.{tabulate, unpacked}
 use Rattle.table.specs.State.{Basic, Overflow, basicAt, overflowAt, restBits, unpack, ownSlots, entryOf, labelOf}
 use Rattle.table.specs.Decode.{basicSlots, linkAt, overflowSlots, readBasic, readOverflow, decode}
 use Rattle.table.specs.Table.{Table}
-use Rattle.table_read.specs.Steps.{shown, View, Run, slotsIn, basicRun, displacedRun, overflowRun}
+use Rattle.table_read.specs.Steps.{shown, View, SlotsWithin, slotsIn, basicRun, displacedRun, overflowRun}
 use Rattle.table.specs.theory.Arrays.{length-tab, getD-tab, tab-ext}
 use Rattle.table.specs.theory.Changes.{basic-ends, over-ends, start-high, bits-high, at-basic, at-over}
 use Rattle.table_read.specs.declared.slots.Slots.{Slots}
@@ -126,7 +126,7 @@ module _ (g : Layout) (t : List ℕ) (b : Slots) where
   slot-inside k h = omega (arith, mul-le-mul-right (g .slot) h)
 
   -- the entry of slot k is within the slots
-  pub entry-view : Proper g → Run g t b → (k at : ℕ) → k < b .count → at ≡ b .start + k * g .slot → View t b at (g .bie)
+  pub entry-view : Proper g → SlotsWithin g t b → (k at : ℕ) → k < b .count → at ≡ b .start + k * g .slot → View t b at (g .bie)
   entry-view F R k at h e =
       let r = slot-inside k h in
       record {
@@ -192,7 +192,7 @@ module _ (g : Layout) (t : List ℕ) (T : Table g t) where
   unfolding overflowSlots
   overflow-room j h = omega (arith, over-ends g (T .proper) j h, T .proper .overflow-is)
 
-  pub basic-run-within : (i n : ℕ) → i < g .lists → n ≤ g .sib → Run g t (basicRun g i n)
+  pub basic-run-within : (i n : ℕ) → i < g .lists → n ≤ g .sib → SlotsWithin g t (basicRun g i n)
   unfolding basicRun
   basic-run-within i n l k =
       let F = T .proper in
@@ -208,7 +208,7 @@ module _ (g : Layout) (t : List ℕ) (T : Table g t) where
         few = omega (arith, F .sib-high);
       }
 
-  pub displaced-run-within : (i h : ℕ) → i < g .lists → h < 2 ^ g .link → Run g t (displacedRun g i h)
+  pub displaced-run-within : (i h : ℕ) → i < g .lists → h < 2 ^ g .link → SlotsWithin g t (displacedRun g i h)
   unfolding displacedRun
   displaced-run-within i h l f =
       let F = T .proper in
@@ -223,7 +223,7 @@ module _ (g : Layout) (t : List ℕ) (T : Table g t) where
         few = F .sib-high;
       }
 
-  pub overflow-run-within : (j c : ℕ) → j < g .nob → Run g t (overflowRun g j c)
+  pub overflow-run-within : (j c : ℕ) → j < g .nob → SlotsWithin g t (overflowRun g j c)
   unfolding overflowRun
   overflow-run-within j c l =
       let F = T .proper in

@@ -15,7 +15,7 @@ use Rattle.table.specs.State.{labelOf}
 use Rattle.table.specs.Decode.{basicSlots, overflowSlots}
 use Rattle.table.specs.Table.{Table}
 use Rattle.table.specs.Find.{position}
-use Rattle.table_read.specs.Steps.{shown, First, Run, slotsIn, basicRun, overflowRun}
+use Rattle.table_read.specs.Steps.{shown, First, SlotsWithin, slotsIn, basicRun, overflowRun}
 use Rattle.table_read.specs.Rows.{Row}
 use Rattle.table_read.specs.theory.Reads.{slots-length, entry-in, label-in, slot-inside, basic-run-within, overflow-run-within}
 use Rattle.table_read.specs.theory.Finds.{position-is}
@@ -28,7 +28,7 @@ unfolding shown
 shown-plain t b z = ap (λ (n : ℕ). putField t (b .start) n (b .head)) z ∙ put-zero t (b .start) (b .head)
 
 module _ (g : Layout) (F : Proper g) (t : List ℕ) (b : Slots) where
-  pub run-row : Run g t b → Row t (b .start) (g .slot) (g .bie) (b .count)
+  pub run-row : SlotsWithin g t b → Row t (b .start) (g .slot) (g .bie) (b .count)
   run-row R =
       let w = F .slot-is in
       record {
@@ -41,7 +41,7 @@ module _ (g : Layout) (F : Proper g) (t : List ℕ) (b : Slots) where
         slim = omega (arith, F .bie-high, F .val-high);
       }
 
-  pub label-inside : (k : ℕ) → Run g t b → k < b .count → (b .start + k * g .slot + g .bie + g .val ≤ 8 * length t) × (b .start + k * g .slot + g .bie + g .val ≤ 2 ^ 27)
+  pub label-inside : (k : ℕ) → SlotsWithin g t b → k < b .count → (b .start + k * g .slot + g .bie + g .val ≤ 8 * length t) × (b .start + k * g .slot + g .bie + g .val ≤ 2 ^ 27)
   label-inside k R h =
       let i = slot-inside g t b k h in
       let w = F .slot-is in

@@ -21,13 +21,13 @@ use Rattle.table.specs.Decode.{basicSlots, linkAt, overflowSlots, readOverflow,
 use Rattle.table.specs.Table.{Table}
 use Rattle.table.specs.Follow.{lastOf, gather}
 use Rattle.table.specs.Store.{storeDisplaced, storeOverflow, storeAt}
-use Rattle.table_read.specs.Spots.{blocksFrom, spotIn, Reaches}
+use Rattle.table_read.specs.BlockSlots.{blocksFrom, blockSlotIn, Reaches}
 use Rattle.table.specs.theory.Changes.{basic-ends, over-low, at-over}
 use Rattle.table_read.specs.theory.Places.{basic-slot-ends, overflow-slot-ends}
 use Rattle.table_read.specs.theory.Reads.{link-lt, sized}
 use Rattle.table_read.specs.theory.Walks.{Chain, ends, more}
-use Rattle.table_read.specs.theory.Spots.{chained, one-more, last-one}
-use Rattle.table_read.specs.declared.lists.Spot.{Spot}
+use Rattle.table_read.specs.theory.BlockSlots.{chained, one-more, last-one}
+use Rattle.table_read.specs.declared.lists.BlockSlot.{BlockSlot}
 use Rattle.table_store.specs.Stores.{StoredOver, Stored, linkPut, slotPut}
 use Rattle.table_store.specs.Places.{storeSpot, storeFrom, placeFrom, Storable}
 use Rattle.table_store.specs.theory.StoreLaws.{stored-then, stored-as, stored-link, stored-overflow-slot, over-behind, over-head, over-rest}
@@ -35,10 +35,10 @@ use Rattle.table_store.specs.theory.StoreLaws.{stored-then, stored-as, s
 module _ (g : Layout) (os : List Overflow) (sized : (j : ℕ) → j < g .nob → length (overflowAt os j .slots) ≡ g .sio) where
   -- what is known of place q of the blocks, and what a slot stored there does
   pub record Spotted (bs : List ℕ) (q : ℕ) : Type 0 where
-    pub low : spotIn g bs q .block .0 < g .nob
-    pub few : spotIn g bs q .slot .0 < g .sio
+    pub low : blockSlotIn g bs q .block .0 < g .nob
+    pub few : blockSlotIn g bs q .slot .0 < g .sio
     pub stored : (x : ℕ) → storeOverflow g os bs q x
-        ≡ set os (spotIn g bs q .block .0) (withSlot (spotIn g bs q .slot .0) x (overflowAt os (spotIn g bs q .block .0)))
+        ≡ set os (blockSlotIn g bs q .block .0) (withSlot (blockSlotIn g bs q .slot .0) x (overflowAt os (blockSlotIn g bs q .block .0)))
 
   spotted-here : {b : ℕ} (cs : List ℕ) (q : ℕ) → b < g .nob → q < g .sio → Spotted (b ∷ cs) q
   unfolding storeOverflow
@@ -75,7 +75,7 @@ module _ (g : Layout) (st : State) (i : ℕ) where
     unfolding storeFrom
     store-low h x k = rw (lt-ltb p (g .sib) k)
 
-    pub store-high : (h x : ℕ) → g .sib ≤ p → storeSpot (spotIn g (blocksFrom g (st .overflow) h) (p - g .sib)) x st ≡ storeFrom g i h l p x st
+    pub store-high : (h x : ℕ) → g .sib ≤ p → storeSpot (blockSlotIn g (blocksFrom g (st .overflow) h) (p - g .sib)) x st ≡ storeFrom g i h l p x st
     unfolding storeFrom
     store-high h x k = rw (le-ltb p (g .sib) k)
 
@@ -112,7 +112,7 @@ module _ (g : Layout) (st : State) (i : ℕ) where
   store-keeps h l p x =
       cases (ltb p (g .sib))
       (λ q. rw q (record { free = refl; counters = counter-kept l _ refl }))
-      (λ q. rw q (record { free = refl; counters = counter-kept (spotIn g (blocksFrom g (st .overflow) h) (p - g .sib) .block .0) _ refl }))
+      (λ q. rw q (record { free = refl; counters = counter-kept (blockSlotIn g (blocksFrom g (st .overflow) h) (p - g .sib) .block .0) _ refl }))
 
 -- ---- stores
 
@@ -153,7 +153,7 @@ module _ (g : Layout) (t : List ℕ) (T : Table g t) where
         (ap (linkPut g a l) (e ∙ ev ∙ sym (ap (λ (st : State). overflowAt (st .overflow) l .link) (under .state)))
         ∙ link-own g a (under .table) l hl))
 
-  stored-spot : (s : Spot) (x at : ℕ) → s .block .0 < g .nob → s .slot .0 < g .sio → x < 2 ^ g .slot → at ≡ overflowSlot g (s .block .0) (s .slot .0) → (u : List ℕ) → u ≡ slotPut g t at x
+  stored-spot : (s : BlockSlot) (x at : ℕ) → s .block .0 < g .nob → s .slot .0 < g .sio → x < 2 ^ g .slot → at ≡ overflowSlot g (s .block .0) (s .slot .0) → (u : List ℕ) → u ≡ slotPut g t at x
       → Stored g t u (storeSpot s x (decode g t))
   stored-spot s x at hb hs hx ea u eu =
       stored-overflow-slot g t T (s .block .0) hb (s .slot .0) x hs hx u (eu ∙ ap (λ (n : ℕ). slotPut g t n x) ea)
@@ -161,8 +161,8 @@ module _ (g : Layout) (t : List ℕ) (T : Table g t) where
   -- ---- at a place that is in the list
 
   module _ (i h l p at : ℕ) (W : Storable g (decode g t) i h l p) (ea : at ≡ placeFrom g i h p (decode g t)) where
-    abbrev spot : Spot
-    spot = spotIn g (blocksFrom g (decode g t .overflow) h) (p - g .sib)
+    abbrev blockSlot : BlockSlot
+    blockSlot = blockSlotIn g (blocksFrom g (decode g t .overflow) h) (p - g .sib)
 
     spot-there : g .sib ≤ p → Spotted g (decode g t .overflow) (sized g t T) (blocksFrom g (decode g t .overflow) h) (p - g .sib)
     spot-there k = spotted-at g (decode g t .overflow) (sized g t T) h (p - g .sib) (W .reaches k)
@@ -171,7 +171,7 @@ module _ (g : Layout) (t : List ℕ) (T : Table g t) where
     unfolding placeFrom
     at-low k = ea ∙ rw (lt-ltb p (g .sib) k)
 
-    at-high : g .sib ≤ p → at ≡ overflowSlot g (spot .block .0) (spot .slot .0)
+    at-high : g .sib ≤ p → at ≡ overflowSlot g (blockSlot .block .0) (blockSlot .slot .0)
     unfolding placeFrom
     at-high k = ea ∙ rw (le-ltb p (g .sib) k)
 
@@ -180,7 +180,7 @@ module _ (g : Layout) (t : List ℕ) (T : Table g t) where
       where
         pick : Dec (g .sib ≤ p) → at + g .slot ≤ g .bits
         pick (no f) = let k : p < g .sib = omega arith in omega (arith, at-low k, basic-slot-ends g (T .proper) i (W .list) p k)
-        pick (yes k) = let s = spot-there k in omega (arith, at-high k, overflow-slot-ends g (T .proper) (spot .block .0) (s .low) (spot .slot .0) (s .few))
+        pick (yes k) = let s = spot-there k in omega (arith, at-high k, overflow-slot-ends g (T .proper) (blockSlot .block .0) (s .low) (blockSlot .slot .0) (s .few))
 
     -- the overflow blocks stand behind the basic blocks
     under-low : at < basicSlots g i + g .link → p < g .sib
@@ -189,7 +189,7 @@ module _ (g : Layout) (t : List ℕ) (T : Table g t) where
       where
         pick : Dec (g .sib ≤ p) → p < g .sib
         pick (no f) = omega arith
-        pick (yes k) = let F = T .proper in absurd (omega (arith, at-high k, over-low g F (spot .block .0), basic-ends g F i (W .list), F .basic-is, F .link-fits))
+        pick (yes k) = let F = T .proper in absurd (omega (arith, at-high k, over-low g F (blockSlot .block .0), basic-ends g F i (W .list), F .basic-is, F .link-fits))
 
     module _ (x : ℕ) (hx : x < 2 ^ g .slot) where
       -- behind the displaced bits it is one store
@@ -210,7 +210,7 @@ module _ (g : Layout) (t : List ℕ) (T : Table g t) where
           pick (yes k) =
               let s = spot-there k in
               stored-as (storeFrom g i h l p x (decode g t))
-              (stored-spot spot x at (s .low) (s .few) hx (at-high k) u eu)
+              (stored-spot blockSlot x at (s .low) (s .few) hx (at-high k) u eu)
               (store-high g (decode g t) i l p h x k)
 
       -- under them, what they are then goes to the link of block l

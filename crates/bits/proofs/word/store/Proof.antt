@@ -1,4 +1,4 @@
--- The eight bytes of the turned number, set lowest first, are the field of 64 bits written (`store-word`).
+-- The eight bytes of the swapped number, set lowest first, are the field of 64 bits written (`store-word`).
 use mathlib.Core.Path.{_∙_}
 use native.Mathlib.Omega.{arith}
 use denote.Ref.{now}
@@ -7,8 +7,8 @@ use borrow.Author.Needs.{needs}
 use Rattle.bits.proofs.word.store.Statement.{statement}
 use Rattle.bits.proofs.word.store.Tie as tie
 
-turn-requires : tie.Need-turn-requires
-turn-requires c κs = search needs
+swap-bytes-requires : tie.Need-swap-bytes-requires
+swap-bytes-requires c κs = search needs
 
 store-four-requires : tie.Need-store-four-requires
 store-four-requires c κs = search needs
@@ -30,13 +30,13 @@ returns c =
     let a = t .before .before .args in
     k .store-four2 .ensures
     ∙ rw (j .store-four .ensures)
-    (store-word (now (a .s)) (a .i) (λ l. omega (arith, t .before .slice-known .given l)) (a .w) (t .turn .result) (omega arith) (t .turn .ensures))
+    (store-word (now (a .s)) (a .i) (λ l. omega (arith, t .before .slice-known .given l)) (a .w) (t .swap-bytes .result) (omega arith) (t .swap-bytes .ensures))
 
 pub store-spec : {M : Type 1} → statement M
 store-spec =
     tie.close
     (tie.spec
-    turn-requires
+    swap-bytes-requires
     store-four-requires
     add-store-four
     store-four-requires-2

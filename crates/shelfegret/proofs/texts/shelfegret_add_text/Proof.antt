@@ -17,20 +17,36 @@ use borrow.Author.Needs.{needs}
 use Rattle.shelfegret.proofs.texts.shelfegret_add_text.Statement.{statement}
 use Rattle.shelfegret.proofs.texts.shelfegret_add_text.Tie as tie
 
+-- places, each named once
+abbrev to-start : tie.After-g → tie.Start
+to-start c = c .before .before .before .before .before
+
+abbrev to-g : tie.After-admit-to → tie.After-g
+to-g c = c .before .before .before
+
+abbrev to-admit-to-3 : tie.After-why → tie.After-admit-to
+to-admit-to-3 c = c .before .before
+
+abbrev to-admit-to : tie.After-known-told2 → tie.After-admit-to
+to-admit-to c = c .before .before .before
+
+abbrev to-admit-to-2 : tie.Else1 → tie.After-admit-to
+to-admit-to-2 c = c .before .before .before .before .before
+
 -- the layout is that of the settings
 laid-out : (c : tie.After-g) → laidOf (c .before .before .before .before .before .args .s) ≡ laid.Layout (c .g .given .0 .0)
 laid-out c = sym (c .before .before .layout .ensures) ∙ c .g .given .1
 
 -- the tests are passed, with the key that the text is read as
 through : (c : tie.After-known-told2)
-    → (let a = c .before .before .before .before .before .before .before .before .before .before .before .args in Passed (a .s) (c .before .before .before .before .before .before .g .given .0 .0) (now (a .t)) (c .before .key .given .0 .0))
+    → (let a = (to-start (to-g (to-admit-to c))) .args in Passed (a .s) (c .before .before .before .before .before .before .g .given .0 .0) (now (a .t)) (c .before .key .given .0 .0))
 through c =
-    let a = c .before .before .before .before .before .before .before .before .before .before .before .args in
+    let a = (to-start (to-g (to-admit-to c))) .args in
     let k = c .before .key .given .0 .0 in
     passed (a .s) (c .before .before .before .before .before .before .g .given .0 .0) (now (a .t)) k (laid-out (c .before .before .before .before .before .before))
     (c .before .before .before .admit-to .ensures .1 k (c .before .key .given .1)) (omega arith) (omega arith)
 
-label-in : (c : tie.Else1) → let a = c .before .before .before .before .before .before .before .before .before .before .before .before .before .args in ltb (a .label) (2 ^ a .s .val) ≡ true
+label-in : (c : tie.Else1) → let a = (to-start (to-g (to-admit-to-2 c))) .args in ltb (a .label) (2 ^ a .s .val) ≡ true
 label-in c = sym (c .before .fits2 .ensures) ∙ not-false (c .before .fits2 .result) (c .if1 .left)
 
 layout-requires : tie.Need-layout-requires
@@ -46,7 +62,7 @@ enum-known-key : tie.Need-enum-known-key
 enum-known-key c = search needs
 
 fits-requires : tie.Need-fits-requires
-fits-requires c κs = legal-means (c .before .before .before .before .before .before .before .before .before .before .before .args .s) (through c .legal) .ranges .val-high
+fits-requires c κs = legal-means ((to-start (to-g (to-admit-to c))) .args .s) (through c .legal) .ranges .val-high
 
 refused-requires : tie.Need-refused-requires
 refused-requires c κs = search needs
@@ -58,7 +74,7 @@ returns : tie.Need-returns
 returns c =
     let n = c .before in
     let e = n .before .before in
-    let a = e .before .before .before .before .before .before .before .before .before .before .before .args in
+    let a = (to-start (to-g (to-admit-to e))) .args in
     let k = e .before .key .given .0 .0 in
     let p = through e in
     let q = sym (e .before .before .before .admit-to .ensures .0) ∙ e .before .key .given .1 in
@@ -72,7 +88,7 @@ returns c =
 place-requires : tie.Need-place-requires
 place-requires c κs =
     let e = c .before .before in
-    asks-place (e .before .before .before .before .before .before .before .before .before .before .before .args .s) _ _ _ (through e)
+    asks-place ((to-start (to-g (to-admit-to e))) .args .s) _ _ _ (through e)
 
 find-in-requires : tie.Need-find-in-requires
 find-in-requires c κs =
@@ -85,7 +101,7 @@ cast-add-found : tie.Need-cast-add-found
 cast-add-found c =
     let n = c .before .before .before .before .before .before in
     let e = n .before .before in
-    let a = e .before .before .before .before .before .before .before .before .before .before .before .args in
+    let a = (to-start (to-g (to-admit-to e))) .args in
     record { fits = label-below (a .s) (through e .legal) (a .label) (label-in n) }
 
 add-found-requires : tie.Need-add-found-requires
@@ -93,7 +109,7 @@ add-found-requires c κs =
     let d = c .before .before .before .before .before in
     let n = d .before in
     let e = n .before .before in
-    let a = e .before .before .before .before .before .before .before .before .before .before .before .args in
+    let a = (to-start (to-g (to-admit-to e))) .args in
     let p = through e in (
       table _ _ _ _ p (d .place .result) (d .place .ensures),
       list-below _ _ _ _ p (d .place .result) (d .place .ensures),
@@ -128,7 +144,7 @@ returns-2 c =
     let d = x .before .before .before .before .before .before in
     let n = d .before in
     let e = n .before .before in
-    let a = e .before .before .before .before .before .before .before .before .before .before .before .args in
+    let a = (to-start (to-g (to-admit-to e))) .args in
     let k = e .before .key .given .0 .0 in
     let p = through e in
     let q = sym (e .before .before .before .admit-to .ensures .0) ∙ e .before .key .given .1 in
@@ -145,7 +161,7 @@ same-length-3 c = search needs
 returns-3 : tie.Need-returns-3
 returns-3 c =
     let w = c .before .before in
-    let a = w .before .before .before .before .before .before .before .before .before .before .args in
+    let a = (to-start (to-g (to-admit-to-3 w))) .args in
     let q = sym (w .before .before .admit-to .ensures .0) ∙ w .why .given .1 in (
       c .refused2 .ensures ∙ sym (add-replied (a .s) (now (a .t)) (now (a .text)) _ q (a .label)),
       sym (add-left (a .s) (now (a .t)) (now (a .text)) _ q (a .label)),

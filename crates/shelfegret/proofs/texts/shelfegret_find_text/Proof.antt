@@ -11,16 +11,26 @@ use borrow.Author.Needs.{needs}
 use Rattle.shelfegret.proofs.texts.shelfegret_find_text.Statement.{statement}
 use Rattle.shelfegret.proofs.texts.shelfegret_find_text.Tie as tie
 
+-- places, each named once
+abbrev to-start : tie.After-g → tie.Start
+to-start c = c .before .before .before .before .before
+
+abbrev to-g-2 : tie.After-why → tie.After-g
+to-g-2 c = c .before .before .before .before
+
+abbrev to-g : tie.After-known-told2 → tie.After-g
+to-g c = c .before .before .before .before .before
+
 -- the layout is that of the settings
 laid-out : (c : tie.After-g) → laidOf (c .before .before .before .before .before .args .s) ≡ laid.Layout (c .g .given .0 .0)
 laid-out c = sym (c .before .before .layout .ensures) ∙ c .g .given .1
 
 -- the tests are passed, with the key that the text is read as
 through : (c : tie.After-known-told2)
-    → (let a = c .before .before .before .before .before .before .before .before .before .before .args in
+    → (let a = (to-start (to-g c)) .args in
     Passed (a .s) (c .before .before .before .before .before .g .given .0 .0) (now (a .t)) (c .before .key .given .0 .0))
 through c =
-    let a = c .before .before .before .before .before .before .before .before .before .before .args in
+    let a = (to-start (to-g c)) .args in
     let k = c .before .key .given .0 .0 in
     passed (a .s) (c .before .before .before .before .before .g .given .0 .0) (now (a .t)) k (laid-out (c .before .before .before .before .before))
     (c .before .before .before .admit-to .ensures .1 k (c .before .key .given .1)) (omega arith) (omega arith)
@@ -39,14 +49,14 @@ enum-known-key c = search needs
 
 place-requires : tie.Need-place-requires
 place-requires c κs =
-    let a = c .before .before .before .before .before .before .before .before .before .before .args in
+    let a = (to-start (to-g c)) .args in
     asks-place (a .s) (c .before .before .before .before .before .g .given .0 .0) (now (a .t)) (c .before .key .given .0 .0) (through c)
 
 find-in-requires : tie.Need-find-in-requires
 find-in-requires c κs =
     let d = c .before in
     let e = d .before in
-    let a = e .before .before .before .before .before .before .before .before .before .before .args in
+    let a = (to-start (to-g e)) .args in
     let g = e .before .before .before .before .before .g .given .0 .0 in
     let k = e .before .key .given .0 .0 in (
       table (a .s) g (now (a .t)) k (through e) (d .place .result) (d .place .ensures),
@@ -74,7 +84,7 @@ returns c =
     let f = c .before in
     let d = f .before .before in
     let e = d .before in
-    let a = e .before .before .before .before .before .before .before .before .before .before .args in
+    let a = (to-start (to-g e)) .args in
     let g = e .before .before .before .before .before .g .given .0 .0 in
     let k = e .before .key .given .0 .0 in
     c .found .ensures
@@ -84,7 +94,7 @@ returns c =
 returns-2 : tie.Need-returns-2
 returns-2 c =
     let w = c .before .before in
-    let a = w .before .before .before .before .before .before .before .before .before .args in
+    let a = (to-start (to-g-2 w)) .args in
     c .refused .ensures
     ∙ sym (find-replied (a .s) (now (a .t)) (now (a .text)) _ (sym (w .before .before .admit-to .ensures .0) ∙ w .why .given .1))
 

@@ -13,6 +13,28 @@ use Rattle.table_add.proofs.AppendLaws.{counter-small}
 use Rattle.table_add.proofs.append.append.Statement.{statement}
 use Rattle.table_add.proofs.append.append.Tie as tie
 
+-- places, each named once
+abbrev to-start : tie.Else1 → tie.Start
+to-start c = c .before .before .before .before
+
+abbrev to-else1-2 : tie.Else2 → tie.Else1
+to-else1-2 c = c .before .before
+
+abbrev to-else1 : tie.After-append-first-arg → tie.Else1
+to-else1 c = c .before .before .before
+
+abbrev to-else2 : tie.After-basic-head → tie.Else2
+to-else2 c = c .before .before
+
+abbrev to-basic-head : tie.After-struct-known4 → tie.After-basic-head
+to-basic-head c = c .before .before
+
+abbrev to-basic-head-2 : tie.After-block-slot-of → tie.After-basic-head
+to-basic-head-2 c = c .before .before .before
+
+abbrev to-basic-head-3 : tie.After-struct-known5 → tie.After-basic-head
+to-basic-head-3 c = c .before .before .before .before .before
+
 -- the basic block's counter, where it has all the entries
 counter-is : (s : tie.Start) → let a = s .args in a .v .compared ≤ a .g .sib → a .v .compared ≡ basicAt (decode (a .g) (now (a .t)) .basic) (a .i .0) .counter
 counter-is s h =
@@ -39,7 +61,7 @@ returns c = search needs
 
 append-first-requires : tie.Need-append-first-requires
 append-first-requires c κs =
-    let s = c .before .before .before .before .before .before .before in
+    let s = to-start (to-else1 c) in
     (s .pre .0, sym (counter-is s (omega (arith, c .before .if2 .taken))) ∙ c .before .if2 .taken)
 
 same-length-2 : tie.Need-same-length-2
@@ -51,12 +73,12 @@ returns-2 c = search needs
 basic-head-requires : tie.Need-basic-head-requires
 basic-head-requires c κs = search needs
 
-sub-spot-of : tie.Need-sub-spot-of
-sub-spot-of c = omega (arith, many (c .before .before .before .before))
+sub-block-slot-of : tie.Need-sub-block-slot-of
+sub-block-slot-of c = omega (arith, many (c .before .before .before .before))
 
-spot-of-requires : tie.Need-spot-of-requires
-spot-of-requires c κs =
-    let s = c .before .before .before .before .before .before .before .before .before .before in
+block-slot-of-requires : tie.Need-block-slot-of-requires
+block-slot-of-requires c κs =
+    let s = to-start (to-else1-2 (to-else2 (to-basic-head c))) in
     let a = s .args in
     let T = s .pre .0 .table in (
       T,
@@ -65,26 +87,26 @@ spot-of-requires c κs =
     )
 
 -- the last entry stands at the list's end
-end-is : (c : tie.After-spot-of)
-    → let a = c .before .before .before .before .before .before .before .before .before .before .before .args in let st = decode (a .g) (now (a .t)) in
-    EndsIn (a .g) st (a .i .0) (c .before .before .before .basic-head .result) (c .spot-of .result .block .0)
-    × (c .spot-of .result .slot .0 ≡ overflowAt (st .overflow) (c .spot-of .result .block .0) .counter)
+end-is : (c : tie.After-block-slot-of)
+    → let a = (to-start (to-else1-2 (to-else2 (to-basic-head-2 c)))) .args in let st = decode (a .g) (now (a .t)) in
+    EndsIn (a .g) st (a .i .0) (c .before .before .before .basic-head .result) (c .block-slot-of .result .block .0)
+    × (c .block-slot-of .result .slot .0 ≡ overflowAt (st .overflow) (c .block-slot-of .result .block .0) .counter)
 end-is c =
-    let s = c .before .before .before .before .before .before .before .before .before .before .before in
+    let s = to-start (to-else1-2 (to-else2 (to-basic-head-2 c))) in
     let a = s .args in
     ends-in (a .g) (decode (a .g) (now (a .t))) (a .i .0) (a .v .compared) (s .pre .1) (sized (a .g) (now (a .t)) (s .pre .0 .table))
     (many (c .before .before .before .before .before)) (c .before .before .before .basic-head .result) (c .before .before .before .basic-head .ensures)
-    (c .spot-of .result) (c .spot-of .ensures)
+    (c .block-slot-of .result) (c .block-slot-of .ensures)
 
 add-append-overflow : tie.Need-add-append-overflow
 add-append-overflow c =
-    let s = c .before .before .before .before .before .before .before .before .before .before .before .before .before in
+    let s = to-start (to-else1-2 (to-else2 (to-basic-head-3 c))) in
     let e = end-is (c .before .before) in
-    omega (arith, e .1, counter-small (s .args .g) (now (s .args .t)) (s .pre .0 .table) (c .before .before .spot-of .result .block .0) (e .0 .low))
+    omega (arith, e .1, counter-small (s .args .g) (now (s .args .t)) (s .pre .0 .table) (c .before .before .block-slot-of .result .block .0) (e .0 .low))
 
 append-overflow-requires : tie.Need-append-overflow-requires
 append-overflow-requires c κs =
-    let s = c .before .before .before .before .before .before .before .before .before .before .before .before .before in
+    let s = to-start (to-else1-2 (to-else2 (to-basic-head-3 c))) in
     let e = end-is (c .before .before) in
     (s .pre .0, e .0, omega (arith, e .1))
 
@@ -106,8 +128,8 @@ append-spec =
     same-length-2
     returns-2
     basic-head-requires
-    sub-spot-of
-    spot-of-requires
+    sub-block-slot-of
+    block-slot-of-requires
     add-append-overflow
     append-overflow-requires
     same-length-3

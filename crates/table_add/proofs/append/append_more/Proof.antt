@@ -13,18 +13,49 @@ use Rattle.table_add.proofs.AppendLaws.{more-refused, more-met, append-
 use Rattle.table_add.proofs.append.append_more.Statement.{statement}
 use Rattle.table_add.proofs.append.append_more.Tie as tie
 
-took : (c : tie.After-number) → let s = c .before .before .before .before .before in Takes (s .args .g) (decode (s .args .g) (now (s .args .t))) (c .number .given .0 .0 .0) (c .number .given .0 .1 .0 .0)
-took c = takes _ _ _ _ (sym (c .before .before .free-block .ensures) ∙ c .number .given .1)
+-- places, each named once
+abbrev to-start : tie.After-slice-known → tie.Start
+to-start c = c .before
 
-free-block-requires : tie.Need-free-block-requires
-free-block-requires c κs = c .before .before .pre .0 .table
+abbrev to-slice-known : tie.After-number → tie.After-slice-known
+to-slice-known c = c .before .before .before .before
+
+abbrev to-number : tie.After-list-has-block-arg → tie.After-number
+to-number c = c .before .before
+
+abbrev to-number-2 : tie.After-list-has-block → tie.After-number
+to-number-2 c = c .before .before .before
+
+abbrev to-list-has-block : tie.Else1 → tie.After-list-has-block
+to-list-has-block c = c .before
+
+abbrev to-else1 : tie.After-overflow-link → tie.Else1
+to-else1 c = c .before .before
+
+abbrev to-overflow-link : tie.After-put-overflow-front → tie.After-overflow-link
+to-overflow-link c = c .before .before
+
+abbrev to-put-overflow-front : tie.After-t → tie.After-put-overflow-front
+to-put-overflow-front c = c .before
+
+abbrev to-t : tie.After-take-arg → tie.After-t
+to-t c = c .before .before
+
+abbrev to-t-2 : tie.After-added → tie.After-t
+to-t-2 c = c .before .before .before .before .before .before
+
+took : (c : tie.After-number) → let s = c .before .before .before .before .before in Takes (s .args .g) (decode (s .args .g) (now (s .args .t))) (c .number .given .0 .0 .0) (c .number .given .0 .1 .0 .0)
+took c = takes _ _ _ _ (sym (c .before .before .first-free .ensures) ∙ c .number .given .1)
+
+first-free-requires : tie.Need-first-free-requires
+first-free-requires c κs = c .before .before .pre .0 .table
 
 enum-known-number : tie.Need-enum-known-number
 enum-known-number c = search needs
 
 list-has-block-requires : tie.Need-list-has-block-requires
 list-has-block-requires c κs =
-    let s = c .before .before .before .before .before .before .before in (
+    let s = to-start (to-slice-known (to-number c)) in (
       s .pre .0 .table,
       followed (s .args .g) (decode (s .args .g) (now (s .args .t)) .overflow) (s .args .g .nob) (s .args .h .0) (omega (arith, s .pre .1 .last, s .pre .1 .low)),
     )
@@ -34,8 +65,8 @@ same-length c = search needs
 
 returns : tie.Need-returns
 returns c =
-    let s = c .before .before .before .before .before .before .before .before .before in
-    let a = c .before .before .before .before .before .before .before .before in
+    let s = to-start (to-slice-known (to-number-2 (c .before))) in
+    let a = to-slice-known (to-number-2 (c .before)) in
     let g = s .args .g in
     let T = s .pre .0 .table in
     let v = s .args .v in
@@ -45,18 +76,18 @@ returns c =
     (sym (c .if1 .taken) ∙ c .before .list-has-block .ensures)
 
 overflow-link-requires : tie.Need-overflow-link-requires
-overflow-link-requires c κs = let s = c .before .before .before .before .before .before .before .before .before .before in (s .pre .0 .table, s .pre .1 .low)
+overflow-link-requires c κs = let s = to-start (to-slice-known (to-number-2 (to-list-has-block (c .before)))) in (s .pre .0 .table, s .pre .1 .low)
 
 put-overflow-front-requires : tie.Need-put-overflow-front-requires
 put-overflow-front-requires c κs =
-    let s = c .before .before .before .before .before .before .before .before .before .before .before .before in
-    let k = took (c .before .before .before .before .before .before .before) in
+    let s = to-start (to-slice-known (to-number-2 (to-list-has-block (to-else1 (c .before))))) in
+    let k = took (to-number-2 (to-list-has-block (to-else1 (c .before)))) in
     (s .pre .0 .table, s .pre .1 .low, omega arith, omega (arith, k .low, s .pre .0 .table .proper .link-holds))
 
 take-requires : tie.Need-take-requires
 take-requires c κs =
-    let s = c .before .before .before .before .before .before .before .before .before .before .before .before .before .before .before .before in
-    let k = took (c .before .before .before .before .before .before .before .before .before .before .before) in (
+    let s = to-start (to-slice-known (to-number-2 (to-list-has-block (to-else1 (to-overflow-link (to-put-overflow-front (to-t c))))))) in
+    let k = took (to-number-2 (to-list-has-block (to-else1 (to-overflow-link (to-put-overflow-front (to-t c)))))) in (
       c .before .before .before .put-overflow-front .ensures .table,
       k .low,
       rw (c .before .before .before .before .before .overflow-link .ensures) (link-lt (s .args .g) (now (s .args .t)) (s .pre .0 .table) (s .args .j .0) (s .pre .1 .low)),
@@ -75,17 +106,17 @@ same-length-2 c = search needs
 
 returns-2 : tie.Need-returns-2
 returns-2 c =
-    let s = c .before .before .before .before .before .before .before .before .before .before .before .before .before .before .before .before .before .before .before .before in
-    let a = c .before .before .before .before .before .before .before .before .before .before .before .before .before .before .before .before .before .before .before in
+    let s = to-start (to-slice-known (to-number-2 (to-list-has-block (to-else1 (to-overflow-link (to-put-overflow-front (to-t-2 c))))))) in
+    let a = to-slice-known (to-number-2 (to-list-has-block (to-else1 (to-overflow-link (to-put-overflow-front (to-t-2 c)))))) in
     let g = s .args .g in
     let T = s .pre .0 .table in
     let v = s .args .v in
     append-more g (now (s .args .t)) T (λ j. omega (arith, a .slice-known .given j)) (s .args .i .0) v (s .pre .0 .list)
     (slot-lt g (T .proper) (keyNumber (v .entry)) (v .label) (s .pre .0 .slotted)) (s .args .h .0) (s .args .j .0) (s .pre .1) (s .pre .2) _ _ _
-    (took (c .before .before .before .before .before .before .before .before .before .before .before .before .before .before .before))
-    (sym (c .before .before .before .before .before .before .before .before .before .before .before .if1 .left) ∙ c .before .before .before .before .before .before .before .before .before .before .before .before .list-has-block .ensures)
-    (c .before .before .before .before .before .before .before .before .before .overflow-link .ensures) _ _ _
-    (c .before .before .before .before .before .before .before .put-overflow-front .ensures)
+    (took (to-number-2 (to-list-has-block (to-else1 (to-overflow-link (to-put-overflow-front (to-t-2 c)))))))
+    (sym ((to-else1 (to-overflow-link (to-put-overflow-front (to-t-2 c)))) .if1 .left) ∙ (to-list-has-block (to-else1 (to-overflow-link (to-put-overflow-front (to-t-2 c))))) .list-has-block .ensures)
+    ((to-overflow-link (to-put-overflow-front (to-t-2 c))) .overflow-link .ensures) _ _ _
+    ((to-put-overflow-front (to-t-2 c)) .put-overflow-front .ensures)
     (c .before .before .before .take .ensures)
     (c .added .ensures)
 
@@ -102,13 +133,13 @@ returns-3 c =
     let v = s .args .v in
     more-refused g (now (s .args .t)) T (λ j. omega (arith, a .slice-known .given j)) (s .args .i .0) v (s .pre .0 .list)
     (slot-lt g (T .proper) (keyNumber (v .entry)) (v .label) (s .pre .0 .slotted)) (s .args .h .0) (s .args .j .0) (s .pre .1) (s .pre .2) _
-    (sym (k .before .before .free-block .ensures) ∙ k .why .given .1)
+    (sym (k .before .before .first-free .ensures) ∙ k .why .given .1)
 
 pub append-more-spec : {M : Type 1} → statement M
 append-more-spec =
     tie.close
     (tie.spec
-    free-block-requires
+    first-free-requires
     enum-known-number
     list-has-block-requires
     same-length

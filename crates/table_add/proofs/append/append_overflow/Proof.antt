@@ -9,6 +9,28 @@ use Rattle.table_add.proofs.AppendLaws.{append-last}
 use Rattle.table_add.proofs.append.append_overflow.Statement.{statement}
 use Rattle.table_add.proofs.append.append_overflow.Tie as tie
 
+-- places, each named once
+abbrev to-start : tie.After-slice-known → tie.Start
+to-start c = c .before
+
+abbrev to-slice-known : tie.Then1 → tie.After-slice-known
+to-slice-known c = c .before .before
+
+abbrev to-then1 : tie.After-overflow-slot → tie.Then1
+to-then1 c = c .before .before .before
+
+abbrev to-overflow-slot : tie.After-put-slot → tie.After-overflow-slot
+to-overflow-slot c = c .before
+
+abbrev to-put-slot : tie.After-t → tie.After-put-slot
+to-put-slot c = c .before
+
+abbrev to-t : tie.After-put-overflow-counter-arg → tie.After-t
+to-t c = c .before .before
+
+abbrev to-t-2 : tie.After-added → tie.After-t
+to-t-2 c = c .before .before .before .before .before .before
+
 overflow-slot-requires : tie.Need-overflow-slot-requires
 overflow-slot-requires c κs = let s = c .before .before .before .before .before in (s .pre .0 .table .proper, s .pre .1 .low, c .before .before .if1 .taken)
 
@@ -22,8 +44,8 @@ put-slot-requires c κs =
 
 put-overflow-counter-requires : tie.Need-put-overflow-counter-requires
 put-overflow-counter-requires c κs =
-    let s = c .before .before .before .before .before .before .before .before .before .before in
-    (table-kept _ (c .before .before .before .put-slot .kept .0) (s .pre .0 .table), s .pre .1 .low, omega (arith, c .before .before .before .before .before .before .before .if1 .taken, s .pre .0 .table .proper .overflow-holds))
+    let s = to-start (to-slice-known (to-then1 (to-overflow-slot (to-put-slot (to-t c))))) in
+    (table-kept _ (c .before .before .before .put-slot .kept .0) (s .pre .0 .table), s .pre .1 .low, omega (arith, (to-then1 (to-overflow-slot (to-put-slot (to-t c)))) .if1 .taken, s .pre .0 .table .proper .overflow-holds))
 
 added-requires : tie.Need-added-requires
 added-requires c κs = search needs
@@ -34,16 +56,16 @@ same-length c = search needs
 returns : tie.Need-returns
 unfolding keyNumber
 returns c =
-    let a = c .before .before .before .before .before .before .before .before .before .before .before .before .before in
+    let a = to-slice-known (to-then1 (to-overflow-slot (to-put-slot (to-t-2 c)))) in
     let s = a .before in
     let g = s .args .g in
     let T = s .pre .0 .table in
     let v = s .args .v in
     append-last g (now (s .args .t)) T (λ j. omega (arith, a .slice-known .given j)) (s .args .i .0) v (s .pre .0 .list)
     (slot-lt g (T .proper) (keyNumber (v .entry)) (v .label) (s .pre .0 .slotted)) (s .args .h .0) (s .args .j .0) (s .pre .1) (s .args .n)
-    (s .pre .2) (c .before .before .before .before .before .before .before .before .before .before .before .if1 .taken) _ _ _ _
-    (c .before .before .before .before .before .before .before .before .overflow-slot .ensures)
-    (slot-put g (T .proper) _ _ _ _ (c .before .before .before .before .before .before .before .put-slot .ensures))
+    (s .pre .2) ((to-then1 (to-overflow-slot (to-put-slot (to-t-2 c)))) .if1 .taken) _ _ _ _
+    ((to-overflow-slot (to-put-slot (to-t-2 c))) .overflow-slot .ensures)
+    (slot-put g (T .proper) _ _ _ _ ((to-put-slot (to-t-2 c)) .put-slot .ensures))
     (c .before .before .before .put-overflow-counter .ensures)
     (c .added .ensures)
 

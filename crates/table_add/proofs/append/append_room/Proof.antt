@@ -9,6 +9,25 @@ use Rattle.table_add.proofs.AppendLaws.{append-room}
 use Rattle.table_add.proofs.append.append_room.Statement.{statement}
 use Rattle.table_add.proofs.append.append_room.Tie as tie
 
+-- places, each named once
+abbrev to-start : tie.After-slice-known → tie.Start
+to-start c = c .before
+
+abbrev to-slice-known : tie.After-basic-slot → tie.After-slice-known
+to-slice-known c = c .before .before .before
+
+abbrev to-basic-slot : tie.After-put-slot → tie.After-basic-slot
+to-basic-slot c = c .before
+
+abbrev to-put-slot : tie.After-t → tie.After-put-slot
+to-put-slot c = c .before
+
+abbrev to-t : tie.After-put-basic-counter-arg → tie.After-t
+to-t c = c .before .before
+
+abbrev to-t-2 : tie.After-added → tie.After-t
+to-t-2 c = c .before .before .before .before .before .before
+
 basic-slot-requires : tie.Need-basic-slot-requires
 basic-slot-requires c κs =
     let s = c .before .before .before in
@@ -24,12 +43,12 @@ put-slot-requires c κs =
 
 add-put-basic-counter : tie.Need-add-put-basic-counter
 add-put-basic-counter c =
-    let s = c .before .before .before .before .before .before .before .before in
+    let s = to-start (to-slice-known (to-basic-slot (to-put-slot (to-t c)))) in
     omega (arith, s .pre .1, s .pre .0 .table .proper .sib-high)
 
 put-basic-counter-requires : tie.Need-put-basic-counter-requires
 put-basic-counter-requires c κs =
-    let s = c .before .before .before .before .before .before .before .before in
+    let s = to-start (to-slice-known (to-basic-slot (to-put-slot (to-t c)))) in
     (table-kept _ (c .before .before .before .put-slot .kept .0) (s .pre .0 .table), s .pre .0 .list, omega (arith, s .pre .1, s .pre .0 .table .proper .basic-holds))
 
 added-requires : tie.Need-added-requires
@@ -41,15 +60,15 @@ same-length c = search needs
 returns : tie.Need-returns
 unfolding keyNumber
 returns c =
-    let s = c .before .before .before .before .before .before .before .before .before .before .before .before in
-    let k = c .before .before .before .before .before .before .before .before .before .before .before in
+    let s = to-start (to-slice-known (to-basic-slot (to-put-slot (to-t-2 c)))) in
+    let k = to-slice-known (to-basic-slot (to-put-slot (to-t-2 c))) in
     let g = s .args .g in
     let T = s .pre .0 .table in
     let v = s .args .v in
     append-room g (now (s .args .t)) T (λ j. omega (arith, k .slice-known .given j)) (s .args .i .0) v (s .pre .0 .list)
     (slot-lt g (T .proper) (keyNumber (v .entry)) (v .label) (s .pre .0 .slotted)) (s .args .c) (s .pre .1) (s .pre .2) _ _ _ _
-    (c .before .before .before .before .before .before .before .before .basic-slot .ensures)
-    (slot-put g (T .proper) _ _ _ _ (c .before .before .before .before .before .before .before .put-slot .ensures))
+    ((to-basic-slot (to-put-slot (to-t-2 c))) .basic-slot .ensures)
+    (slot-put g (T .proper) _ _ _ _ ((to-put-slot (to-t-2 c)) .put-slot .ensures))
     (c .before .before .before .put-basic-counter .ensures)
     (c .added .ensures)
 

@@ -9,6 +9,13 @@ use Rattle.table_add.proofs.AppendLaws.{stored-take}
 use Rattle.table_add.proofs.append.take.Statement.{statement}
 use Rattle.table_add.proofs.append.take.Tie as tie
 
+-- places, each named once
+abbrev to-empty-block : tie.After-overflow-slot → tie.After-empty-block
+to-empty-block c = c .before .before .before .before
+
+abbrev to-overflow-slot : tie.After-put-free-start-arg → tie.After-overflow-slot
+to-overflow-slot c = c .before .before .before .before
+
 empty-block-requires : tie.Need-empty-block-requires
 empty-block-requires c κs = search needs
 
@@ -28,7 +35,7 @@ put-slot-requires c κs =
 
 put-free-start-requires : tie.Need-put-free-start-requires
 put-free-start-requires c κs =
-    let e = c .before .before .before .before .before .before .before .before in
+    let e = to-empty-block (to-overflow-slot c) in
     let s = e .before .before .before .before in
     (table-kept _ (c .before .before .before .put-slot .kept .0) (e .empty-block .ensures .table), omega (arith, s .pre .3, s .pre .0 .proper .free-holds))
 

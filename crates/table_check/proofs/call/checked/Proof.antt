@@ -14,6 +14,16 @@ use borrow.Author.Needs.{needs}
 use Rattle.table_check.proofs.call.checked.Statement.{statement}
 use Rattle.table_check.proofs.call.checked.Tie as tie
 
+-- places, each named once
+abbrev to-start : tie.Else1 → tie.Start
+to-start c = c .before .before .before .before
+
+abbrev to-else1 : tie.After-audited-arg → tie.Else1
+to-else1 c = c .before .before .before
+
+abbrev to-else1-2 : tie.After-audited → tie.Else1
+to-else1-2 c = c .before .before .before .before
+
 returns : tie.Need-returns
 returns c =
     let s = c .before .before .before .before in
@@ -32,32 +42,32 @@ slice-relend-prefix-audited c = search needs
 
 slice-aggregate-audited : tie.Need-slice-aggregate-audited
 slice-aggregate-audited c =
-    let s = c .before .before .before .before .before .before .before in
+    let s = to-start (to-else1 c) in
     let h : (s .args .g .nob + 7) / 8 ≤ length (now (s .args .marks)) = omega arith in
     simp length-take (omega arith)
 
 audited-requires : tie.Need-audited-requires
 audited-requires c κs =
-    let s = c .before .before .before .before .before .before .before in
+    let s = to-start (to-else1 c) in
     (s .pre, omega arith, simp length-take (omega arith))
 
 same-length : tie.Need-same-length
 same-length c = search needs
 
 -- the marks of the blocks are zero, and those behind them as they were
-after : (k : tie.After-audited) → let s = k .before .before .before .before .before .before .before .before in
+after : (k : tie.After-audited) → let s = to-start (to-else1-2 k) in
     k .audited .last .1 .1 .0 ++ drop ((s .args .g .nob + 7) / 8) (now (s .args .marks)) ≡ marksAfter (s .args .g) (now (s .args .marks))
 unfolding marksAfter markBytes
 after k =
-    let s = k .before .before .before .before .before .before .before .before in
+    let s = to-start (to-else1-2 k) in
     let e : length (take ((s .args .g .nob + 7) / 8) (now (s .args .marks))) ≡ (s .args .g .nob + 7) / 8 = simp length-take (omega arith) in
     ap (_++ drop ((s .args .g .nob + 7) / 8) (now (s .args .marks))) (k .audited .ensures .marks ∙ ap (λ (n : ℕ). replicate n 0) e)
 
-done : (k : tie.After-audited) (r : Bool) → k .audited .result ≡ r → let s = k .before .before .before .before .before .before .before .before in
+done : (k : tie.After-audited) (r : Bool) → k .audited .result ≡ r → let s = to-start (to-else1-2 k) in
     (cond r checking.Sound checking.Unsound ≡ checkedAnswer (s .args .g) (now (s .args .t)) (now (s .args .marks)))
     × (k .audited .last .1 .1 .0 ++ drop ((s .args .g .nob + 7) / 8) (now (s .args .marks)) ≡ checkedMarks (s .args .g) (now (s .args .t)) (now (s .args .marks)))
 done k r e =
-    let s = k .before .before .before .before .before .before .before .before in
+    let s = to-start (to-else1-2 k) in
     checked-done (s .args .g) (now (s .args .t)) (now (s .args .marks)) (omega arith) (omega arith) r (sym e ∙ k .audited .ensures .answer) _ (after k)
 
 returns-3 : tie.Need-returns-3

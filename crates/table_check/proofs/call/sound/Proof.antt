@@ -18,6 +18,22 @@ use borrow.Author.Needs.{needs}
 use Rattle.table_check.proofs.call.sound.Statement.{statement}
 use Rattle.table_check.proofs.call.sound.Tie as tie
 
+-- places, each named once
+abbrev to-start : tie.After-lists-sound → tie.Start
+to-start c = c .before .before .before .before
+
+abbrev to-lists-sound : tie.After-chain-sound → tie.After-lists-sound
+to-lists-sound c = c .before .before .before .before .before
+
+abbrev to-chain-sound : tie.Else2 → tie.After-chain-sound
+to-chain-sound c = c .before .before .before
+
+abbrev to-else2 : tie.After-all-marked → tie.Else2
+to-else2 c = c .before .before
+
+abbrev to-else2-2 : tie.After-struct-known2 → tie.Else2
+to-else2-2 c = c .before .before .before .before .before
+
 lists-sound-requires : tie.Need-lists-sound-requires
 lists-sound-requires c κs = search needs
 
@@ -46,7 +62,7 @@ same-length-2 : tie.Need-same-length-2
 same-length-2 c = search needs
 
 -- the lists, and then the free chain
-walked : (k : tie.After-chain-sound) (q : Bool) → k .chain-sound .result ≡ q → let s = k .before .before .before .before .before .before .before .before .before in
+walked : (k : tie.After-chain-sound) (q : Bool) → k .chain-sound .result ≡ q → let s = to-start (to-lists-sound k) in
     andThen (listsWalk (s .args .g) (decode (s .args .g) (now (s .args .t)) .overflow) (decode (s .args .g) (now (s .args .t)) .basic) (now (s .args .marks)))
     (chainWalk (s .args .g) (decode (s .args .g) (now (s .args .t))))
     ≡ found q (k .chain-sound .last .1 .1 .0)
@@ -62,7 +78,7 @@ walked k q e =
 returns-2 : tie.Need-returns-2
 returns-2 c =
     let k = c .before .before .before in
-    let s = k .before .before .before .before .before .before .before .before .before in
+    let s = to-start (to-lists-sound k) in
     sym (table-none (s .args .g) (now (s .args .t)) (now (s .args .marks)) (table s) (clean s) (walked k false (not-true _ (c .if2 .taken))))
 
 all-marked-requires : tie.Need-all-marked-requires
@@ -72,12 +88,12 @@ same-length-3 : tie.Need-same-length-3
 same-length-3 c = search needs
 
 -- every block marked, and the fill
-ends : (a : tie.After-all-marked) → let s = a .before .before .before .before .before .before .before .before .before .before .before .before .before .before in
+ends : (a : tie.After-all-marked) → let s = to-start (to-lists-sound (to-chain-sound (to-else2 a))) in
     (a .all-marked .result && fillZero (s .args .g) (now (s .args .t))) ≡ tableSound (s .args .g) (now (s .args .t))
 ends a =
     let n = a .before .before in
     let k = n .before .before .before in
-    let s = k .before .before .before .before .before .before .before .before .before in
+    let s = to-start (to-lists-sound k) in
     ap (λ (q : Bool). q && fillZero (s .args .g) (now (s .args .t))) (a .all-marked .ensures)
     ∙ sym
     (table-some (s .args .g) (now (s .args .t)) (now (s .args .marks)) (table s) (clean s) (k .chain-sound .last .1 .1 .0)
@@ -86,7 +102,7 @@ ends a =
 returns-3 : tie.Need-returns-3
 returns-3 c =
     let a = c .before in
-    let s = a .before .before .before .before .before .before .before .before .before .before .before .before .before .before in
+    let s = to-start (to-lists-sound (to-chain-sound (to-else2 a))) in
     ap (λ (q : Bool). q && fillZero (s .args .g) (now (s .args .t))) (sym (not-true (a .all-marked .result) (c .if3 .taken))) ∙ ends a
 
 mul-fill : tie.Need-mul-fill
@@ -94,12 +110,12 @@ mul-fill c = search needs
 
 sub-fill : tie.Need-sub-fill
 sub-fill c =
-    let s = c .before .before .before .before .before .before .before .before .before .before .before .before .before .before .before .before .before in
+    let s = to-start (to-lists-sound (to-chain-sound (to-else2-2 c))) in
     omega (arith, s .pre .0 .bytes-is)
 
 zeros-requires : tie.Need-zeros-requires
 zeros-requires c κs =
-    let s = c .before .before .before .before .before .before .before .before .before .before .before .before .before .before .before .before .before in
+    let s = to-start (to-lists-sound (to-chain-sound (to-else2-2 c))) in
     (omega (arith, s .pre .0 .bytes-is, s .pre .1), omega (arith, s .pre .0 .bytes-is, s .pre .0 .bytes-high))
 
 same-length-4 : tie.Need-same-length-4

@@ -24,11 +24,18 @@ Inv-loop t g first left₀ b left =
 abbrev μ-loop : tie.MeasureT-loop
 μ-loop t g first left₀ b left = left
 
+-- places, each named once
+abbrev to-loop : tie.Else1 Inv-loop μ-loop → tie.At-loop Inv-loop μ-loop
+to-loop c = c .before .before .before .before
+
+abbrev to-else1 : tie.After-slots-apart Inv-loop μ-loop → tie.Else1 Inv-loop μ-loop
+to-else1 c = c .before .before .before .before
+
 abbrev start : tie.At-loop Inv-loop μ-loop → tie.Start Inv-loop μ-loop
 start m = m .before .before
 
 abbrev head : tie.After-slots-apart Inv-loop μ-loop → tie.At-loop Inv-loop μ-loop
-head k = k .before .before .before .before .before .before .before .before
+head k = to-loop (to-else1 k)
 
 -- the blocks after this one
 abbrev later : tie.After-slots-apart Inv-loop μ-loop → List ℕ

@@ -27,6 +27,13 @@ Inv-loop t g most entry first left₀ b left =
 abbrev μ-loop : tie.MeasureT-loop
 μ-loop t g most entry first left₀ b left = left
 
+-- places, each named once
+abbrev to-else1 : tie.Else2 Inv-loop μ-loop → tie.Else1 Inv-loop μ-loop
+to-else1 c = c .before .before .before .before .before .before
+
+abbrev to-else2 : tie.After-known-told Inv-loop μ-loop → tie.Else2 Inv-loop μ-loop
+to-else2 c = c .before .before .before .before
+
 abbrev start : tie.At-loop Inv-loop μ-loop → tie.Start Inv-loop μ-loop
 start m = m .before .before
 
@@ -122,10 +129,10 @@ returns-3 c =
     ∙ m .loop .inv
 
 sub-left : tie.Need-sub-left Inv-loop μ-loop
-sub-left c = omega (arith, here (c .before .before .before .before .before .before .before .before .before .before) .0)
+sub-left c = omega (arith, here (to-else1 (to-else2 c)) .0)
 
 loop-less : tie.Need-loop-less Inv-loop μ-loop
-loop-less c = omega (arith, here (c .before .before .before .before .before .before .before .before .before .before) .0)
+loop-less c = omega (arith, here (to-else1 (to-else2 c)) .0)
 
 loop-again : tie.Need-loop-again Inv-loop μ-loop
 loop-again c =

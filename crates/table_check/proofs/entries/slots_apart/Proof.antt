@@ -32,6 +32,16 @@ Inv-loop t g b way most at₀ j₀ at j =
 abbrev μ-loop : tie.MeasureT-loop
 μ-loop t g b way most at₀ j₀ at j = b .count - j
 
+-- places, each named once
+abbrev to-loop : tie.Then1 Inv-loop μ-loop → tie.At-loop Inv-loop μ-loop
+to-loop c = c .before .before
+
+abbrev to-then1 : tie.After-next-entry Inv-loop μ-loop → tie.Then1 Inv-loop μ-loop
+to-then1 c = c .before
+
+abbrev to-next-entry : tie.After-struct-known3 Inv-loop μ-loop → tie.After-next-entry Inv-loop μ-loop
+to-next-entry c = c .before .before .before .before .before .before
+
 abbrev start : tie.At-loop Inv-loop μ-loop → tie.Start Inv-loop μ-loop
 start m = m .before .before
 
@@ -110,14 +120,14 @@ returns-2 c =
 
 add-at : tie.Need-add-at Inv-loop μ-loop
 add-at c =
-    let m = c .before .before .before .before .before .before .before .before .before in
+    let m = to-loop (to-then1 (to-next-entry c)) in
     let s = start m in
-    let h : suc (m .loop .j) ≤ s .args .b .count = omega (arith, c .before .before .before .before .before .before .before .if1 .taken) in
+    let h : suc (m .loop .j) ≤ s .args .b .count = omega (arith, (to-then1 (to-next-entry c)) .if1 .taken) in
     omega (arith, mul-le-mul-right (s .args .g .slot) h, s .pre .1 .near, m .loop .inv .1)
 
 add-j : tie.Need-add-j Inv-loop μ-loop
 add-j c =
-    let s = start (c .before .before .before .before .before .before .before .before .before) in
+    let s = start (to-loop (to-then1 (to-next-entry c))) in
     omega (arith, s .pre .1 .few)
 
 loop-less : tie.Need-loop-less Inv-loop μ-loop

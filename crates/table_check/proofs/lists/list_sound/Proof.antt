@@ -14,6 +14,13 @@ use borrow.Author.Needs.{needs}
 use Rattle.table_check.proofs.lists.list_sound.Statement.{statement}
 use Rattle.table_check.proofs.lists.list_sound.Tie as tie
 
+-- places, each named once
+abbrev to-start : tie.Else1 → tie.Start
+to-start c = c .before .before .before .before .before
+
+abbrev to-else1 : tie.After-mark-from → tie.Else1
+to-else1 c = c .before .before .before .before .before
+
 basic-counter-requires : tie.Need-basic-counter-requires
 basic-counter-requires c κs = search needs
 
@@ -47,7 +54,7 @@ same-length : tie.Need-same-length
 same-length c = search needs
 
 -- a list that overflows
-over : (c : tie.After-mark-from) (q : Bool) → c .mark-from .result ≡ q → let s = c .before .before .before .before .before .before .before .before .before .before in
+over : (c : tie.After-mark-from) (q : Bool) → c .mark-from .result ≡ q → let s = to-start (to-else1 c) in
     let st = decode (s .args .g) (now (s .args .t)) in
     listWalk (s .args .g) (st .overflow) (basicAt (st .basic) (s .args .i .0)) (now (s .args .marks))
     ≡ provided (longApart (s .args .g) (st .overflow) (basicAt (st .basic) (s .args .i .0))) (found q (c .mark-from .last .1 .1 .1 .1 .0))

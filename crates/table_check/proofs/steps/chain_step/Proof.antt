@@ -21,6 +21,22 @@ use Rattle.table_check.proofs.StepLaws.{chain-used, chain-full, chain-f
 use Rattle.table_check.proofs.steps.chain_step.Statement.{statement}
 use Rattle.table_check.proofs.steps.chain_step.Tie as tie
 
+-- places, each named once
+abbrev to-start : tie.After-overflow-counter → tie.Start
+to-start c = c .before .before
+
+abbrev to-overflow-counter : tie.Else1 → tie.After-overflow-counter
+to-overflow-counter c = c .before
+
+abbrev to-else1 : tie.After-overflow-link → tie.Else1
+to-else1 c = c .before .before .before .before
+
+abbrev to-else1-2 : tie.Then3 → tie.Else1
+to-else1-2 c = c .before .before .before .before .before .before
+
+abbrev to-else1-3 : tie.Else3 → tie.Else1
+to-else1-3 c = c .before .before .before .before .before .before
+
 overflow-counter-requires : tie.Need-overflow-counter-requires
 overflow-counter-requires c κs = search needs
 
@@ -58,7 +74,7 @@ returns-2 c = sym (chain-full _ _ _ (counter (c .before)) (slots (c .before) ∙
 overflow-link-requires : tie.Need-overflow-link-requires
 overflow-link-requires c κs = search needs
 
-free : (c : tie.After-overflow-link) → let s = c .before .before .before .before .before .before .before in
+free : (c : tie.After-overflow-link) → let s = to-start (to-overflow-counter (to-else1 c)) in
     let o = overflowAt (decode (s .args .g) (now (s .args .t)) .overflow) (s .args .b .0) in
     cond (eqb (o .link) (s .args .b .0)) Last (further (o .link)) ≡ chainStep (s .args .g) (decode (s .args .g) (now (s .args .t)) .overflow) (s .args .b .0)
 free c =
@@ -67,14 +83,14 @@ free c =
 
 returns-3 : tie.Need-returns-3
 returns-3 c =
-    let s = c .before .before .before .before .before .before .before .before .before in
+    let s = to-start (to-overflow-counter (to-else1-2 c)) in
     let e : overflowAt (decode (s .args .g) (now (s .args .t)) .overflow) (s .args .b .0) .link ≡ s .args .b .0 = sym (c .before .before .overflow-link .ensures) ∙ c .if3 .taken in
     let q = eq-eqb (overflowAt (decode (s .args .g) (now (s .args .t)) .overflow) (s .args .b .0) .link) (s .args .b .0) e in
     ap (λ (r : Bool). cond r Last (further (overflowAt (decode (s .args .g) (now (s .args .t)) .overflow) (s .args .b .0) .link))) (sym q) ∙ free (c .before .before)
 
 returns-4 : tie.Need-returns-4
 returns-4 c =
-    let s = c .before .before .before .before .before .before .before .before .before in
+    let s = to-start (to-overflow-counter (to-else1-3 c)) in
     let q = ne-eqb (overflowAt (decode (s .args .g) (now (s .args .t)) .overflow) (s .args .b .0) .link) (s .args .b .0) (λ e. c .if3 .left (c .before .before .overflow-link .ensures ∙ e)) in
     ap further (c .before .before .overflow-link .ensures) ∙ ap (λ (r : Bool). cond r Last (further (overflowAt (decode (s .args .g) (now (s .args .t)) .overflow) (s .args .b .0) .link))) (sym q) ∙ free (c .before .before)
 

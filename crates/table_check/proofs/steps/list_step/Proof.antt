@@ -21,6 +21,16 @@ use Rattle.table_check.proofs.StepLaws.{list-last, list-other}
 use Rattle.table_check.proofs.steps.list_step.Statement.{statement}
 use Rattle.table_check.proofs.steps.list_step.Tie as tie
 
+-- places, each named once
+abbrev to-start : tie.After-overflow-front → tie.Start
+to-start c = c .before .before
+
+abbrev to-overflow-front : tie.After-struct-known → tie.After-overflow-front
+to-overflow-front c = c .before .before .before .before .before
+
+abbrev to-overflow-front-2 : tie.After-zeros-after → tie.After-overflow-front
+to-overflow-front-2 c = c .before .before .before .before .before .before
+
 overflow-front-requires : tie.Need-overflow-front-requires
 overflow-front-requires c κs = search needs
 
@@ -55,7 +65,7 @@ counter c =
     (w .before .overflow-front .ensures .0, told-last _ _ _ _ (w .step-of .ensures) (c .enum-told .given .1))
 
 add-zeros-after : tie.Need-add-zeros-after
-add-zeros-after c = omega (arith, counter (c .before .before), c .before .before .before .before .before .before .before .pre .0 .proper .sio-high)
+add-zeros-after c = omega (arith, counter (c .before .before), (to-start (to-overflow-front c)) .pre .0 .proper .sio-high)
 
 zeros-after-requires : tie.Need-zeros-after-requires
 zeros-after-requires c κs =
@@ -66,7 +76,7 @@ zeros-after-requires c κs =
     let r = overflow-room (s .args .g) (now (s .args .t)) T (s .args .b .0) (s .pre .1) in
     (omega (arith, counter k), omega (arith, T .room), omega (arith, bits-high (s .args .g) (T .proper)))
 
-unused : (c : tie.After-zeros-after) → let s = c .before .before .before .before .before .before .before .before in
+unused : (c : tie.After-zeros-after) → let s = to-start (to-overflow-front-2 c) in
     overflowUnused (s .args .g) (decode (s .args .g) (now (s .args .t)) .overflow) (s .args .b .0) ≡ c .zeros-after .result
 unused c =
     let k = c .before .before .before in
@@ -81,7 +91,7 @@ unused c =
     ∙ ap (λ (a : ℕ). eqb (field t (a + (n + 1) * g .slot) ((g .sio - (n + 1)) * g .slot)) 0) (sym (c .before .before .overflow-slots .ensures))
     ∙ sym (c .zeros-after .ensures)
 
-last : (c : tie.After-zeros-after) → let a = c .before .before .before .before .before .before .before .before .args in
+last : (c : tie.After-zeros-after) → let a = (to-start (to-overflow-front-2 c)) .args in
     stepAt (a .g) (decode (a .g) (now (a .t)) .overflow) (a .b .0) ≡ Last
 last c = let k = c .before .before .before in told (k .before .before) ∙ k .enum-told .given .1
 

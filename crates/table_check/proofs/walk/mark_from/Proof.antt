@@ -24,11 +24,27 @@ Inv-loop t g chain marks₀ first left₀ marks b left =
 abbrev μ-loop : tie.MeasureT-loop
 μ-loop t g chain marks₀ first left₀ marks b left = left
 
+-- places, each named once
+abbrev to-loop-2 : tie.In-loop Inv-loop μ-loop → tie.At-loop Inv-loop μ-loop
+to-loop-2 c = c .before
+
+abbrev to-loop : tie.Else1 Inv-loop μ-loop → tie.In-loop Inv-loop μ-loop
+to-loop c = c .before .before .before
+
+abbrev to-else1-2 : tie.Then2 Inv-loop μ-loop → tie.Else1 Inv-loop μ-loop
+to-else1-2 c = c .before .before .before
+
+abbrev to-else1 : tie.After-put Inv-loop μ-loop → tie.Else1 Inv-loop μ-loop
+to-else1 c = c .before .before .before .before .before
+
+abbrev to-put : tie.After-known-told Inv-loop μ-loop → tie.After-put Inv-loop μ-loop
+to-put c = c .before .before .before .before .before .before
+
 abbrev start : tie.At-loop Inv-loop μ-loop → tie.Start Inv-loop μ-loop
 start m = m .before .before .before
 
 abbrev head : tie.After-put Inv-loop μ-loop → tie.At-loop Inv-loop μ-loop
-head p = p .before .before .before .before .before .before .before .before .before
+head p = to-loop-2 (to-loop (to-else1 p))
 
 abbrev step : tie.At-loop Inv-loop μ-loop → ℕ → Step
 step m = wayOn (start m .args .g) (decode (start m .args .g) (now (start m .args .t)) .overflow) (start m .args .chain)
@@ -65,11 +81,11 @@ get-requires : tie.Need-get-requires Inv-loop μ-loop
 get-requires c κs = omega arith
 
 same-length-2 : tie.Need-same-length-2 Inv-loop μ-loop
-same-length-2 c = c .before .before .before .before .before .before .before .loop .inv .1
+same-length-2 c = (to-loop-2 (to-loop (to-else1-2 c))) .loop .inv .1
 
 returns-2 : tie.Need-returns-2 Inv-loop μ-loop
 returns-2 c =
-    let m = c .before .before .before .before .before .before .before in
+    let m = to-loop-2 (to-loop (to-else1-2 c)) in
     sym (m .loop .inv .2)
     ∙ walk-met (start m .args .g) (step m) (m .loop .left) (m .loop .b .0) (m .loop .marks) (sym (c .before .get .ensures) ∙ c .if2 .taken)
 
@@ -107,10 +123,10 @@ returns-4 c =
     sym (head (w .before .before .before) .loop .inv .2) ∙ turned w Damage (c .enum-told2 .given .1)
 
 sub-left : tie.Need-sub-left Inv-loop μ-loop
-sub-left c = omega (arith, c .before .before .before .before .before .before .before .before .before .before .before .before .before .before .loop-test .taken)
+sub-left c = omega (arith, (to-loop (to-else1 (to-put c))) .loop-test .taken)
 
 loop-less : tie.Need-loop-less Inv-loop μ-loop
-loop-less c = omega (arith, c .before .before .before .before .before .before .before .before .before .before .before .before .before .before .loop-test .taken)
+loop-less c = omega (arith, (to-loop (to-else1 (to-put c))) .loop-test .taken)
 
 loop-again : tie.Need-loop-again Inv-loop μ-loop
 loop-again c =

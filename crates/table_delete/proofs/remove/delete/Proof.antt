@@ -16,11 +16,36 @@ use Rattle.table_delete.specs.theory.RemoveLaws.{call-illegal, call-shor
 use Rattle.table_delete.proofs.remove.delete.Statement.{statement}
 use Rattle.table_delete.proofs.remove.delete.Tie as tie
 
+-- places, each named once
+abbrev to-start : tie.After-g → tie.Start
+to-start c = c .before .before .before .before
+
+abbrev to-g : tie.Else1 → tie.After-g
+to-g c = c .before .before .before
+
+abbrev to-g-2 : tie.Then1 → tie.After-g
+to-g-2 c = c .before .before .before
+
+abbrev to-else1 : tie.Else2 → tie.Else1
+to-else1 c = c .before .before
+
+abbrev to-else1-2 : tie.Then2 → tie.Else1
+to-else1-2 c = c .before .before
+
+abbrev to-else2 : tie.After-place → tie.Else2
+to-else2 c = c .before
+
+abbrev to-place : tie.After-entry → tie.After-place
+to-place c = c .before .before
+
+abbrev to-entry : tie.After-slice-known2 → tie.After-entry
+to-entry c = c .before .before .before .before .before .before
+
 -- the settings are legal, and the layout is theirs
 laid : (c : tie.After-g) → let s = c .before .before .before .before .args in (legal (s .s) ≡ true) × (layoutOf (s .s) ≡ c .g .given .0 .0)
 laid c = laid-layout (c .before .before .before .before .args .s) (c .g .given .0 .0) (sym (c .before .before .layout .ensures) ∙ c .g .given .1)
 
-key-in : (c : tie.Else2) → let s = c .before .before .before .before .before .before .before .before .before .args in ltb (keyNumber (s .key)) (2 ^ s .s .w) ≡ true
+key-in : (c : tie.Else2) → let s = (to-start (to-g (to-else1 c))) .args in ltb (keyNumber (s .key)) (2 ^ s .s .w) ≡ true
 key-in c = sym (c .before .within .ensures) ∙ not-false (c .before .within .result) (c .if2 .left)
 
 layout-requires : tie.Need-layout-requires
@@ -32,29 +57,29 @@ enum-known-g c = search needs
 returns : tie.Need-returns
 returns c =
     let k = c .before .before .before in
-    let s = c .before .before .before .before .before .before .before .args in
+    let s = (to-start (to-g-2 c)) .args in
     call-short (s .s) (now (s .t)) (s .key) (k .g .given .0 .0) (laid k .0) (laid k .1) (omega arith)
 
 within-requires : tie.Need-within-requires
-within-requires c κs = legal-means (c .before .before .before .before .before .before .before .args .s) (laid (c .before .before .before) .0) .ranges .w-high
+within-requires c κs = legal-means ((to-start (to-g c)) .args .s) (laid (c .before .before .before) .0) .ranges .w-high
 
 returns-2 : tie.Need-returns-2
 returns-2 c =
     let k = c .before .before .before .before .before in
-    let s = c .before .before .before .before .before .before .before .before .before .args in
+    let s = (to-start (to-g (to-else1-2 c))) .args in
     call-key (s .s) (now (s .t)) (s .key) (k .g .given .0 .0) (laid k .0) (laid k .1) (omega arith)
     (sym (c .before .within .ensures) ∙ not-true (c .before .within .result) (c .if2 .taken))
 
 place-requires : tie.Need-place-requires
 place-requires c κs =
-    let s = c .before .before .before .before .before .before .before .before .before .args in
+    let s = (to-start (to-g (to-else1 c))) .args in
     (legal-means (s .s) (laid (c .before .before .before .before .before) .0), ltb-true (keyNumber (s .key)) (2 ^ s .s .w) (key-in c))
 
 find-in-requires : tie.Need-find-in-requires
 find-in-requires c κs =
     let p = c .before .before .before .place in
-    let k = c .before .before .before .before .before .before .before .before .before in
-    let s = c .before .before .before .before .before .before .before .before .before .before .before .before .before .args in
+    let k = to-g (to-else1 (to-else2 (to-place (c .before)))) in
+    let s = (to-start (to-g (to-else1 (to-else2 (to-place (c .before)))))) .args in
     let w = key-in (c .before .before .before .before) in
     let g = k .g .given .0 .0 in (
       opened-table (s .s) g (laid k .0) (laid k .1) (now (s .t)) (omega (arith, c .before .before .before .before .before .before .if1 .left)),
@@ -75,12 +100,12 @@ same-length c = search needs
 
 returns-3 : tie.Need-returns-3
 returns-3 c =
-    let p = c .before .before .before .before .before .before .before .before .place in
-    let k = c .before .before .before .before .before .before .before .before .before .before .before .before .before .before in
-    let s = c .before .before .before .before .before .before .before .before .before .before .before .before .before .before .before .before .before .before .args in
-    let w = key-in (c .before .before .before .before .before .before .before .before .before) in
+    let p = (to-place (to-entry c)) .place in
+    let k = to-g (to-else1 (to-else2 (to-place (to-entry c)))) in
+    let s = (to-start (to-g (to-else1 (to-else2 (to-place (to-entry c)))))) .args in
+    let w = key-in (to-else2 (to-place (to-entry c))) in
     let g = k .g .given .0 .0 in
-    call-on (s .s) (now (s .t)) (s .key) g (laid k .0) (laid k .1) (omega (arith, c .before .before .before .before .before .before .before .before .before .before .before .if1 .left)) w _ _ _ _
+    call-on (s .s) (now (s .t)) (s .key) g (laid k .0) (laid k .1) (omega (arith, (to-else1 (to-else2 (to-place (to-entry c)))) .if1 .left)) w _ _ _ _
     (place-list (s .s) g (laid k .0) (laid k .1) (keyNumber (s .key)) w (p .result) (p .ensures))
     (place-entry (s .s) g (laid k .0) (laid k .1) (keyNumber (s .key)) w (p .result) (p .ensures))
     (c .before .before .delete-found .ensures)

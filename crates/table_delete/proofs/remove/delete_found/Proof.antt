@@ -5,9 +5,19 @@ use denote.Ref.{now}
 use borrow.Author.Needs.{needs}
 use Rattle.keys.specs.Key.{keyNumber}
 use Rattle.table.specs.Decode.{decode}
-use Rattle.table_delete.specs.theory.RemoveLaws.{Found, delete-found, delete-none, delete-refused, deleted-same, deleted-gone, deleted-stuck}
+use Rattle.table_delete.specs.theory.RemoveLaws.{Found, delete-found, delete-none, delete-refused, deleted-same, deleted-gone, deleted-cannot-free}
 use Rattle.table_delete.proofs.remove.delete_found.Statement.{statement}
 use Rattle.table_delete.proofs.remove.delete_found.Tie as tie
+
+-- places, each named once
+abbrev to-slice-known : tie.After-found → tie.After-slice-known
+to-slice-known c = c .before .before
+
+abbrev to-found : tie.Then1 → tie.After-found
+to-found c = c .before .before .before .before .before .before
+
+abbrev to-found-2 : tie.Else1 → tie.After-found
+to-found-2 c = c .before .before .before .before .before .before
 
 -- the entry is there
 there : (c : tie.After-found) → let a = c .before .before .before .args in Found (a .g) (decode (a .g) (now (a .t))) (a .i .0) (keyNumber (a .entry)) (c .found .given .0 .0) (c .found .given .0 .1 .0)
@@ -33,7 +43,7 @@ same-length c = search needs
 
 returns : tie.Need-returns
 returns c =
-    let k = c .before .before .before .before .before .before .before .before in
+    let k = to-slice-known (to-found c) in
     let s = k .before in
     let a = s .args in
     deleted-gone (a .g) (now (a .t)) (s .pre .0) (λ j. omega (arith, k .slice-known .given j)) (a .i .0) (keyNumber (a .entry)) _ _ (there (c .before .before .before .before .before .before)) _ _ (c .before .before .before .remove .ensures) (c .if1 .taken)
@@ -49,10 +59,10 @@ same-length-2 c = search needs
 
 returns-2 : tie.Need-returns-2
 returns-2 c =
-    let k = c .before .before .before .before .before .before .before .before in
+    let k = to-slice-known (to-found-2 c) in
     let s = k .before in
     let a = s .args in
-    deleted-stuck (a .g) (now (a .t)) (s .pre .0) (λ j. omega (arith, k .slice-known .given j)) (a .i .0) (keyNumber (a .entry)) _ _ (there (c .before .before .before .before .before .before)) _ _ (c .before .before .before .remove .ensures) (c .if1 .left)
+    deleted-cannot-free (a .g) (now (a .t)) (s .pre .0) (λ j. omega (arith, k .slice-known .given j)) (a .i .0) (keyNumber (a .entry)) _ _ (there (c .before .before .before .before .before .before)) _ _ (c .before .before .before .remove .ensures) (c .if1 .left)
 
 returns-3 : tie.Need-returns-3
 returns-3 c =

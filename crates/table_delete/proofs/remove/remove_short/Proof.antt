@@ -18,6 +18,13 @@ use Rattle.table_delete.specs.theory.RemoveLaws.{removed-short}
 use Rattle.table_delete.proofs.remove.remove_short.Statement.{statement}
 use Rattle.table_delete.proofs.remove.remove_short.Tie as tie
 
+-- places, each named once
+abbrev to-joined1 : tie.After-clear → tie.Joined1
+to-joined1 c = c .before .before
+
+abbrev to-clear : tie.After-slice-known4 → tie.After-clear
+to-clear c = c .before .before .before .before .before .before
+
 sub-put-basic-counter : tie.Need-sub-put-basic-counter
 sub-put-basic-counter c = search needs
 
@@ -78,12 +85,12 @@ put-basic-counter-requires c κs =
     (table-kept _ (c .before .before .before .clear .kept .0 ∙ long q) (s .pre .0), s .pre .1, omega (arith, s .pre .4, s .pre .0 .proper .basic-holds))
 
 same-length : tie.Need-same-length
-same-length c = c .before .before .put-basic-counter .kept .0 ∙ c .before .before .before .before .before .before .clear .kept .0 ∙ long (c .before .before .before .before .before .before .before .before)
+same-length c = c .before .before .put-basic-counter .kept .0 ∙ c .before .before .before .before .before .before .clear .kept .0 ∙ long (to-joined1 (to-clear c))
 
 returns : tie.Need-returns
 unfolding slotPut
 returns c =
-    let q = c .before .before .before .before .before .before .before .before in
+    let q = to-joined1 (to-clear c) in
     let s = q .before .before .before .before in
     let a = s .args in
     let last = q .before .before .basic-slot in

@@ -17,8 +17,18 @@ use Rattle.table_delete.proofs.shrink.shrink.Statement.{statement}
 use Rattle.table_delete.proofs.shrink.shrink.Tie as tie
 use Rattle.table_store.specs.Stores.{Stored}
 
-clip-requires : tie.Need-clip-requires
-clip-requires c κs = search needs
+-- places, each named once
+abbrev to-start : tie.Else1 → tie.Start
+to-start c = c .before .before
+
+abbrev to-else1 : tie.After-overflow-link → tie.Else1
+to-else1 c = c .before .before
+
+abbrev to-overflow-link : tie.After-slice-known5 → tie.After-overflow-link
+to-overflow-link c = c .before .before .before .before .before
+
+drop-last-slot-requires : tie.Need-drop-last-slot-requires
+drop-last-slot-requires c κs = search needs
 
 same-length : tie.Need-same-length
 same-length c = search needs
@@ -29,7 +39,7 @@ returns c =
     let a = s .args in
     let st = decode (a .g) (now (a .t)) in
     let h : 0 < overflowAt (decode (a .g) (now (a .t)) .overflow) (a .last .0) .counter = omega (arith, s .pre .3, c .before .before .before .before .if1 .taken) in
-    stored-kept (a .i .0) (a .last .0) (a .before) h (c .before .before .clip .ensures)
+    stored-kept (a .i .0) (a .last .0) (a .before) h (c .before .before .drop-last-slot .ensures)
 
 -- the last block has one slot only
 emptied : (c : tie.Else1) → let a = c .before .before .args in overflowAt (decode (a .g) (now (a .t)) .overflow) (a .last .0) .counter ≤ 0
@@ -77,8 +87,8 @@ met c =
     (λ w. subst at (sym (w .8)) (stored-further (a .i .0) (a .last .0) (a .before) (w .1 .given .0 .0) (a .g .sio - 1) (l .result) (w .1 .given .1) refl (l .ensures) (w .5 .ensures)))
     (c .match .came)
 
-release-requires : tie.Need-release-requires
-release-requires c κs =
+free-block-requires : tie.Need-free-block-requires
+free-block-requires c κs =
     let s = c .before .before .before .before .before .before in
     let a = s .args in
     let st = decode (a .g) (now (a .t)) in
@@ -87,18 +97,18 @@ release-requires c κs =
     (m .table, s .pre .2 .low, omega (arith, f, ap (λ (u : State). u .free) (m .state), handed-free (a .g) st (a .i .0) (a .last .0) (a .before)))
 
 same-length-2 : tie.Need-same-length-2
-same-length-2 c = omega (arith, c .before .before .release .kept .0, met (c .before .before .before .before) .only .long)
+same-length-2 c = omega (arith, c .before .before .free-block .kept .0, met (c .before .before .before .before) .only .long)
 
 returns-2 : tie.Need-returns-2
 returns-2 c =
-    let a = c .before .before .before .before .before .before .before .before .before .args in
-    stored-freed (a .i .0) (a .last .0) (a .before) (emptied (c .before .before .before .before .before .before .before)) (met (c .before .before .before .before)) (c .before .before .release .ensures)
+    let a = (to-start (to-else1 (to-overflow-link c))) .args in
+    stored-freed (a .i .0) (a .last .0) (a .before) (emptied (to-else1 (to-overflow-link c))) (met (c .before .before .before .before)) (c .before .before .free-block .ensures)
 
 pub shrink-spec : {M : Type 1} → statement M
 shrink-spec =
     tie.close
     (tie.spec
-    clip-requires
+    drop-last-slot-requires
     same-length
     returns
     overflow-link-requires
@@ -107,6 +117,6 @@ shrink-spec =
     enum-known-before
     sub-put-overflow-front
     put-overflow-front-requires
-    release-requires
+    free-block-requires
     same-length-2
     returns-2)

@@ -8,8 +8,8 @@ use Rattle.table.specs.Decode.{decode}
 use Rattle.table_read.specs.Steps.{Followed}
 use Rattle.table.specs.theory.Ways.{told-further, told-other}
 use Rattle.table_read.specs.theory.Walks.{Turn, turn}
-use Rattle.table_read.specs.Spots.{hasBlock}
-use Rattle.table_read.specs.theory.Spots.{has-here, has-last, has-on}
+use Rattle.table_read.specs.BlockSlots.{hasBlock}
+use Rattle.table_read.specs.theory.BlockSlots.{has-here, has-last, has-on}
 use Rattle.table_read.proofs.lists.list_has_block.Statement.{statement}
 use Rattle.table_read.proofs.lists.list_has_block.Tie as tie
 

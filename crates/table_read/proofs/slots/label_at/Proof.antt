@@ -26,14 +26,14 @@ returns c =
     let s = c .before .before .before .before in
     c .get .ensures ∙ shown-out (now (s .args .t)) (s .args .b) (s .args .at) (s .args .val) (s .pre .0) (omega arith)
 
-seen-requires : tie.Need-seen-requires
-seen-requires c κs = search needs
+restored-requires : tie.Need-restored-requires
+restored-requires c κs = search needs
 
 cast-result-2 : tie.Need-cast-result-2
 cast-result-2 c =
     let s = c .before .before .before .before in
     let f = field-fits (shown (now (s .args .t)) (s .args .b)) (s .args .at) (s .args .val) 32 (s .pre .1) in
-    record { fits = rw (c .seen .ensures) f }
+    record { fits = rw (c .restored .ensures) f }
 
 returns-2 : tie.Need-returns-2
 returns-2 c = search needs
@@ -41,4 +41,4 @@ returns-2 c = search needs
 pub label-at-spec : {M : Type 1} → statement M
 label-at-spec =
     tie.close
-    (tie.spec add-if1 get-requires cast-result returns seen-requires cast-result-2 returns-2)
+    (tie.spec add-if1 get-requires cast-result returns restored-requires cast-result-2 returns-2)

@@ -12,23 +12,23 @@ use Rattle.table_read.proofs.slots.label_in.Tie as tie
 inside : (s : tie.Start) → s .args .b .start + s .args .j .0 * s .args .g .slot + s .args .g .slot ≤ s .args .b .start + s .args .b .count * s .args .g .slot
 inside s = slot-inside (s .args .g) (now (s .args .t)) (s .args .b) (s .args .j .0) (s .pre .2)
 
-mul-seen : tie.Need-mul-seen
-mul-seen c =
+mul-restored : tie.Need-mul-restored
+mul-restored c =
     let s = c .before .before .before in
     omega (arith, inside s, s .pre .1 .near)
 
-add-seen : tie.Need-add-seen
-add-seen c =
+add-restored : tie.Need-add-restored
+add-restored c =
     let s = c .before .before .before .before in
     omega (arith, inside s, s .pre .1 .near)
 
-add-seen-2 : tie.Need-add-seen-2
-add-seen-2 c =
+add-restored-2 : tie.Need-add-restored-2
+add-restored-2 c =
     let s = c .before .before .before .before .before in
     omega (arith, inside s, s .pre .1 .near, s .pre .0 .slot-is)
 
-seen-requires : tie.Need-seen-requires
-seen-requires c κs =
+restored-requires : tie.Need-restored-requires
+restored-requires c κs =
     let s = c .before .before .before .before .before in
     omega (arith, inside s, s .pre .1, s .pre .0 .slot-is, s .pre .0 .val-high)
 
@@ -36,12 +36,12 @@ cast-result : tie.Need-cast-result
 cast-result c =
     let s = c .before .before .before .before .before .before in
     let f = field-fits (shown (now (s .args .t)) (s .args .b)) (s .args .b .start + s .args .j .0 * s .args .g .slot + s .args .g .bie) (s .args .g .val) 32 (s .pre .0 .val-high) in
-    record { fits = rw (c .seen .ensures) f }
+    record { fits = rw (c .restored .ensures) f }
 
 returns : tie.Need-returns
 returns c =
     let s = c .before .before .before .before .before .before in
-    c .seen .ensures ∙ sym (label-in (s .args .g) (now (s .args .t)) (s .args .b) (s .pre .0) (s .args .j .0) (s .pre .2))
+    c .restored .ensures ∙ sym (label-in (s .args .g) (now (s .args .t)) (s .args .b) (s .pre .0) (s .args .j .0) (s .pre .2))
 
 pub label-in-spec : {M : Type 1} → statement M
-label-in-spec = tie.close (tie.spec mul-seen add-seen add-seen-2 seen-requires cast-result returns)
+label-in-spec = tie.close (tie.spec mul-restored add-restored add-restored-2 restored-requires cast-result returns)

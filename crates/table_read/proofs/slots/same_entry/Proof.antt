@@ -10,53 +10,53 @@ use borrow.Author.Needs.{needs}
 use Rattle.table_read.proofs.slots.same_entry.Statement.{statement}
 use Rattle.table_read.proofs.slots.same_entry.Tie as tie
 
-seen-requires : tie.Need-seen-requires
-seen-requires c κs = search needs
+restored-requires : tie.Need-restored-requires
+restored-requires c κs = search needs
 
 returns : tie.Need-returns
 returns c =
     let s = c .before .before .before .before in
-    ap₂ eqb (c .before .seen .ensures) (sym (entry-low (s .args .entry) (s .args .n) (omega arith) (s .pre .2)))
+    ap₂ eqb (c .before .restored .ensures) (sym (entry-low (s .args .entry) (s .args .n) (omega arith) (s .pre .2)))
 
-sub-seen : tie.Need-sub-seen
-sub-seen c = search needs
+sub-restored : tie.Need-sub-restored
+sub-restored c = search needs
 
-add-seen : tie.Need-add-seen
-add-seen c = search needs
+add-restored : tie.Need-add-restored
+add-restored c = search needs
 
-seen-requires-2 : tie.Need-seen-requires-2
-seen-requires-2 c κs = search needs
+restored-requires-2 : tie.Need-restored-requires-2
+restored-requires-2 c κs = search needs
 
 returns-2 : tie.Need-returns-2
 returns-2 c =
     let s = c .before .before .before .before .before in
     sym (entry-differs (shown (now (s .args .t)) (s .args .b)) (s .args .at) (s .args .n) (s .args .entry) (omega arith) (omega (arith, c .before .struct-known2 .given))
-    (λ q. c .if2 .taken (c .before .before .seen2 .ensures ∙ q)))
+    (λ q. c .if2 .taken (c .before .before .restored2 .ensures ∙ q)))
 
-sub-seen-2 : tie.Need-sub-seen-2
-sub-seen-2 c = search needs
+sub-restored-2 : tie.Need-sub-restored-2
+sub-restored-2 c = search needs
 
-seen-requires-3 : tie.Need-seen-requires-3
-seen-requires-3 c κs = search needs
+restored-requires-3 : tie.Need-restored-requires-3
+restored-requires-3 c κs = search needs
 
 returns-3 : tie.Need-returns-3
 returns-3 c =
     let s = c .before .before .before .before .before .before .before in
     let d = c .before .before in
-    ap (λ (x : ℕ). eqb x (s .args .entry .high)) (c .before .seen3 .ensures)
+    ap (λ (x : ℕ). eqb x (s .args .entry .high)) (c .before .restored3 .ensures)
     ∙ entry-halves (shown (now (s .args .t)) (s .args .b)) (s .args .at) (s .args .n) (s .args .entry) (omega arith) (omega (arith, d .before .struct-known2 .given))
-    (sym (d .before .before .seen2 .ensures) ∙ d .if2 .left)
+    (sym (d .before .before .restored2 .ensures) ∙ d .if2 .left)
 
 pub same-entry-spec : {M : Type 1} → statement M
 same-entry-spec =
     tie.close
     (tie.spec
-    seen-requires
+    restored-requires
     returns
-    sub-seen
-    add-seen
-    seen-requires-2
+    sub-restored
+    add-restored
+    restored-requires-2
     returns-2
-    sub-seen-2
-    seen-requires-3
+    sub-restored-2
+    restored-requires-3
     returns-3)

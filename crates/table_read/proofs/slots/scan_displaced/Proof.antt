@@ -26,13 +26,13 @@ plain s h k l m =
     put-out (now (s .args .t)) (s .args .b .start) (s .args .b .link) (s .args .b .head) (s .args .b .start + k * s .args .slot) (s .args .bie) (s .pre .1 .0)
     (inr (omega arith))
 
-scan-seen-requires : tie.Need-scan-seen-requires
+scan-restored-requires : tie.Need-scan-restored-requires
 unfolding keyNumber
-scan-seen-requires c κs = let s = c .before .before .before in (s .pre .0 .0, s .pre .1 .0, s .pre .1 .1, s .pre .1 .2, s .pre .0 .2)
+scan-restored-requires c κs = let s = c .before .before .before in (s .pre .0 .0, s .pre .1 .0, s .pre .1 .1, s .pre .1 .2, s .pre .0 .2)
 
 returns : tie.Need-returns
 unfolding keyNumber
-returns c = c .scan-seen .ensures
+returns c = c .scan-restored .ensures
 
 first-holds-requires : tie.Need-first-holds-requires
 unfolding keyNumber
@@ -96,7 +96,7 @@ pub scan-displaced-spec : {M : Type 1} → statement M
 scan-displaced-spec =
     tie.close
     (tie.spec
-    scan-seen-requires
+    scan-restored-requires
     returns
     first-holds-requires
     returns-2

@@ -5,7 +5,7 @@ use native.Mathlib.Omega.{arith}
 use native.Mathlib.Nat.{mod-lt}
 use lib.Pow.{pow-pos, mod-mod-pow}
 use borrow.Author.Needs.{needs}
-use Rattle.bits.specs.Word.{turned}
+use Rattle.bits.specs.Word.{swapped}
 use Rattle.bits.specs.theory.Words.{turned-twice}
 use Rattle.table_read.proofs.WindowLaws.{by-window, words-within, tails-within, last-of, all-of, turned-four}
 use Rattle.table_read.proofs.windows.candidate.Statement.{statement}
@@ -32,8 +32,8 @@ sub-part-of-two-2 c = search needs
 part-of-two-requires : tie.Need-part-of-two-requires
 part-of-two-requires c κs = search needs
 
-turn-requires : tie.Need-turn-requires
-turn-requires c κs = search needs
+swap-bytes-requires : tie.Need-swap-bytes-requires
+swap-bytes-requires c κs = search needs
 
 candidate-words-requires : tie.Need-candidate-words-requires
 candidate-words-requires c κs =
@@ -47,7 +47,7 @@ returns c =
     let o : ℕ = 8 * ((s .args .start + 7) / 8) - s .args .start in
     let l : w .part-of-two .result < 2 ^ 64 = rw (w .part-of-two .ensures) (mod-lt _ (pow-pos 64)) in
     by-window _ _ _ _ _ _ _ _ _ _ _ o (s .args .bie - o - 64) (omega arith) (omega arith) (omega arith)
-    (ap turned (c .before .turn .ensures) ∙ turned-twice _ l ∙ w .part-of-two .ensures) (c .candidate-words .ensures)
+    (ap swapped (c .before .swap-bytes .ensures) ∙ turned-twice _ l ∙ w .part-of-two .ensures) (c .candidate-words .ensures)
 
 add-if3 : tie.Need-add-if3
 add-if3 c = search needs
@@ -61,8 +61,8 @@ sub-part-of-two-4 c = search needs
 part-of-two-requires-2 : tie.Need-part-of-two-requires-2
 part-of-two-requires-2 c κs = search needs
 
-turn-requires-2 : tie.Need-turn-requires-2
-turn-requires-2 c κs = search needs
+swap-bytes-requires-2 : tie.Need-swap-bytes-requires-2
+swap-bytes-requires-2 c κs = search needs
 
 next-four-requires : tie.Need-next-four-requires
 next-four-requires c κs =
@@ -76,7 +76,7 @@ returns-2 c =
     let s = w .before .before .before .before .before in
     let o : ℕ = 8 * ((s .args .start + 7) / 8) - s .args .start in
     by-window _ _ _ _ _ _ _ _ _ _ _ o (s .args .bie - o - 32) (omega arith) (omega arith) (omega arith)
-    (ap (λ (x : ℕ). turned (x / 4294967296 * 2 ^ 32)) (c .before .turn2 .ensures)
+    (ap (λ (x : ℕ). swapped (x / 4294967296 * 2 ^ 32)) (c .before .swap-bytes2 .ensures)
     ∙ turned-four (w .part-of-two2 .result)
     ∙ ap (λ (x : ℕ). x % 2 ^ 32) (w .part-of-two2 .ensures)
     ∙ mod-mod-pow _ 32 32)
@@ -132,14 +132,14 @@ candidate-spec =
     sub-part-of-two
     sub-part-of-two-2
     part-of-two-requires
-    turn-requires
+    swap-bytes-requires
     candidate-words-requires
     returns
     add-if3
     sub-part-of-two-3
     sub-part-of-two-4
     part-of-two-requires-2
-    turn-requires-2
+    swap-bytes-requires-2
     next-four-requires
     returns-2
     mul-if4

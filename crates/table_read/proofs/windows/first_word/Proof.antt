@@ -3,14 +3,14 @@ use mathlib.Core.Path.{_≡_, sym, _∙_}
 use Prim.Native.Nat.{_+_, _-_, _*_, _≤_}
 use native.Mathlib.Omega.{arith}
 use borrow.Author.Tests.{eqb-false}
-use Rattle.bits.specs.Word.{turned}
+use Rattle.bits.specs.Word.{swapped}
 use Rattle.table_read.proofs.WindowLaws.{Back, back, in-bits, Past, past-here, past-more, past-all}
 use Rattle.table_read.proofs.windows.first_word.Statement.{statement}
 use Rattle.table_read.proofs.windows.first_word.Tie as tie
 
 abbrev Inv-loop : tie.InvT-loop
 Inv-loop t i step n q r₀ j₀ p₀ r j p =
-    (j ≤ n) × (p ≡ i + j * step) × Past t (8 * i) (8 * step) 64 (turned q) n j r
+    (j ≤ n) × (p ≡ i + j * step) × Past t (8 * i) (8 * step) 64 (swapped q) n j r
 
 abbrev μ-loop : tie.MeasureT-loop
 μ-loop t i step n q r₀ j₀ p₀ r j p = j

@@ -4,14 +4,14 @@ use Prim.Native.Nat.{_+_, _-_, _*_, _^_}
 use native.Mathlib.Omega.{arith}
 use native.Mathlib.Nat.{mul-le-mul-right}
 use borrow.Author.Tests.{eqb-false}
-use Rattle.bits.specs.Word.{turned}
+use Rattle.bits.specs.Word.{swapped}
 use Rattle.table_read.specs.Rows.{Unlike}
 use Rattle.table_read.proofs.WindowLaws.{in-bits, unlike-none, unlike-more}
 use Rattle.table_read.proofs.windows.next_four.Statement.{statement}
 use Rattle.table_read.proofs.windows.next_four.Tie as tie
 
 abbrev Inv-loop : tie.InvT-loop
-Inv-loop t i step n q p₀ j₀ p j = (p ≡ i + j * step) × Unlike t (8 * i) (8 * step) 32 (turned (q * 2 ^ 32)) n j
+Inv-loop t i step n q p₀ j₀ p j = (p ≡ i + j * step) × Unlike t (8 * i) (8 * step) 32 (swapped (q * 2 ^ 32)) n j
 
 abbrev μ-loop : tie.MeasureT-loop
 μ-loop t i step n q p₀ j₀ p j = n - j

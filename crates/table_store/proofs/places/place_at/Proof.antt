@@ -7,7 +7,7 @@ use borrow.Author.Needs.{needs}
 use borrow.Author.Tests.{lt-ltb, le-ltb}
 use Rattle.table.specs.Decode.{decode}
 use Rattle.table_read.specs.Places.{overflowSlot}
-use Rattle.table_read.specs.declared.lists.Spot.{Spot}
+use Rattle.table_read.specs.declared.lists.BlockSlot.{BlockSlot}
 use Rattle.table_read.specs.theory.Reads.{sized}
 use Rattle.table_store.specs.Places.{placeFrom}
 use Rattle.table_store.specs.theory.PlaceLaws.{spotted-at}
@@ -23,17 +23,17 @@ returns c =
     let s = c .before .before .before .before in
     c .basic-slot .ensures ∙ sym (rw (lt-ltb (s .args .p) (s .args .g .sib) (c .before .if1 .taken)))
 
-spot-of-requires : tie.Need-spot-of-requires
-spot-of-requires c κs = let s = c .before .before .before .before in (s .pre .0, s .pre .1 .reaches (c .before .if1 .left))
+block-slot-of-requires : tie.Need-block-slot-of-requires
+block-slot-of-requires c κs = let s = c .before .before .before .before in (s .pre .0, s .pre .1 .reaches (c .before .if1 .left))
 
 -- the place is in a block of the table
-spot-low : (c : tie.After-spot-of) → let s = c .before .before .before .before .before in (c .spot-of .result .block .0 < s .args .g .nob) × (c .spot-of .result .slot .0 < s .args .g .sio)
+spot-low : (c : tie.After-block-slot-of) → let s = c .before .before .before .before .before in (c .block-slot-of .result .block .0 < s .args .g .nob) × (c .block-slot-of .result .slot .0 < s .args .g .sio)
 spot-low c =
     let s = c .before .before .before .before .before in
     let a = s .args in
     let k = spotted-at (a .g) (decode (a .g) (now (a .t)) .overflow) (sized (a .g) (now (a .t)) (s .pre .0)) (a .h .0) (a .p - a .g .sib) (s .pre .1 .reaches (c .before .before .if1 .left)) in
-    let b : c .spot-of .result .block .0 ≡ _ = ap (λ (x : Spot). x .block .0) (c .spot-of .ensures) in
-    let d : c .spot-of .result .slot .0 ≡ _ = ap (λ (x : Spot). x .slot .0) (c .spot-of .ensures) in
+    let b : c .block-slot-of .result .block .0 ≡ _ = ap (λ (x : BlockSlot). x .block .0) (c .block-slot-of .ensures) in
+    let d : c .block-slot-of .result .slot .0 ≡ _ = ap (λ (x : BlockSlot). x .slot .0) (c .block-slot-of .ensures) in
     (omega (arith, b, k .low), omega (arith, d, k .few))
 
 overflow-slot-requires : tie.Need-overflow-slot-requires
@@ -44,10 +44,10 @@ unfolding placeFrom
 returns-2 c =
     let s = c .before .before .before .before .before .before in
     c .overflow-slot .ensures
-    ∙ ap (λ (x : Spot). overflowSlot (s .args .g) (x .block .0) (x .slot .0)) (c .before .spot-of .ensures)
+    ∙ ap (λ (x : BlockSlot). overflowSlot (s .args .g) (x .block .0) (x .slot .0)) (c .before .block-slot-of .ensures)
     ∙ sym (rw (le-ltb (s .args .p) (s .args .g .sib) (c .before .before .before .if1 .left)))
 
 pub place-at-spec : {M : Type 1} → statement M
 place-at-spec =
     tie.close
-    (tie.spec basic-slot-requires returns spot-of-requires overflow-slot-requires returns-2)
+    (tie.spec basic-slot-requires returns block-slot-of-requires overflow-slot-requires returns-2)

@@ -11,6 +11,13 @@ use Rattle.table_store.specs.theory.StoreLaws.{slot-words, entry-high, p
 use Rattle.table_store.proofs.slots.put_slot.Statement.{statement}
 use Rattle.table_store.proofs.slots.put_slot.Tie as tie
 
+-- places, each named once
+abbrev to-slice-known : tie.After-put-wide2 → tie.After-slice-known
+to-slice-known c = c .before .before .before
+
+abbrev to-put-wide2 : tie.After-slice-known4 → tie.After-put-wide2
+to-put-wide2 c = c .before .before .before .before .before .before
+
 add-n : tie.Need-add-n
 add-n c = search needs
 
@@ -60,7 +67,7 @@ same-length-2 c = search needs
 
 returns-2 : tie.Need-returns-2
 returns-2 c =
-    let k = c .before .before .before .before .before .before .before .before .before in
+    let k = to-slice-known (to-put-wide2 c) in
     let s = k .before in
     let a = s .args in
     put-back (now (a .t)) _ _ (a .at) (a .bie) (a .at + a .bie) (a .val) (a .bie + a .val) (a .high * 2 ^ 64 + a .low) (0 + a .label) _

@@ -10,6 +10,13 @@ use Rattle.table_store.specs.theory.StoreLaws.{stored-over}
 use Rattle.table_store.proofs.slots.store_over_displaced.Statement.{statement}
 use Rattle.table_store.proofs.slots.store_over_displaced.Tie as tie
 
+-- places, each named once
+abbrev to-put-slot : tie.After-get-arg2 → tie.After-put-slot
+to-put-slot c = c .before .before .before
+
+abbrev to-get-arg2 : tie.After-slice-known4 → tie.After-get-arg2
+to-get-arg2 c = c .before .before .before .before .before
+
 get-requires : tie.Need-get-requires
 get-requires c κs = search needs
 
@@ -42,7 +49,7 @@ same-length c = search needs
 returns : tie.Need-returns
 unfolding keyNumber
 returns c =
-    let q = c .before .before .before .before .before .before .before .before in
+    let q = to-put-slot (to-get-arg2 c) in
     let p = q .before .before .before .before in
     let s = p .before .before .before .before .before .before in
     stored-over _ _ (now (s .args .t)) _ _ _ _ _ _ _ _ _ (p .before .before .get .ensures) (p .put .ensures) (q .put-slot .ensures) (c .before .before .before .before .get2 .ensures) (c .before .before .put2 .ensures)

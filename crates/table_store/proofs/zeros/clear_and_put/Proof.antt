@@ -7,6 +7,13 @@ use Rattle.bits.specs.Put.{putField}
 use Rattle.table_store.proofs.zeros.clear_and_put.Statement.{statement}
 use Rattle.table_store.proofs.zeros.clear_and_put.Tie as tie
 
+-- places, each named once
+abbrev to-start : tie.After-clear → tie.Start
+to-start c = c .before .before .before
+
+abbrev to-clear : tie.After-slice-known3 → tie.After-clear
+to-clear c = c .before .before .before .before .before .before
+
 clear-requires : tie.Need-clear-requires
 clear-requires c κs = search needs
 
@@ -18,7 +25,7 @@ same-length c = search needs
 
 returns : tie.Need-returns
 returns c =
-    let a = c .before .before .before .before .before .before .before .before .before .args in
+    let a = (to-start (to-clear c)) .args in
     c .before .before .put .ensures
     ∙ ap (λ (x : List ℕ). putField x (a .at) (a .k) (a .v)) (c .before .before .before .before .before .before .clear .ensures)
 

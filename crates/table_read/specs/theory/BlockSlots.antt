@@ -15,7 +15,7 @@ use Rattle.table.specs.State.{Overflow, State, basicAt, overflowAt, unpack}
 use Rattle.table.specs.Follow.{Seen, seen, lastOf, cons?, follow, gather, contentOver, content}
 use Rattle.table.specs.Take.{occurs}
 use Rattle.table_read.specs.Steps.{lastFrom, Followed}
-use Rattle.table_read.specs.Spots.{blocksFrom, hasBlock, spot, spotIn, Reaches}
+use Rattle.table_read.specs.BlockSlots.{blocksFrom, hasBlock, blockSlot, blockSlotIn, Reaches}
 use Rattle.table_read.specs.theory.Reads.{unpack-length}
 use Rattle.table_read.specs.theory.Walks.{follow-here, follow-on, Turn, Chain, ends, more, Walk, lost, ended, walk, followed, content-high, content-bad, content-over}
 
@@ -50,7 +50,7 @@ module _ (g : Layout) (os : List Overflow) where
     pub others : List ℕ
     pub chain : Chain g os b others
     pub within : q < length (gather g os (b ∷ others))
-    pub same : spotIn g (b ∷ others) q ≡ spotIn g (blocksFrom g os first) p
+    pub same : blockSlotIn g (b ∷ others) q ≡ blockSlotIn g (blocksFrom g os first) p
 
   pub going-first : (first p : ℕ) → Reaches g os first p → Going first p first p
   going-first first p r =
@@ -59,10 +59,10 @@ module _ (g : Layout) (os : List Overflow) where
         others = c .others;
         chain = c .chain;
         within = rw (c .are) at (r .within);
-        same = ap (λ (bs : List ℕ). spotIn g bs p) (sym (c .are));
+        same = ap (λ (bs : List ℕ). blockSlotIn g bs p) (sym (c .are));
       }
 
-  pub going-here : (first p b q : ℕ) → Going first p b q → q < g .sio → spot b q ≡ spotIn g (blocksFrom g os first) p
+  pub going-here : (first p b q : ℕ) → Going first p b q → q < g .sio → blockSlot b q ≡ blockSlotIn g (blocksFrom g os first) p
   going-here first p b q m l = rw (lt-ltb q (g .sio) l) at (m .same)
 
   -- a decoded block has sio slots
@@ -85,7 +85,7 @@ module _ (g : Layout) (os : List Overflow) where
     last-one {b} {q} h m = omega (arith, one-block [] h)
 
     going-on-as : (first p b q : ℕ) {cs : List ℕ} → g .sio ≤ q → Chain g os b cs → q < length (gather g os (b ∷ cs))
-        → spotIn g (b ∷ cs) q ≡ spotIn g (blocksFrom g os first) p → Going first p (overflowAt os b .link) (q - g .sio)
+        → blockSlotIn g (b ∷ cs) q ≡ blockSlotIn g (blocksFrom g os first) p → Going first p (overflowAt os b .link) (q - g .sio)
     going-on-as first p b q l (ends h k) m e = absurd (let z = last-one h m in omega arith)
     going-on-as first p b q l (more {cs} h k c) m e =
         record {
@@ -114,7 +114,7 @@ module _ (g : Layout) (os : List Overflow) where
 
     -- it is in the last block, and is the slot that the counter there names
     pub last-spot : {b : ℕ} {cs : List ℕ} → Chain g os b cs
-        → spotIn g (b ∷ cs) (length (gather g os (b ∷ cs)) - 1) ≡ spot (lastOf b cs) (overflowAt os (lastOf b cs) .counter)
+        → blockSlotIn g (b ∷ cs) (length (gather g os (b ∷ cs)) - 1) ≡ blockSlot (lastOf b cs) (overflowAt os (lastOf b cs) .counter)
     last-spot (ends {b} h l) =
         let n = overflowAt os b .counter in
         let e : length (gather g os (b ∷ [])) - 1 ≡ n = omega (arith, one-block [] h) in

@@ -6,9 +6,9 @@ use denote.Ref.{now}
 use Rattle.table.specs.Decode.{decode}
 use Rattle.table_read.specs.theory.Reads.{sized}
 use Rattle.table.specs.theory.Ways.{told-further, told-other}
-use Rattle.table_read.specs.theory.Spots.{chain-low, Going, going-first, going-here, going-on, going-full}
-use Rattle.table_read.proofs.lists.spot_of.Statement.{statement}
-use Rattle.table_read.proofs.lists.spot_of.Tie as tie
+use Rattle.table_read.specs.theory.BlockSlots.{chain-low, Going, going-first, going-here, going-on, going-full}
+use Rattle.table_read.proofs.lists.block_slot_of.Statement.{statement}
+use Rattle.table_read.proofs.lists.block_slot_of.Tie as tie
 
 abbrev Inv-loop : tie.InvT-loop
 Inv-loop t g p first q₀ b q = Going g (decode g t .overflow) (first .0) p (b .0) q
@@ -63,8 +63,8 @@ returns-2 c =
     ∙ going-full (s .args .g) (decode (s .args .g) (now (s .args .t)) .overflow) (sized (s .args .g) (now (s .args .t)) (s .pre .0))
     (s .args .first .0) (s .args .p) (m .loop .b .0) (m .loop .q) (m .loop .inv) (omega arith)))
 
-pub spot-of-spec : {M : Type 1} → statement M
-spot-of-spec =
+pub block-slot-of-spec : {M : Type 1} → statement M
+block-slot-of-spec =
     tie.close
     (tie.spec
     Inv-loop

@@ -10,8 +10,8 @@ use lib.Dec.{eqb}
 use Rattle.bits.specs.Field.{field}
 use Rattle.keys.specs.Key.{keyNumber}
 use Rattle.table_read.specs.Steps.{shown}
-use Rattle.table_read.proofs.slots.scan_seen.Statement.{statement}
-use Rattle.table_read.proofs.slots.scan_seen.Tie as tie
+use Rattle.table_read.proofs.slots.scan_restored.Statement.{statement}
+use Rattle.table_read.proofs.slots.scan_restored.Tie as tie
 
 abbrev Inv-loop : tie.InvT-loop
 Inv-loop t b slot bie entry at₀ j₀ at j =
@@ -78,8 +78,8 @@ returns-2 c =
     let m = c .before .before in
     record { high = omega arith; before = m .loop .inv .2; found = λ h. absurd (omega arith) }
 
-pub scan-seen-spec : {M : Type 1} → statement M
-scan-seen-spec =
+pub scan-restored-spec : {M : Type 1} → statement M
+scan-restored-spec =
     tie.close
     (tie.spec
     Inv-loop

@@ -3,8 +3,8 @@ use mathlib.Core.Path.{ap}
 use lib.Dec.{ltb}
 use borrow.Author.Needs.{needs}
 use borrow.Author.Tests.{lt-ltb, le-ltb}
-use Rattle.table_delete.proofs.shrink.stuck.Statement.{statement}
-use Rattle.table_delete.proofs.shrink.stuck.Tie as tie
+use Rattle.table_delete.proofs.shrink.cannot_free.Statement.{statement}
+use Rattle.table_delete.proofs.shrink.cannot_free.Tie as tie
 use Rattle.table.specs.Delete.{cannotFree}
 
 returns : tie.Need-returns
@@ -20,5 +20,5 @@ returns-2 c =
     let a = c .before .before .before .before .before .args in
     rw (le-ltb 0 (a .n) (c .before .before .before .if1 .left)) (ap (ltb (a .g .nob)) (c .before .before .free-start .ensures))
 
-pub stuck-spec : {M : Type 1} → statement M
-stuck-spec = tie.close (tie.spec returns free-start-requires returns-2)
+pub cannot-free-spec : {M : Type 1} → statement M
+cannot-free-spec = tie.close (tie.spec returns free-start-requires returns-2)

@@ -5,8 +5,18 @@ use denote.Ref.{now}
 use Rattle.table.specs.State.{State}
 use Rattle.table.specs.Decode.{decode}
 use Rattle.table_add.proofs.FreeLaws.{free-high, free-none, free-bad, free-end, free-on}
-use Rattle.table_add.proofs.append.free_block.Statement.{statement}
-use Rattle.table_add.proofs.append.free_block.Tie as tie
+use Rattle.table_add.proofs.append.first_free.Statement.{statement}
+use Rattle.table_add.proofs.append.first_free.Tie as tie
+
+-- places, each named once
+abbrev to-start : tie.After-free-start → tie.Start
+to-start c = c .before .before
+
+abbrev to-free-start : tie.Then2 → tie.After-free-start
+to-free-start c = c .before .before .before .before .before .before
+
+abbrev to-free-start-2 : tie.Else2 → tie.After-free-start
+to-free-start-2 c = c .before .before .before .before .before .before
 
 abbrev held : tie.Start → State
 held s = decode (s .args .g) (now (s .args .t))
@@ -21,18 +31,18 @@ returns c =
 
 returns-2 : tie.Need-returns-2
 returns-2 c =
-    let s = c .before .before .before .before .before .before .before .before in
+    let s = to-start (to-free-start c) in
     free-none (s .args .g) (held s) (sym (c .before .before .before .before .before .before .free-start .ensures) ∙ c .if2 .taken)
 
 overflow-link-requires : tie.Need-overflow-link-requires
 overflow-link-requires c κs =
-    let s = c .before .before .before .before .before .before .before .before in
+    let s = to-start (to-free-start-2 c) in
     (s .pre, omega (arith, c .if2 .left, c .before .before .before .if1 .left))
 
 returns-3 : tie.Need-returns-3
 returns-3 c =
     let e = c .before .before .before in
-    let s = e .before .before .before .before .before .before .before .before in
+    let s = to-start (to-free-start-2 e) in
     free-bad (s .args .g) (held s) (e .before .before .before .before .before .before .free-start .result .0) (c .before .before .overflow-link .result)
     (e .before .before .before .before .before .before .free-start .ensures) (c .before .before .overflow-link .ensures)
     (omega (arith, e .if2 .left, e .before .before .before .if1 .left)) (c .if3 .taken)
@@ -40,7 +50,7 @@ returns-3 c =
 returns-4 : tie.Need-returns-4
 returns-4 c =
     let e = c .before .before .before .before .before in
-    let s = e .before .before .before .before .before .before .before .before in
+    let s = to-start (to-free-start-2 e) in
     free-end (s .args .g) (held s) (e .before .before .before .before .before .before .free-start .result .0) (c .before .before .before .before .overflow-link .result)
     (e .before .before .before .before .before .before .free-start .ensures) (c .before .before .before .before .overflow-link .ensures)
     (omega (arith, e .if2 .left, e .before .before .before .if1 .left)) (c .before .before .if3 .left) (c .if4 .taken)
@@ -48,13 +58,13 @@ returns-4 c =
 returns-5 : tie.Need-returns-5
 returns-5 c =
     let e = c .before .before .before .before .before in
-    let s = e .before .before .before .before .before .before .before .before in
+    let s = to-start (to-free-start-2 e) in
     free-on (s .args .g) (held s) (e .before .before .before .before .before .before .free-start .result .0) (c .before .before .before .before .overflow-link .result)
     (e .before .before .before .before .before .before .free-start .ensures) (c .before .before .before .before .overflow-link .ensures)
     (omega (arith, e .if2 .left, e .before .before .before .if1 .left)) (c .before .before .if3 .left) (c .if4 .left)
 
-pub free-block-spec : {M : Type 1} → statement M
-free-block-spec =
+pub first-free-spec : {M : Type 1} → statement M
+first-free-spec =
     tie.close
     (tie.spec
     free-start-requires

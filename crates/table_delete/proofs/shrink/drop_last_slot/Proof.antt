@@ -6,8 +6,8 @@ use Rattle.table_read.specs.Places.{BlockIn}
 use Rattle.table.specs.theory.Changes.{bits-high}
 use Rattle.table_delete.specs.theory.DeleteLaws.{stored-slot-off}
 use Rattle.table_read.specs.theory.Places.{over-in, overflow-slot-ends}
-use Rattle.table_delete.proofs.shrink.clip.Statement.{statement}
-use Rattle.table_delete.proofs.shrink.clip.Tie as tie
+use Rattle.table_delete.proofs.shrink.drop_last_slot.Statement.{statement}
+use Rattle.table_delete.proofs.shrink.drop_last_slot.Tie as tie
 
 -- block j
 block : (s : tie.Start) → BlockIn (now (s .args .t)) (s .args .g .overflow) (s .args .j .0) 0
@@ -41,8 +41,8 @@ returns c =
     stored-slot-off (s .args .g) (now (s .args .t)) (s .pre .0) (s .args .j .0) (s .pre .1) (s .args .n) _ _ (s .pre .3) (s .pre .4)
     (k .before .overflow-slot .ensures) (k .counter-at .ensures) _ (c .before .before .clear-and-put .ensures)
 
-pub clip-spec : {M : Type 1} → statement M
-clip-spec =
+pub drop-last-slot-spec : {M : Type 1} → statement M
+drop-last-slot-spec =
     tie.close
     (tie.spec
     overflow-slot-requires

@@ -8,8 +8,8 @@ use Rattle.bits.specs.theory.Fields.{field-fits}
 use Rattle.table_read.specs.Steps.{shown}
 use Rattle.table_read.specs.theory.Reads.{shown-out, shown-in, shown-across}
 use borrow.Author.Needs.{needs}
-use Rattle.table_read.proofs.slots.seen.Statement.{statement}
-use Rattle.table_read.proofs.slots.seen.Tie as tie
+use Rattle.table_read.proofs.slots.restored.Statement.{statement}
+use Rattle.table_read.proofs.slots.restored.Tie as tie
 
 -- the two parts of a field across the end
 across : (c : tie.After-get2)
@@ -73,8 +73,8 @@ join-requires c κs =
 returns-3 : tie.Need-returns-3
 returns-3 c = c .join .ensures ∙ across (c .before)
 
-pub seen-spec : {M : Type 1} → statement M
-seen-spec =
+pub restored-spec : {M : Type 1} → statement M
+restored-spec =
     tie.close
     (tie.spec
     add-end

@@ -4,8 +4,8 @@ use native.Mathlib.Omega.{arith}
 use denote.Ref.{now}
 use borrow.Author.Needs.{needs}
 use Rattle.table_delete.specs.theory.DeleteLaws.{link-free-fits, stored-free-block}
-use Rattle.table_delete.proofs.shrink.release.Statement.{statement}
-use Rattle.table_delete.proofs.shrink.release.Tie as tie
+use Rattle.table_delete.proofs.shrink.free_block.Statement.{statement}
+use Rattle.table_delete.proofs.shrink.free_block.Tie as tie
 
 free-start-requires : tie.Need-free-start-requires
 free-start-requires c κs = search needs
@@ -38,8 +38,8 @@ returns c =
     stored-free-block (s .args .g) (now (s .args .t)) (s .pre .0) (s .args .j .0) (f .result .0) _ (s .pre .1) (f .ensures) (e .before .link-free .ensures) _ _
     (e .empty-block .ensures) (c .before .before .put-free-start .ensures)
 
-pub release-spec : {M : Type 1} → statement M
-release-spec =
+pub free-block-spec : {M : Type 1} → statement M
+free-block-spec =
     tie.close
     (tie.spec
     free-start-requires

@@ -10,7 +10,7 @@ use Rattle.table.specs.State.{Overflow}
 use Rattle.table.specs.Follow.{follow, gather}
 use Rattle.table.specs.Take.{occurs}
 use Rattle.table_read.specs.Steps.{Followed}
-use Rattle.table_read.specs.declared.lists.Spot.{Spot}
+use Rattle.table_read.specs.declared.lists.BlockSlot.{BlockSlot}
 
 -- the blocks that were followed; none where there is damage
 abbrev pub blocksIn : Option (List ℕ) → List ℕ
@@ -18,8 +18,8 @@ blocksIn none = []
 blocksIn (some bs) = bs
 
 -- slot q of block b
-abbrev pub spot : ℕ → ℕ → Spot
-spot b q = record { block = record { 0 = b }; slot = record { 0 = q } }
+abbrev pub blockSlot : ℕ → ℕ → BlockSlot
+blockSlot b q = record { block = record { 0 = b }; slot = record { 0 = q } }
 
 module _ (g : Layout) where
   -- the list's overflow blocks from block b on
@@ -31,9 +31,9 @@ module _ (g : Layout) where
   hasBlock n os b f = ltb 0 (occurs f (blocksIn (follow g n os b)))
 
   -- place q of the blocks, counted through them
-  abbrev pub spotIn : List ℕ → ℕ → Spot
-  spotIn [] q = spot (g .nob) q
-  spotIn (b ∷ bs) q = cond (ltb q (g .sio)) (spot b q) (spotIn bs (q - g .sio))
+  abbrev pub blockSlotIn : List ℕ → ℕ → BlockSlot
+  blockSlotIn [] q = blockSlot (g .nob) q
+  blockSlotIn (b ∷ bs) q = cond (ltb q (g .sio)) (blockSlot b q) (blockSlotIn bs (q - g .sio))
 
   -- the list that goes on at block b has an end, and place q is in it
   pub record Reaches (os : List Overflow) (b q : ℕ) : Type 0 where
