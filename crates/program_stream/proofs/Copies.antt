@@ -8,7 +8,7 @@ use native.Mathlib.Omega.{arith}
 use lib.ListN.{length, getD, set, take, drop, length-drop}
 use lib.Seq.{length-take-le, take-suc, take-append-le, take-append-add, getD-drop, take-suc-set, drop-set-lt, drop-drop}
 
--- a text that was put at the start of the part from `made` on, seen in the whole
+-- a text that was put at the start of the part from `made` on, read in the whole
 pub part-written : (out ys z text : List ℕ) (made n : ℕ) → made ≤ length out → n ≤ length ys → take n ys ≡ text
     → take (made + n) (take made out ++ (ys ++ z)) ≡ take made out ++ text
 part-written out ys z text made n h k e =

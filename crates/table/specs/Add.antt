@@ -9,7 +9,7 @@ use Rattle.settings.specs.declared.layout.Layout.{Layout}
 use Rattle.settings.specs.declared.refusal.Refusal.the-variants as refusal
 use Rattle.table.specs.State.{Basic, Overflow, State, basicAt, overflowAt, ownSlots, basicOf, slotOf}
 use Rattle.table.specs.Updates.{withCounter, withFront, withSlot, withBasicFront, overBasic, overOverflow}
-use Rattle.table.specs.Follow.{Seen, lastOf, content}
+use Rattle.table.specs.Follow.{Content, lastOf, content}
 use Rattle.table.specs.Find.{isHeld, labelAt, comparedIn}
 use Rattle.table.specs.Done.{Done, done, Answered, unchanged, answered}
 use Rattle.table.specs.Take.{nextFree, taking, taken}
@@ -43,13 +43,13 @@ module _ (g : Layout) where
       cond (ltb (suc (o .counter)) (g .sio)) (done (overOverflow l (oneMore x) st))
       (extended st (c ∷ cs) (o .link) x (λ f. overOverflow l (withFront (g .sio) f)))
 
-  unfoldable pub addSeen : State → ℕ → ℕ → ℕ → Option Seen → Answered AddAnswer
-  addSeen st i e label none = unchanged st (answer.Refused refusal.Damage)
-  addSeen st i e label (some v) =
+  unfoldable pub addFollowed : State → ℕ → ℕ → ℕ → Option Content → Answered AddAnswer
+  addFollowed st i e label none = unchanged st (answer.Refused refusal.Damage)
+  addFollowed st i e label (some v) =
       let n = comparedIn g e (v .slots) in
       cond (isHeld g e (v .slots)) (unchanged st (answer.Held (labelAt g e (v .slots)) n))
       (answered answer.Refused st (answer.Added label n) (append st i (v .blocks) (slotOf g e label)))
 
   -- add of the entry e with a label to list i
   unfoldable pub addIn : State → ℕ → ℕ → ℕ → Answered AddAnswer
-  addIn st i e label = addSeen st i e label (content g st i)
+  addIn st i e label = addFollowed st i e label (content g st i)

@@ -11,11 +11,11 @@ use Rattle.settings.specs.declared.layout.Layout.{Layout}
 use Rattle.table.specs.Arrays.{cleared}
 use Rattle.table.specs.State.{Basic, Overflow, State, overflowAt, ownSlots, entryOf}
 use Rattle.table.specs.Decode.{decode}
-use Rattle.table.specs.Follow.{Seen, cons?, contentOf}
+use Rattle.table.specs.Follow.{Content, cons?, contentOf}
 use Rattle.table.specs.Take.{occurs}
 
 -- the overflow blocks of a list that was followed
-abbrev pub blocksOf : Option Seen → List ℕ
+abbrev pub blocksOf : Option Content → List ℕ
 blocksOf none = []
 blocksOf (some v) = v .blocks
 
@@ -42,7 +42,7 @@ module _ (g : Layout) where
   noEntryTwice (x ∷ xs) = cond (hasEntry (entryOf g x) xs) false (noEntryTwice xs)
 
   -- "no damage in any list", and its zeros and entries as they should be
-  abbrev pub listSound : Basic → List Overflow → Option Seen → Bool
+  abbrev pub listSound : Basic → List Overflow → Option Content → Bool
   listSound b os none = false
   listSound b os (some v) = basicUnused b (v .blocks) && (every (overflowUnused os) (v .blocks) && noEntryTwice (v .slots))
 

@@ -10,7 +10,7 @@ use Rattle.settings.specs.declared.layout.Layout.{Layout}
 use Rattle.settings.specs.declared.refusal.Refusal.the-variants as refusal
 use Rattle.table.specs.State.{Basic, Overflow, State, overflowAt, ownSlots, basicOf}
 use Rattle.table.specs.Updates.{withCounter, withFront, withSlot, withBasicFront, overBasic, overOverflow}
-use Rattle.table.specs.Follow.{Seen, lastOf, content}
+use Rattle.table.specs.Follow.{Content, lastOf, content}
 use Rattle.table.specs.Find.{position, isHeld, labelAt, comparedIn}
 use Rattle.table.specs.Done.{Done, damage, done, Answered, unchanged, answered}
 use Rattle.table.specs.Take.{freed}
@@ -56,14 +56,14 @@ module _ (g : Layout) where
       cond (cannotFree (overflowAt (st .overflow) l .counter) st) damage (done (shrinkAt i l (priorOf prior.Basic c cs) st))
 
   -- the slot in place p out of list i: "the list's last slot moves into the hole"
-  abbrev pub takeOut : State → ℕ → Seen → ℕ → Done
+  abbrev pub takeOut : State → ℕ → Content → ℕ → Done
   takeOut st i v p =
       let es = v .slots in
       shrink (storeAt g st i (v .blocks) p (getD es (length es - 1) 0)) i (v .blocks)
 
-  unfoldable pub deleteSeen : State → ℕ → ℕ → Option Seen → Answered DeleteAnswer
-  deleteSeen st i e none = unchanged st (answer.Refused refusal.Damage)
-  deleteSeen st i e (some v) =
+  unfoldable pub deleteFollowed : State → ℕ → ℕ → Option Content → Answered DeleteAnswer
+  deleteFollowed st i e none = unchanged st (answer.Refused refusal.Damage)
+  deleteFollowed st i e (some v) =
       let es = v .slots in
       let n = comparedIn g e es in
       cond (isHeld g e es) (answered answer.Refused st (answer.Gone (labelAt g e es) n) (takeOut st i v (position g e es)))
@@ -71,4 +71,4 @@ module _ (g : Layout) where
 
   -- delete of the entry e from list i
   unfoldable pub deleteIn : State → ℕ → ℕ → Answered DeleteAnswer
-  deleteIn st i e = deleteSeen st i e (content g st i)
+  deleteIn st i e = deleteFollowed st i e (content g st i)

@@ -8,7 +8,7 @@ use lib.Dec.{eqb, ltb}
 use Rattle.settings.specs.declared.layout.Layout.{Layout}
 use Rattle.settings.specs.declared.refusal.Refusal.the-variants as refusal
 use Rattle.table.specs.State.{State, entryOf, labelOf}
-use Rattle.table.specs.Follow.{Seen, content}
+use Rattle.table.specs.Follow.{Content, content}
 use Rattle.table.specs.declared.answers.FindAnswer.{FindAnswer}
 use Rattle.table.specs.declared.answers.FindAnswer.the-variants as found
 
@@ -30,11 +30,11 @@ module _ (g : Layout) where
   comparedIn e es = cond (isHeld e es) (suc (position e es)) (length es)
 
   -- "Find: "held" with label, or "none""
-  unfoldable pub findSeen : ℕ → Option Seen → FindAnswer
-  findSeen e none = found.Refused refusal.Damage
-  findSeen e (some v) =
+  unfoldable pub findFollowed : ℕ → Option Content → FindAnswer
+  findFollowed e none = found.Refused refusal.Damage
+  findFollowed e (some v) =
       cond (isHeld e (v .slots)) (found.Held (labelAt e (v .slots)) (comparedIn e (v .slots))) (found.None (comparedIn e (v .slots)))
 
   -- find of the entry e in list i
   unfoldable pub findIn : State → ℕ → ℕ → FindAnswer
-  findIn st i e = findSeen e (content g st i)
+  findIn st i e = findFollowed e (content g st i)

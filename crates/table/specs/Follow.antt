@@ -19,13 +19,13 @@ abbrev pub prevOf : ℕ → ℕ → List ℕ → ℕ
 prevOf b c [] = b
 prevOf b c (d ∷ ds) = prevOf c d ds
 
--- what is seen on the way to a list's end: the numbers of its overflow blocks, and its slots in use
-pub record Seen : Type 0 where
+-- what a list holds: the numbers of its overflow blocks, and its slots in use
+pub record Content : Type 0 where
   pub blocks : List ℕ
   pub slots : List ℕ
 
-abbrev pub seen : List ℕ → List ℕ → Seen
-seen bs es = record { blocks = bs; slots = es }
+abbrev pub mkContent : List ℕ → List ℕ → Content
+mkContent bs es = record { blocks = bs; slots = es }
 
 abbrev pub cons? : ℕ → Option (List ℕ) → Option (List ℕ)
 cons? b none = none
@@ -62,20 +62,20 @@ module _ (g : Layout) where
   gather os (b ∷ bs) = take (suc (overflowAt os b .counter)) (overflowAt os b .slots) ++ gather os bs
 
   -- "the bits so displaced stand in the link of the list's last block"
-  abbrev pub contentOver : Basic → List Overflow → Option (List ℕ) → Option Seen
+  abbrev pub contentOver : Basic → List Overflow → Option (List ℕ) → Option Content
   contentOver b os none = none
   contentOver b os (some []) = none
   contentOver b os (some (c ∷ cs)) =
-      some (seen (c ∷ cs) (unpack g (overflowAt os (lastOf c cs) .link) (b .rest) ++ gather os (c ∷ cs)))
+      some (mkContent (c ∷ cs) (unpack g (overflowAt os (lastOf c cs) .link) (b .rest) ++ gather os (c ∷ cs)))
 
   -- "Counter 0 to sib counts entries; sib + 1 means overflow." None is damage: "a basic counter above sib + 1" too
-  abbrev pub contentOf : Basic → List Overflow → Option Seen
+  abbrev pub contentOf : Basic → List Overflow → Option Content
   contentOf b os =
       let on = contentOver b os (follow (g .nob) os (b .head)) in
       cond (ltb (b .counter) (suc (g .sib)))
-      (some (seen [] (take (b .counter) (ownSlots g b))))
+      (some (mkContent [] (take (b .counter) (ownSlots g b))))
       (cond (eqb (b .counter) (suc (g .sib))) on none)
 
   -- list i, followed to its end
-  unfoldable pub content : State → ℕ → Option Seen
+  unfoldable pub content : State → ℕ → Option Content
   content st i = contentOf (basicAt (st .basic) i) (st .overflow)

@@ -7,7 +7,7 @@ use Rattle.settings.specs.declared.settings.Settings.{Settings}
 use Rattle.keys.specs.Key.{rebuilt}
 use Rattle.settings.specs.Layout.{layoutOf}
 use Rattle.table.specs.State.{Basic, Overflow, State, entryOf, labelOf}
-use Rattle.table.specs.Follow.{Seen, contentOf}
+use Rattle.table.specs.Follow.{Content, contentOf}
 
 pub record Pair : Type 0 where
   pub key : ℕ
@@ -17,7 +17,7 @@ abbrev pub pair : ℕ → ℕ → Pair
 pair k l = record { key = k; label = l }
 
 -- the slots in use of a list that was followed; a damaged one gives none
-abbrev pub slotsOf : Option Seen → List ℕ
+abbrev pub slotsOf : Option Content → List ℕ
 slotsOf none = []
 slotsOf (some v) = v .slots
 

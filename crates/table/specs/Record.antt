@@ -11,7 +11,7 @@ use Rattle.settings.specs.declared.refusal.Refusal.the-variants as refusal
 use Rattle.keys.specs.Key.{keyOf, rebuilt}
 use Rattle.settings.specs.Layout.{layoutOf}
 use Rattle.table.specs.State.{Basic, Overflow, State, entryOf, labelOf}
-use Rattle.table.specs.Follow.{Seen, contentOf}
+use Rattle.table.specs.Follow.{Content, contentOf}
 use Rattle.table.specs.declared.answers.RecordAnswer.{RecordAnswer}
 use Rattle.table.specs.declared.answers.RecordAnswer.the-variants as answer
 
@@ -24,7 +24,7 @@ module _ (s : Settings) where
   recordFrom i [] os n = answer.None
   recordFrom i (b ∷ bs) os n = go (contentOf (layoutOf s) b os) (λ m. recordFrom (suc i) bs os m)
     where
-      go : Option Seen → (ℕ → RecordAnswer) → RecordAnswer
+      go : Option Content → (ℕ → RecordAnswer) → RecordAnswer
       go none on = answer.Refused refusal.Damage
       go (some v) on = cond (ltb n (length (v .slots))) (recordOf i (getD (v .slots) n 0)) (on (n - length (v .slots)))
 

@@ -11,7 +11,7 @@ use Rattle.bits.specs.Field.{field}
 use Rattle.settings.specs.declared.layout.Layout.{Layout}
 use Rattle.table.specs.State.{Overflow, State, basicAt, overflowAt, ownSlots, entryOf}
 use Rattle.table.specs.Decode.{decode}
-use Rattle.table.specs.Follow.{Seen, content}
+use Rattle.table.specs.Follow.{Content, content}
 use Rattle.table.specs.Take.{occurs}
 
 module _ (g : Layout) where
@@ -27,7 +27,7 @@ module _ (g : Layout) where
 
   pub record SoundState (st : State) : Type 0 where
     -- each list, followed to its end; the free chain
-    pub lists : ℕ → Seen
+    pub lists : ℕ → Content
     pub chain : List ℕ
     -- "no damage in any list"
     pub undamaged : (i : ℕ) → i < g .lists → content g st i ≡ some (lists i)

@@ -13,7 +13,7 @@ use Rattle.settings.specs.declared.layout.Layout.{Layout}
 use Rattle.settings.specs.declared.refusal.Refusal.{Refusal}
 use Rattle.settings.specs.declared.refusal.Refusal.the-variants as refusal
 use Rattle.table.specs.State.{State, basicAt, overflowAt, ownSlots}
-use Rattle.table.specs.Follow.{Seen, seen, lastOf, gather}
+use Rattle.table.specs.Follow.{Content, mkContent, lastOf, gather}
 use Rattle.table.specs.Take.{occurs, nextFree, taking, taken}
 use Rattle.table.specs.Add.{extended}
 use Rattle.table_read.specs.Steps.{lastFrom}
@@ -140,11 +140,11 @@ module _ (g : Layout) (st : State) (i n : ℕ) (R : Readable g st i n) where
       let b = basicAt (st .basic) i in
       let q = R .is in
       let e = content-short g st i h in
-      let z : R .seen ≡ seen [] (take (b .counter) (ownSlots g b)) = cc in
+      let z : R .followed ≡ mkContent [] (take (b .counter) (ownSlots g b)) = cc in
       omega (
         arith,
         R .long,
-        ap (λ (x : Seen). length (x .slots)) z,
+        ap (λ (x : Content). length (x .slots)) z,
         length-take (b .counter) (ownSlots g b),
         unpack-length g (b .head) (b .rest),
       )
@@ -152,10 +152,10 @@ module _ (g : Layout) (st : State) (i n : ℕ) (R : Readable g st i n) where
   module _ (sized : (j : ℕ) → j < g .nob → length (overflowAt (st .overflow) j .slots) ≡ g .sio) where
     module _ (hc : g .sib < basicAt (st .basic) i .counter) where
       abbrev blocks : Chained g (st .overflow) (basicAt (st .basic) i .head)
-      blocks = long-blocks g st i (R .seen) (R .is) hc
+      blocks = long-blocks g st i (R .followed) (R .is) hc
 
       entries : n ≡ g .sib + length (gather g (st .overflow) (basicAt (st .basic) i .head ∷ blocks .others))
-      entries = R .long ∙ long-length g st i (R .seen) (R .is) hc
+      entries = R .long ∙ long-length g st i (R .followed) (R .is) hc
 
       some-over : 0 < length (gather g (st .overflow) (basicAt (st .basic) i .head ∷ blocks .others))
       some-over = gather-some g (st .overflow) sized (blocks .chain)
@@ -180,7 +180,7 @@ module _ (g : Layout) (st : State) (i n : ℕ) (R : Readable g st i n) where
       last-reached h eh =
           rw eh
           (record {
-            ends = long-ends g st i (R .seen) (R .is) many;
+            ends = long-ends g st i (R .followed) (R .is) many;
             within = rw (blocks many .are) (omega (arith, entries many, some-over many));
           })
 
@@ -203,7 +203,7 @@ module _ (g : Layout) (st : State) (i n : ℕ) (R : Readable g st i n) where
           (λ es.
           rw (es ∙ spot-is) (
             record {
-              full = long-full g st i (R .seen) (R .is) many;
+              full = long-full g st i (R .followed) (R .is) many;
               head = refl;
               last = rw (blocks many .found);
               low = last-low g (st .overflow) (blocks many .chain);

@@ -12,7 +12,7 @@ use Rattle.settings.specs.declared.refusal.Refusal.the-variants as refusal
 use Rattle.table.specs.State.{State, basicAt, overflowAt, slotOf}
 use Rattle.table.specs.Decode.{decode, written}
 use Rattle.table.specs.Table.{Table}
-use Rattle.table.specs.Follow.{Seen, content}
+use Rattle.table.specs.Follow.{Content, content}
 use Rattle.table.specs.Take.{nextFree}
 use Rattle.table.specs.Add.{append}
 use Rattle.table_read.specs.Steps.{lastFrom}
@@ -68,6 +68,6 @@ pub record EndsIn (g : Layout) (st : State) (i h j : ℕ) : Type 0 where
 
 -- list i can be followed to its end, and has n entries
 pub record Readable (g : Layout) (st : State) (i n : ℕ) : Type 0 where
-  pub seen : Seen
-  pub is : content g st i ≡ some seen
-  pub long : n ≡ length (seen .slots)
+  pub followed : Content
+  pub is : content g st i ≡ some followed
+  pub long : n ≡ length (followed .slots)

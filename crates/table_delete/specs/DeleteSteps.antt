@@ -8,7 +8,7 @@ use lib.ListN.{length}
 use Rattle.settings.specs.declared.layout.Layout.{Layout}
 use Rattle.table.specs.State.{State, overflowAt}
 use Rattle.table.specs.Decode.{decode}
-use Rattle.table.specs.Follow.{Seen, lastOf, content}
+use Rattle.table.specs.Follow.{Content, lastOf, content}
 use Rattle.table.specs.Delete.{priorOf, cannotFree, takeOut}
 use Rattle.table.specs.Done.{Done, damage, done}
 use Rattle.table_delete.specs.declared.shrink.End.{End}
@@ -34,7 +34,7 @@ module _ (g : Layout) where
     pub few : overflowAt (st .overflow) l .counter < g .sio
     pub free : cannotFreeAt l st ≡ false
 
-  abbrev pub removalOf : State → ℕ → ℕ → Option Seen → Done
+  abbrev pub removalOf : State → ℕ → ℕ → Option Content → Done
   removalOf st i p none = damage
   removalOf st i p (some v) = takeOut g st i v p
 
@@ -44,9 +44,9 @@ module _ (g : Layout) where
 
   -- list i can be followed to its end, and has a place p
   pub record Placed (st : State) (i p : ℕ) : Type 0 where
-    pub seen : Seen
-    pub is : content g st i ≡ some seen
-    pub within : p < length (seen .slots)
+    pub followed : Content
+    pub is : content g st i ≡ some followed
+    pub within : p < length (followed .slots)
 
 -- u and r are what the removal of place p from list i of t comes to
 pub record Removed (g : Layout) (t u : List ℕ) (i p : ℕ) (r : Bool) : Type 0 where

@@ -23,7 +23,7 @@ use Rattle.settings.specs.declared.refusal.Refusal.the-variants as refusal
 use Rattle.table.specs.State.{Basic, Overflow, State, basicAt, overflowAt, unpack, entryOf, emptyBasic}
 use Rattle.table.specs.Decode.{decode}
 use Rattle.table.specs.Table.{Table}
-use Rattle.table.specs.Follow.{Seen, contentOf, content}
+use Rattle.table.specs.Follow.{Content, contentOf, content}
 use Rattle.table.specs.Record.{recordFrom, recordIn}
 use Rattle.table_read.specs.Steps.{shown, slotsIn, basicRun, displacedRun, overflowRun, lastFrom, Followed, Overflows, gatherFrom}
 use Rattle.table_record.specs.RecordSteps.{slotNth, nthOf, nthIn, Bounded, recordsFrom}
@@ -123,7 +123,7 @@ module _ (g : Layout) (t : List ℕ) (T : Table g t) (k b c : ℕ) (run : Slots)
 module _ (g : Layout) (t : List ℕ) (T : Table g t) (i n : ℕ) (l : i < g .lists) where
   pub nth-damaged : content g (decode g t) i ≡ none → nth.Damage ≡ nthIn g (content g (decode g t) i) n
   unfolding nthIn
-  nth-damaged e = sym (ap (λ (o : Option Seen). nthIn g o n) e)
+  nth-damaged e = sym (ap (λ (o : Option Content). nthIn g o n) e)
 
   -- those of a list without overflow blocks
   pub nth-short : (run : Slots) (c : ℕ) → c ≡ basicAt (decode g t .basic) i .counter → c ≤ g .sib → run ≡ basicRun g i c
@@ -133,7 +133,7 @@ module _ (g : Layout) (t : List ℕ) (T : Table g t) (i n : ℕ) (l : i < g .lis
       let k : basicAt (decode g t .basic) i .counter ≤ g .sib = omega arith in
       ap (λ (b : Slots). nthOf g (slotsIn g t b) n) (er ∙ ap (basicRun g i) ec)
       ∙ ap (λ (es : List ℕ). nthOf g es n) (basic-slots-in g t T i (basicAt (decode g t .basic) i .counter) l k)
-      ∙ sym (ap (λ (o : Option Seen). nthIn g o n) (content-short g (decode g t) i k))
+      ∙ sym (ap (λ (o : Option Content). nthIn g o n) (content-short g (decode g t) i k))
 
   -- those of a list whose overflow blocks start at h and end with z
   module _ (h z : ℕ) (over : Overflows g (decode g t) i h) (last-is : z ≡ lastFrom g (g .nob) (decode g t .overflow) h) where
@@ -157,7 +157,7 @@ module _ (g : Layout) (t : List ℕ) (T : Table g t) (i n : ℕ) (l : i < g .lis
       unfolding nthIn
       nth-list =
           let f = followed g (decode g t .overflow) (g .nob) (basicAt (decode g t .basic) i .head) (omega (arith, last-at)) in
-          ap (λ (o : Option Seen). nthIn g o n) (content-long g (decode g t) i (over .counter) f)
+          ap (λ (o : Option Content). nthIn g o n) (content-long g (decode g t) i (over .counter) f)
           ∙ ap₂ (λ (x y : ℕ). nthOf g (unpack g (overflowAt (decode g t .overflow) x .link) (basicAt (decode g t .basic) i .rest) ++ gatherFrom g (g .nob) (decode g t .overflow) y) n) last-at (sym (over .head))
 
       pub nth-displaced : (run : Slots) (d : ℕ) → d ≡ overflowAt (decode g t .overflow) z .link → run ≡ displacedRun g i d → n < g .sib
@@ -183,7 +183,7 @@ module _ (s : Settings) where
   onNth i (nth.Past m) on = on m
   onNth i nth.Damage on = answer.Refused refusal.Damage
 
-  record-turn : (i : ℕ) (b : Basic) (bs : List Basic) (os : List Overflow) (n : ℕ) (o : Option Seen) → contentOf (layoutOf s) b os ≡ o
+  record-turn : (i : ℕ) (b : Basic) (bs : List Basic) (os : List Overflow) (n : ℕ) (o : Option Content) → contentOf (layoutOf s) b os ≡ o
       → recordFrom s i (b ∷ bs) os n ≡ onNth i (nthIn (layoutOf s) o n) (λ m. recordFrom s (suc i) bs os m)
   unfolding recordFrom nthIn nthOf
   record-turn i b bs os n none e = rw e

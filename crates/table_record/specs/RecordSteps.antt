@@ -14,7 +14,7 @@ use Rattle.keys.specs.declared.Key.{Key}
 use Rattle.settings.specs.declared.layout.Layout.{Layout}
 use Rattle.table.specs.State.{State, entryOf, labelOf}
 use Rattle.table.specs.Table.{Table}
-use Rattle.table.specs.Follow.{Seen}
+use Rattle.table.specs.Follow.{Content}
 use Rattle.table.specs.Record.{recordFrom}
 use Rattle.table.specs.declared.answers.RecordAnswer.{RecordAnswer}
 use Rattle.table_record.specs.declared.Nth.{Nth}
@@ -35,7 +35,7 @@ module _ (g : Layout) where
   nthOf es n = cond (ltb n (length es)) (slotNth (getD es n 0)) (nth.Past (n - length es))
 
   -- slot n of a list's content
-  unfoldable pub nthIn : Option Seen → ℕ → Nth
+  unfoldable pub nthIn : Option Content → ℕ → Nth
   nthIn none n = nth.Damage
   nthIn (some v) n = nthOf (v .slots) n
 

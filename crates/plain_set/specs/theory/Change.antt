@@ -17,7 +17,7 @@ use Rattle.laws.specs.Sums.{sum-ext}
 use Rattle.settings.specs.declared.layout.Layout.{Layout}
 use Rattle.settings.specs.Proper.{Proper}
 use Rattle.table.specs.State.{State, basicAt}
-use Rattle.table.specs.Follow.{seen, content}
+use Rattle.table.specs.Follow.{mkContent, content}
 use Rattle.table.specs.Add.{append}
 use Rattle.table.specs.Delete.{shrink, takeOut}
 use Rattle.table.specs.Done.{Done, damage, noBlock, done}
@@ -42,7 +42,7 @@ module _ (g : Layout) where
 
 -- list i, followed to its end: its blocks and its slots
 pub rep-content : {g : Layout} {st : State} {T B : List (List ℕ)} {fs : List ℕ} → Rep g st T B fs → (i : ℕ) → i < g .lists
-    → content g st i ≡ some (seen (getD B i []) (getD T i []))
+    → content g st i ≡ some (mkContent (getD B i []) (getD T i []))
 unfolding content
 rep-content {g} {st} {T} {B} {fs} r i h =
     content-holds g (basicAt (st .basic) i) (st .overflow) (getD B i []) (getD T i []) (r .each i h)
@@ -94,7 +94,7 @@ module _ {g : Layout} (F : Proper g) {st : State} {T B : List (List ℕ)} {fs : 
 
     -- the last slot of list i moved into place p, and its own place off
     pub delete-done : (p : ℕ) → p < length (getD T i [])
-        → Ended g (takeOut g st i (seen (getD B i []) (getD T i [])) p)
+        → Ended g (takeOut g st i (mkContent (getD B i []) (getD T i [])) p)
         (set T i (swapOut (getD T i []) p))
     delete-done p l =
         let es : List ℕ = getD T i [] in

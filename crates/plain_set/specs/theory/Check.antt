@@ -16,7 +16,7 @@ use Rattle.laws.specs.Sums.{occurs-head}
 use Rattle.settings.specs.declared.layout.Layout.{Layout}
 use Rattle.table.specs.Arrays.{padded}
 use Rattle.table.specs.State.{Basic, Overflow, State, basicAt, overflowAt}
-use Rattle.table.specs.Follow.{seen, contentOf, content}
+use Rattle.table.specs.Follow.{mkContent, contentOf, content}
 use Rattle.table.specs.Take.{occurs}
 use Rattle.table.specs.Check.{blocksOf, basicUnused, overflowUnused, freeZero, listSound, listsSound, chainFrom, freeChain, occursInLists, stateSound}
 use Rattle.table.specs.theory.Every.{lists-all}
@@ -108,7 +108,7 @@ module _ (g : Layout) where
       low : (j : ℕ) → 0 < occurs j fs → j < g .nob
       low j l = below j (g .nob) (omega (arith, r .once j))
 
-      content-is : (i : ℕ) → i < g .lists → contentOf g (basicAt bs i) os ≡ some (seen (getD (o .B) i []) (getD (o .T) i []))
+      content-is : (i : ℕ) → i < g .lists → contentOf g (basicAt bs i) os ≡ some (mkContent (getD (o .B) i []) (getD (o .T) i []))
       content-is i l = rep-content r i l
 
       blocks-are : allBlocks g bs os ≡ o .B
@@ -128,7 +128,7 @@ module _ (g : Layout) where
             ap one (lt-ltb j (g .nob) l),
           )
 
-      list-fine : (i : ℕ) → i < g .lists → listSound g (basicAt bs i) os (some (seen (getD (o .B) i []) (getD (o .T) i []))) ≡ true
+      list-fine : (i : ℕ) → i < g .lists → listSound g (basicAt bs i) os (some (mkContent (getD (o .B) i []) (getD (o .T) i []))) ≡ true
       list-fine i l =
           let b : Basic = basicAt bs i in
           let cs : List ℕ = getD (o .B) i [] in

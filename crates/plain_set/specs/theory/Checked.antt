@@ -16,7 +16,7 @@ use Rattle.settings.specs.declared.layout.Layout.{Layout}
 use Rattle.settings.specs.Proper.{Proper}
 use Rattle.table.specs.Arrays.{padded}
 use Rattle.table.specs.State.{Basic, Overflow, State, mkOverflow, basicAt, overflowAt, emptyBlock, unpack, ownSlots}
-use Rattle.table.specs.Follow.{lastOf, Seen, cons?, follow, gather, contentOver, contentOf, content, goOn, stepAt}
+use Rattle.table.specs.Follow.{lastOf, Content, cons?, follow, gather, contentOver, contentOf, content, goOn, stepAt}
 use Rattle.table.specs.theory.Ways.{Way, way}
 use Rattle.table.specs.theory.Ways as ways
 use Rattle.table.specs.declared.step.Step.{Step}
@@ -26,7 +26,7 @@ use Rattle.table.specs.Rebuilt.{slotsOf}
 use Rattle.table.specs.Check.{blocksOf, basicUnused, overflowUnused, freeZero, noEntryTwice, listSound, listsSound, chainFrom, freeChain, occursInLists, chainSound, stateSound}
 use Rattle.plain_set.specs.theory.Count.{one, sum}
 use Rattle.table.specs.theory.Formed.{All, all-nil, Fits, Formed, overflow-fits}
-use Rattle.table.specs.theory.FormedCalls.{SeenFits, holds-none, holds-some, Holds as Whole, content-holds as content-formed}
+use Rattle.table.specs.theory.FormedCalls.{ContentFits, holds-none, holds-some, Holds as Whole, content-holds as content-formed}
 use Rattle.table.specs.theory.Every.{lists-at}
 use Rattle.table.specs.theory.FormedUpdates.{unpack-each}
 use Rattle.plain_set.specs.theory.Pad.{padded-id, padded-append-le, zeros-padded}
@@ -107,15 +107,15 @@ module _ (g : Layout) where
       (λ e. omega (arith, ltb-false 0 n e, none-above bs os j l))
 
   -- all slots found have the slots' width
-  seen-fits : {o : Option Seen} → Whole (SeenFits g) o → All (Fits (g .slot)) (slotsOf o)
-  seen-fits holds-none = all-nil
-  seen-fits (holds-some v) = v .slots
+  content-fits : {o : Option Content} → Whole (ContentFits g) o → All (Fits (g .slot)) (slotsOf o)
+  content-fits holds-none = all-nil
+  content-fits (holds-some v) = v .slots
 
   list-fits : {st : State} (i : ℕ) → Formed g st → All (Fits (g .slot)) (slotsOf (contentOf g (basicAt (st .basic) i) (st .overflow)))
   unfolding content
-  list-fits i f = seen-fits (content-formed g f i)
+  list-fits i f = content-fits (content-formed g f i)
 
-  list-single : (b : Basic) (os : List Overflow) (o : Option Seen) → listSound g b os o ≡ true → Single g (slotsOf o)
+  list-single : (b : Basic) (os : List Overflow) (o : Option Content) → listSound g b os o ≡ true → Single g (slotsOf o)
   list-single b os none h = never h
   list-single b os (some v) h =
       once-single g (v .slots)

@@ -11,7 +11,7 @@ use Rattle.laws.specs.Sums.{occurs-head}
 use Rattle.settings.specs.declared.layout.Layout.{Layout}
 use Rattle.table.specs.Arrays.{padded}
 use Rattle.table.specs.State.{Basic, Overflow, overflowAt, unpack}
-use Rattle.table.specs.Follow.{lastOf, seen, follow, gather, contentOf}
+use Rattle.table.specs.Follow.{lastOf, mkContent, follow, gather, contentOf}
 use Rattle.table.specs.Take.{occurs}
 use Rattle.table.specs.theory.Ways.{step-last, step-further}
 use Rattle.plain_set.specs.theory.Pad.{length-padded, take-padded, padded-take}
@@ -69,7 +69,7 @@ module _ (g : Layout) where
 
   -- a list that stands in its blocks, followed to its end
   pub content-holds : (b : Basic) (os : List Overflow) (bs es : List ℕ) → Holds g b os bs es
-      → ((j : ℕ) → 0 < occurs j bs → j < g .nob) → length bs ≤ g .nob → contentOf g b os ≡ some (seen bs es)
+      → ((j : ℕ) → 0 < occurs j bs → j < g .nob) → length bs ≤ g .nob → contentOf g b os ≡ some (mkContent bs es)
   content-holds b os [] es h low l =
       rw (lt-ltb (b .counter) (suc (g .sib)) (omega arith), h .2, h .1, take-padded (g .sib) es (h .0))
   content-holds b os (c ∷ cs) es h low l =
@@ -82,7 +82,7 @@ module _ (g : Layout) where
         k,
         follow-tail (g .nob) os c cs (drop (g .sib) es) d t low l,
       )
-      (ap (λ (xs : List ℕ). some (seen (c ∷ cs) xs))
+      (ap (λ (xs : List ℕ). some (mkContent (c ∷ cs) xs))
       (ap₂ _++_ first (gather-tail os c cs (drop (g .sib) es) d t) ∙ take-append-drop (g .sib) es))
 
   -- a list's length by its blocks: at most all that they hold, and more than they hold without the last

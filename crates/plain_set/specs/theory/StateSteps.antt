@@ -12,9 +12,9 @@ use Rattle.settings.specs.Layout.{layoutOf}
 use Rattle.keys.specs.Key.{entry, listNumber}
 use Rattle.settings.specs.theory.Proper.{layout-proper}
 use Rattle.table.specs.State.{State, slotOf}
-use Rattle.table.specs.Find.{position, findSeen, findIn}
-use Rattle.table.specs.Add.{addSeen, addIn}
-use Rattle.table.specs.Delete.{deleteSeen, deleteIn}
+use Rattle.table.specs.Find.{position, findFollowed, findIn}
+use Rattle.table.specs.Add.{addFollowed, addIn}
+use Rattle.table.specs.Delete.{deleteFollowed, deleteIn}
 use Rattle.plain_set.specs.Plain.{plainFind, plainAdd, plainDelete}
 use Rattle.plain_set.specs.Set.{Answer}
 use Rattle.plain_set.specs.theory.Rep.{Rep, Stores}
@@ -37,7 +37,7 @@ module _ (s : Settings) (legal : Legal s) {st : State} {T B : List (List ℕ)} {
     below = in-table s legal k ok
 
     pub find-acts : Acts s (plainFind (findIn (layoutOf s) st (listNumber s k) (entry s k))) st (listsStep s T (findKey k))
-    unfolding findIn findSeen listsStep
+    unfolding findIn findFollowed listsStep
     find-acts =
         rw (rep-content r (listNumber s k) below)
         (cases (holdsKey s T k)
@@ -46,7 +46,7 @@ module _ (s : Settings) (legal : Legal s) {st : State} {T B : List (List ℕ)} {
 
     pub delete-acts : Acts s (plainDelete (deleteIn (layoutOf s) st (listNumber s k) (entry s k) .answer))
         (deleteIn (layoutOf s) st (listNumber s k) (entry s k) .after) (listsStep s T (deleteKey k))
-    unfolding deleteIn deleteSeen listsStep
+    unfolding deleteIn deleteFollowed listsStep
     delete-acts =
         rw (rep-content r (listNumber s k) below)
         (cases (holdsKey s T k)
@@ -61,7 +61,7 @@ module _ (s : Settings) (legal : Legal s) {st : State} {T B : List (List ℕ)} {
       add-free : holdsKey s T k ≡ false
           → Acts s (plainAdd (addIn (layoutOf s) st (listNumber s k) (entry s k) l .answer))
           (addIn (layoutOf s) st (listNumber s k) (entry s k) l .after) (listsStep s T (addKey k l))
-      unfolding addIn addSeen listsStep
+      unfolding addIn addFollowed listsStep
       add-free e =
           cases (isFull s T k)
           (λ q.
@@ -78,6 +78,6 @@ module _ (s : Settings) (legal : Legal s) {st : State} {T B : List (List ℕ)} {
 
       pub add-acts : Acts s (plainAdd (addIn (layoutOf s) st (listNumber s k) (entry s k) l .answer))
           (addIn (layoutOf s) st (listNumber s k) (entry s k) l .after) (listsStep s T (addKey k l))
-      unfolding addIn addSeen listsStep
+      unfolding addIn addFollowed listsStep
       add-acts =
           cases (holdsKey s T k) (λ e. rw (rep-content r (listNumber s k) below, e) record { answers = refl; stores = kept }) (λ e. add-free e)

@@ -11,7 +11,7 @@ use borrow.Author.Tests.{eq-eqb, eqb-true}
 use Rattle.laws.specs.Cases.{cases, never}
 use Rattle.settings.specs.declared.layout.Layout.{Layout}
 use Rattle.table.specs.State.{Basic, Overflow, basicAt, entryOf}
-use Rattle.table.specs.Follow.{Seen, contentOf}
+use Rattle.table.specs.Follow.{Content, contentOf}
 use Rattle.table.specs.Take.{occurs}
 use Rattle.table.specs.Rebuilt.{slotsOf}
 use Rattle.table.specs.Check.{blocksOf, hasEntry, noEntryTwice, occursInLists}
@@ -53,17 +53,17 @@ module _ (g : Layout) where
       rw (none-hasEntry (entryOf g x) es z) (single-once es (λ e. omega (arith, h e)))
 
   -- each list, followed to its end: what f makes of it
-  abbrev pub eachList : {A : Type 0} → (Option Seen → A) → List Basic → List Overflow → List A
+  abbrev pub eachList : {A : Type 0} → (Option Content → A) → List Basic → List Overflow → List A
   eachList f [] os = []
   eachList f (b ∷ bs) os = f (contentOf g b os) ∷ eachList f bs os
 
-  pub getD-each : {A : Type 0} (f : Option Seen → A) (bs : List Basic) (os : List Overflow) (i : ℕ) (d : A) → i < length bs
+  pub getD-each : {A : Type 0} (f : Option Content → A) (bs : List Basic) (os : List Overflow) (i : ℕ) (d : A) → i < length bs
       → getD (eachList f bs os) i d ≡ f (contentOf g (basicAt bs i) os)
   getD-each f [] os i d h = absurd (omega arith)
   getD-each f (b ∷ bs) os zero d h = refl
   getD-each f (b ∷ bs) os (suc i) d h = getD-each f bs os i d (omega arith)
 
-  pub length-each : {A : Type 0} (f : Option Seen → A) (bs : List Basic) (os : List Overflow) → length (eachList f bs os) ≡ length bs
+  pub length-each : {A : Type 0} (f : Option Content → A) (bs : List Basic) (os : List Overflow) → length (eachList f bs os) ≡ length bs
   length-each f [] os = refl
   length-each f (b ∷ bs) os = ap suc (length-each f bs os)
 

@@ -11,10 +11,10 @@ use Rattle.keys.specs.Key.{keyNumber, keyOf, index, entry, hash, listNumber, re
 use Rattle.table.specs.State.{unpack, headOf, restOf}
 use Rattle.table.specs.Decode.{blockAt, basicSlots, linkAt, overflowSlots, readBasic, readOverflow, decode, image, written}
 use Rattle.table.specs.Follow.{stepOf, content}
-use Rattle.table.specs.Find.{position, findSeen, findIn}
-use Rattle.table.specs.Add.{append, addSeen, addIn}
+use Rattle.table.specs.Find.{position, findFollowed, findIn}
+use Rattle.table.specs.Add.{append, addFollowed, addIn}
 use Rattle.table.specs.Store.{storeOverflow, storeAt}
-use Rattle.table.specs.Delete.{handedBack, shrinkAt, cannotFree, shrink, deleteSeen, deleteIn}
+use Rattle.table.specs.Delete.{handedBack, shrinkAt, cannotFree, shrink, deleteFollowed, deleteIn}
 use Rattle.table.specs.New.{newState, newBytes}
 use Rattle.table.specs.Record.{recordFrom, recordIn}
 use Rattle.table.specs.Check.{stateSound, fillZero, tableSound, markBytes, marksAfter}
@@ -24,7 +24,7 @@ unfoldable pub computing : Unit {0}
 unfolding
     bitAt field replaced putBit putField leastFrom ceilLog2 noneDivides isPrime primeAbove linkBits freeStartBits basicCounterBits basicBlockBits lists
     overflowCounterBits overflowBlockBits overflowStart tableBits tableBytes inRanges fits belowPrime legal layoutOf keyNumber keyOf index entry hash
-    listNumber rebuilt unpack headOf restOf blockAt basicSlots linkAt overflowSlots readBasic readOverflow decode image written stepOf content position findSeen
-    findIn append addSeen addIn storeOverflow storeAt handedBack shrinkAt cannotFree shrink deleteSeen deleteIn newState newBytes recordFrom recordIn stateSound fillZero tableSound markBytes
+    listNumber rebuilt unpack headOf restOf blockAt basicSlots linkAt overflowSlots readBasic readOverflow decode image written stepOf content position findFollowed
+    findIn append addFollowed addIn storeOverflow storeAt handedBack shrinkAt cannotFree shrink deleteFollowed deleteIn newState newBytes recordFrom recordIn stateSound fillZero tableSound markBytes
     marksAfter makeAnswer makeBytes findAnswer addAnswer addBytes deleteAnswer deleteBytes recordAnswer checkAnswer checkMarks
 computing = tt

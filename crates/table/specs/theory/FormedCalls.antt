@@ -15,11 +15,11 @@ use Rattle.settings.specs.declared.layout.Layout.{Layout}
 use Rattle.settings.specs.declared.refusal.Refusal.{Refusal}
 use Rattle.table.specs.State.{Basic, Overflow, State, absentBlock, basicAt, overflowAt, restBits, slotOf}
 use Rattle.table.specs.Updates.{withFront, withBasicFront, overBasic, overOverflow}
-use Rattle.table.specs.Follow.{lastOf, prevOf, Seen, cons?, follow, gather, contentOver, content, goOn, stepAt}
+use Rattle.table.specs.Follow.{lastOf, prevOf, Content, cons?, follow, gather, contentOver, content, goOn, stepAt}
 use Rattle.table.specs.Find.{position, isHeld, labelAt, comparedIn}
 use Rattle.table.specs.Take.{occurs, nextFree, taking, freed}
-use Rattle.table.specs.Add.{extended, append, addSeen, addIn}
-use Rattle.table.specs.Delete.{priorOf, handedBack, shrinkAt, cannotFree, shrink, deleteSeen, deleteIn}
+use Rattle.table.specs.Add.{extended, append, addFollowed, addIn}
+use Rattle.table.specs.Delete.{priorOf, handedBack, shrinkAt, cannotFree, shrink, deleteFollowed, deleteIn}
 use Rattle.table.specs.New.{newOverflow, newState}
 use Rattle.table.specs.Done.{Done, damage, noBlock, done, Answered, answered}
 use Rattle.table.specs.Store.{storeOverflow, storeAt}
@@ -101,32 +101,32 @@ module _ (g : Layout) where
       all-append (all-take (suc (overflowAt os b .counter)) (each-at e absentBlock b h .slots .all)) (gather-fits e hs)
 
   -- blocks of the table, and slots that fit
-  pub record SeenFits (v : Seen) : Type 0 where
+  pub record ContentFits (v : Content) : Type 0 where
     pub blocks : Followed (g .nob) (v .blocks)
     pub slots : All (Fits (g .slot)) (v .slots)
 
   over-holds : (b : Basic) {os : List Overflow} {o : Option (List ℕ)} → Each (OverflowFits g) (g .nob) os → Holds (Followed (g .nob)) o
-      → Holds SeenFits (contentOver g b os o)
+      → Holds ContentFits (contentOver g b os o)
   over-holds b e holds-none = holds-none
   over-holds b e (holds-some {a = []} f) = holds-none
   over-holds b {os} e (holds-some {a = c ∷ cs} f) =
       holds-some (record { blocks = f; slots = all-append (unpack-each g (overflowAt os (lastOf c cs) .link) (b .rest) .all) (gather-fits e (f .below)) })
 
-  -- what is seen of a list of a formed state
-  pub content-holds : {st : State} → Formed g st → (i : ℕ) → Holds SeenFits (content g st i)
+  -- the content of a list of a formed state
+  pub content-holds : {st : State} → Formed g st → (i : ℕ) → Holds ContentFits (content g st i)
   unfolding content
   content-holds {st} f i =
       let b = basicAt (st .basic) i in
-      either (Holds SeenFits) (ltb (b .counter) (suc (g .sib)))
+      either (Holds ContentFits) (ltb (b .counter) (suc (g .sib)))
       (λ e. holds-some (record {
         blocks = record { below = all-nil; few = omega arith };
         slots = all-take (b .counter) (unpack-each g (b .head) (b .rest) .all);
       }))
-      (λ e. either (Holds SeenFits) (eqb (b .counter) (suc (g .sib)))
+      (λ e. either (Holds ContentFits) (eqb (b .counter) (suc (g .sib)))
       (λ c. over-holds b (f .overflow) (follow-holds (g .nob) (st .overflow) (b .head)))
       (λ c. holds-none))
 
-  pub content-fits : {st : State} (i : ℕ) {v : Seen} → Formed g st → content g st i ≡ some v → SeenFits v
+  pub content-fits : {st : State} (i : ℕ) {v : Content} → Formed g st → content g st i ≡ some v → ContentFits v
   content-fits i f e = holds-of (content-holds f i) e
 
 -- ---- changes
@@ -265,22 +265,22 @@ module _ (g : Layout) (F : Proper g) where
   answered-formed refuse a f ends-full = f
   answered-formed refuse a f (ends-done p) = p
 
-  add-seen : {st : State} {o : Option Seen} (i e label : ℕ) → Formed g st → i < g .lists → Fits (g .slot) (slotOf g e label) → Holds (SeenFits g) o
-      → Formed g (addSeen g st i e label o .after)
-  unfolding addSeen
-  add-seen i e label f h p holds-none = f
-  add-seen i e label f h p (holds-some {a = v} s) =
+  add-followed : {st : State} {o : Option Content} (i e label : ℕ) → Formed g st → i < g .lists → Fits (g .slot) (slotOf g e label) → Holds (ContentFits g) o
+      → Formed g (addFollowed g st i e label o .after)
+  unfolding addFollowed
+  add-followed i e label f h p holds-none = f
+  add-followed i e label f h p (holds-some {a = v} s) =
       either (λ (a : Answered AddAnswer). Formed g (a .after)) (isHeld g e (v .slots)) (λ t. f)
       (λ t. answered-formed adding.Refused (adding.Added label (comparedIn g e (v .slots))) f (append-ends i f h (s .blocks .below) p))
 
   pub add-formed : {st : State} (i e label : ℕ) → Formed g st → i < g .lists → e < 2 ^ g .bie → label < 2 ^ g .val → Formed g (addIn g st i e label .after)
   unfolding addIn
-  add-formed i e label f h k l = add-seen i e label f h (rw (F .slot-is) (join-fits (g .bie) (g .val) k l)) (content-holds g f i)
+  add-formed i e label f h k l = add-followed i e label f h (rw (F .slot-is) (join-fits (g .bie) (g .val) k l)) (content-holds g f i)
 
-  delete-seen : {st : State} {o : Option Seen} (i e : ℕ) → Formed g st → i < g .lists → Holds (SeenFits g) o → Formed g (deleteSeen g st i e o .after)
-  unfolding deleteSeen
-  delete-seen i e f h holds-none = f
-  delete-seen i e f h (holds-some {a = v} s) =
+  delete-followed : {st : State} {o : Option Content} (i e : ℕ) → Formed g st → i < g .lists → Holds (ContentFits g) o → Formed g (deleteFollowed g st i e o .after)
+  unfolding deleteFollowed
+  delete-followed i e f h holds-none = f
+  delete-followed i e f h (holds-some {a = v} s) =
       let bl = s .blocks .below in
       let last = all-getD (s .slots) (pow-pos (g .slot)) (length (v .slots) - 1) in
       either (λ (a : Answered DeleteAnswer). Formed g (a .after)) (isHeld g e (v .slots))
@@ -289,7 +289,7 @@ module _ (g : Layout) (F : Proper g) where
 
   pub delete-formed : {st : State} (i e : ℕ) → Formed g st → i < g .lists → Formed g (deleteIn g st i e .after)
   unfolding deleteIn
-  delete-formed i e f h = delete-seen i e f h (content-holds g f i)
+  delete-formed i e f h = delete-followed i e f h (content-holds g f i)
 
   -- the new table
   pub new-formed : Formed g (newState g)

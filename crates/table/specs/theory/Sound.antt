@@ -17,7 +17,7 @@ use Rattle.bits.specs.Field.{field}
 use Rattle.settings.specs.declared.layout.Layout.{Layout}
 use Rattle.table.specs.State.{Basic, Overflow, State, basicAt, overflowAt, ownSlots, entryOf}
 use Rattle.table.specs.Decode.{decode}
-use Rattle.table.specs.Follow.{Seen, seen, follow, contentOver, contentOf, content}
+use Rattle.table.specs.Follow.{Content, mkContent, follow, contentOver, contentOf, content}
 use Rattle.table.specs.Take.{occurs}
 use Rattle.table.specs.Check.{basicUnused, overflowUnused, freeZero, noEntryTwice, listSound, listsSound, freeChain, occursInLists, chainSound, stateSound, fillZero, tableSound}
 use Rattle.table.specs.Sound.{SoundState, Sound}
@@ -31,7 +31,7 @@ module _ (g : Layout) where
   -- ---- each list
 
   -- a basic block that does not overflow has no overflow blocks behind it, and no other has none
-  record Overflows (b : Basic) (v : Seen) : Type 0 where
+  record Overflows (b : Basic) (v : Content) : Type 0 where
     from-none : v .blocks ≡ [] → b .counter ≤ g .sib
     to-none : b .counter ≤ g .sib → v .blocks ≡ []
 
@@ -61,22 +61,22 @@ module _ (g : Layout) where
   unused-all b (c ∷ cs) h = refl
 
   -- "no damage", and the zeros and entries of one list, in document 01's words
-  record SoundList (b : Basic) (os : List Overflow) (v : Seen) : Type 0 where
+  record SoundList (b : Basic) (os : List Overflow) (v : Content) : Type 0 where
     undamaged : contentOf g b os ≡ some v
     basic-zero : (k : ℕ) → b .counter ≤ g .sib → b .counter ≤ k → getD (ownSlots g b) k 0 ≡ 0
     overflow-zero : (j k : ℕ) → 0 < occurs j (v .blocks) → overflowAt os j .counter < k → getD (overflowAt os j .slots) k 0 ≡ 0
     single : (p q : ℕ) → p < q → q < length (v .slots) → entryOf g (getD (v .slots) p 0) ≢ entryOf g (getD (v .slots) q 0)
 
-  -- what is seen of a list; nothing where there is damage
-  seenOf : Option Seen → Seen
-  seenOf none = seen [] []
-  seenOf (some v) = v
+  -- the content of a list; nothing where there is damage
+  contentOrEmpty : Option Content → Content
+  contentOrEmpty none = mkContent [] []
+  contentOrEmpty (some v) = v
 
-  list-at : (b : Basic) (os : List Overflow) → listSound g b os (contentOf g b os) ≡ true → SoundList b os (seenOf (contentOf g b os))
-  unfolding seenOf
+  list-at : (b : Basic) (os : List Overflow) → listSound g b os (contentOf g b os) ≡ true → SoundList b os (contentOrEmpty (contentOf g b os))
+  unfolding contentOrEmpty
   list-at b os = go (contentOf g b os) refl (content-overflows b os)
     where
-      go : (o : Option Seen) → contentOf g b os ≡ o → Holds (Overflows b) o → listSound g b os o ≡ true → SoundList b os (seenOf o)
+      go : (o : Option Content) → contentOf g b os ≡ o → Holds (Overflows b) o → listSound g b os o ≡ true → SoundList b os (contentOrEmpty o)
       go none q h e = never e
       go (some v) q h e =
           let a = both-true (basicUnused g b (v .blocks)) (every (overflowUnused g os) (v .blocks) && noEntryTwice g (v .slots)) e in
@@ -88,7 +88,7 @@ module _ (g : Layout) where
             single = λ p q. single-at g (v .slots) p q (c .1);
           }
 
-  list-all : {b : Basic} {os : List Overflow} {v : Seen} → SoundList b os v → listSound g b os (contentOf g b os) ≡ true
+  list-all : {b : Basic} {os : List Overflow} {v : Content} → SoundList b os v → listSound g b os (contentOf g b os) ≡ true
   list-all {b} {os} {v} s =
       rw (s .undamaged)
       (true-both
@@ -100,7 +100,7 @@ module _ (g : Layout) where
   -- ---- all lists
 
   -- a block stands in the lists as often as in each, summed by the lists' numbers
-  occurs-sum : (j : ℕ) (bs : List Basic) (os : List Overflow) (lists : ℕ → Seen)
+  occurs-sum : (j : ℕ) (bs : List Basic) (os : List Overflow) (lists : ℕ → Content)
       → ((i : ℕ) → i < length bs → contentOf g (basicAt bs i) os ≡ some (lists i))
       → occursInLists g j bs os ≡ sumBelow (length bs) (λ i. occurs j (lists i .blocks))
   occurs-sum j [] os lists h = refl
@@ -114,7 +114,7 @@ module _ (g : Layout) where
   stands st fs j = occursInLists g j (st .basic) (st .overflow) + occurs j fs
 
   -- what the test counts is what the sentence counts
-  stands-sum : (st : State) → length (st .basic) ≡ g .lists → (fs : List ℕ) (j : ℕ) (lists : ℕ → Seen)
+  stands-sum : (st : State) → length (st .basic) ≡ g .lists → (fs : List ℕ) (j : ℕ) (lists : ℕ → Content)
       → ((i : ℕ) → i < g .lists → content g st i ≡ some (lists i)) → stands st fs j ≡ sumBelow (g .lists) (λ i. occurs j (lists i .blocks)) + occurs j fs
   unfolding content
   stands-sum st sized fs j lists h = omega (arith, rw sized at (occurs-sum j (st .basic) (st .overflow) lists (λ i l. h i (omega arith))))
@@ -139,8 +139,8 @@ module _ (g : Layout) where
           single = λ i p q h. each i h .single p q;
         }
       where
-        found : ℕ → Seen
-        found i = seenOf (contentOf g (basicAt (st .basic) i) (st .overflow))
+        found : ℕ → Content
+        found i = contentOrEmpty (contentOf g (basicAt (st .basic) i) (st .overflow))
 
         each : (i : ℕ) → i < g .lists → SoundList (basicAt (st .basic) i) (st .overflow) (found i)
         each i h = list-at (basicAt (st .basic) i) (st .overflow) (lists-at g (st .basic) (st .overflow) i e (omega arith))

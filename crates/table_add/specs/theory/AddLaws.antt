@@ -28,9 +28,9 @@ use Rattle.settings.specs.Layout.{layoutOf}
 use Rattle.keys.specs.Key.{keyNumber, listNumber, entry}
 use Rattle.settings.specs.declared.settings.Settings.{Settings}
 use Rattle.keys.specs.declared.Key.{Key}
-use Rattle.table.specs.Follow.{Seen, content}
-use Rattle.table.specs.Find.{isHeld, findSeen, findIn}
-use Rattle.table.specs.Add.{append, addSeen, addIn}
+use Rattle.table.specs.Follow.{Content, content}
+use Rattle.table.specs.Find.{isHeld, findFollowed, findIn}
+use Rattle.table.specs.Add.{append, addFollowed, addIn}
 use Rattle.table.specs.Done.{Done, damage, noBlock, done, Answered, unchanged, answered}
 use Rattle.table.specs.theory.Written.{written-own}
 use Rattle.table.specs.declared.answers.FindAnswer.the-variants as found
@@ -65,31 +65,31 @@ none-refused : {X : Type 0} (a : ℕ) (why : Refusal) → found.None a ≡ found
 none-refused a why e = absurd (let z : _≡_ {A = ℕ} 0 1 = cc in omega arith)
 
 module _ (g : Layout) (st : State) (i e label : ℕ) where
-  held-as : (l n : ℕ) (o : Option Seen) → findSeen g e o ≡ found.Held l n → addSeen g st i e label o ≡ unchanged st (answer.Held l n)
-  unfolding findSeen addSeen
+  held-as : (l n : ℕ) (o : Option Content) → findFollowed g e o ≡ found.Held l n → addFollowed g st i e label o ≡ unchanged st (answer.Held l n)
+  unfolding findFollowed addFollowed
   held-as l n none = λ q. held-refused l n refusal.Damage (sym q)
   held-as l n (some v) =
       cases (isHeld g e (v .slots))
       (λ p. rw p (λ q. let z = same-held _ _ l n q in ap₂ (λ (x y : ℕ). unchanged st (answer.Held x y)) (z .0) (z .1)))
       (λ p. rw p (λ q. held-none l n _ (sym q)))
 
-  refused-seen : (why : Refusal) (o : Option Seen) → findSeen g e o ≡ found.Refused why → addSeen g st i e label o ≡ unchanged st (answer.Refused why)
-  unfolding findSeen addSeen
-  refused-seen why none = λ q. ap (λ (w : Refusal). unchanged st (answer.Refused w)) (same-refused refusal.Damage why q)
-  refused-seen why (some v) =
+  refused-followed : (why : Refusal) (o : Option Content) → findFollowed g e o ≡ found.Refused why → addFollowed g st i e label o ≡ unchanged st (answer.Refused why)
+  unfolding findFollowed addFollowed
+  refused-followed why none = λ q. ap (λ (w : Refusal). unchanged st (answer.Refused w)) (same-refused refusal.Damage why q)
+  refused-followed why (some v) =
       cases (isHeld g e (v .slots))
       (λ p. rw p (λ q. held-refused _ _ why q))
       (λ p. rw p (λ q. none-refused _ why q))
 
-  missing-as : (n : ℕ) (o : Option Seen) → content g st i ≡ o → findSeen g e o ≡ found.None n → Missing g st i e label n
-  unfolding findSeen addIn addSeen
+  missing-as : (n : ℕ) (o : Option Content) → content g st i ≡ o → findFollowed g e o ≡ found.None n → Missing g st i e label n
+  unfolding findFollowed addIn addFollowed
   missing-as n none w = λ q. none-refused n refusal.Damage (sym q)
   missing-as n (some v) w =
       cases (isHeld g e (v .slots))
       (λ p. rw p (λ q. held-none _ _ n q))
       (λ p. rw p (λ q.
       record {
-        readable = record { seen = v; is = w; long = sym (same-none _ n q) };
+        readable = record { followed = v; is = w; long = sym (same-none _ n q) };
         goes = rw (w, p) (ap (λ (m : ℕ). answered answer.Refused st (answer.Added label m) (append g st i (v .blocks) (slotOf g e label))) (same-none _ n q));
       }))
 
@@ -99,7 +99,7 @@ module _ (g : Layout) (st : State) (i e label : ℕ) where
 
   pub add-refused : (why : Refusal) → findIn g st i e ≡ found.Refused why → addIn g st i e label ≡ unchanged st (answer.Refused why)
   unfolding findIn addIn
-  add-refused why q = refused-seen why (content g st i) q
+  add-refused why q = refused-followed why (content g st i) q
 
   pub missing : (n : ℕ) → findIn g st i e ≡ found.None n → Missing g st i e label n
   unfolding findIn
@@ -139,17 +139,17 @@ module _ (g : Layout) (st : State) (i e label l n : ℕ) where
   label-appended m noBlock q = refused-added refusal.NoBlock l n q
   label-appended m (done u) q = same-added label m l n q
 
-  label-seen : (o : Option Seen) → addSeen g st i e label o .answer ≡ answer.Added l n → l ≡ label
-  unfolding addSeen
-  label-seen none = λ q. refused-added refusal.Damage l n q
-  label-seen (some v) =
+  label-followed : (o : Option Content) → addFollowed g st i e label o .answer ≡ answer.Added l n → l ≡ label
+  unfolding addFollowed
+  label-followed none = λ q. refused-added refusal.Damage l n q
+  label-followed (some v) =
       cases (isHeld g e (v .slots))
       (λ p. rw p (λ q. held-added _ _ l n q))
       (λ p. rw p (λ q. label-appended (length (v .slots)) (append g st i (v .blocks) (slotOf g e label)) q))
 
 pub added-label : (g : Layout) (t u : List ℕ) (i e label : ℕ) (r : AddAnswer) → Added g t u i e label r → (l n : ℕ) → r ≡ answer.Added l n → l ≡ label
 unfolding addIn
-added-label g t u i e label r a l n q = label-seen g (decode g t) i e label l n (content g (decode g t) i) (sym (a .answer) ∙ q)
+added-label g t u i e label r a l n q = label-followed g (decode g t) i e label l n (content g (decode g t) i) (sym (a .answer) ∙ q)
 
 -- ---- the call, by its tests
 

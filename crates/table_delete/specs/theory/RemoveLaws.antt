@@ -27,9 +27,9 @@ use Rattle.table.specs.State.{Basic, Overflow, State, emptyBasic, basicAt, over
 use Rattle.table.specs.Updates.{overBasic, withBasicCounter}
 use Rattle.table.specs.Decode.{basicSlots, overflowSlots, readOverflow, decode, written}
 use Rattle.table.specs.Table.{Table, Within}
-use Rattle.table.specs.Follow.{lastOf, Seen, gather, content}
-use Rattle.table.specs.Find.{position, isHeld, labelAt, findSeen, findIn}
-use Rattle.table.specs.Delete.{priorOf, basicSlotOff, shrinkAt, shrink, deleteSeen, deleteIn}
+use Rattle.table.specs.Follow.{lastOf, Content, gather, content}
+use Rattle.table.specs.Find.{position, isHeld, labelAt, findFollowed, findIn}
+use Rattle.table.specs.Delete.{priorOf, basicSlotOff, shrinkAt, shrink, deleteFollowed, deleteIn}
 use Rattle.table.specs.Calls.{deleteAnswer, deleteBytes}
 use Rattle.table_read.specs.Steps.{shown, basicRun}
 use Rattle.table_read.specs.BlockSlots.{blocksFrom, Reaches}
@@ -60,7 +60,7 @@ use Rattle.table.specs.declared.step.Before.the-variants as prior
 abbrev pub lastSlot : State → ℕ → ℕ
 lastSlot st l = getD (overflowAt (st .overflow) l .slots) (overflowAt (st .overflow) l .counter) 0
 
-abbrev lengthOf : Option Seen → ℕ
+abbrev lengthOf : Option Content → ℕ
 lengthOf none = 0
 lengthOf (some v) = length (v .slots)
 
@@ -97,7 +97,7 @@ module _ (g : Layout) (st : State) (i p : ℕ) (P : Placed g st i p) where
     first = basicAt (st .basic) i .head
 
     abbrev blocks : Chained g (st .overflow) first
-    blocks = long-blocks g st i (P .seen) (P .is) h
+    blocks = long-blocks g st i (P .followed) (P .is) h
 
     abbrev others : List ℕ
     others = blocks .others
@@ -112,7 +112,7 @@ module _ (g : Layout) (st : State) (i p : ℕ) (P : Placed g st i p) where
     tail = gather g (st .overflow) (first ∷ others)
 
     inside : g .sib ≤ p → p - g .sib < length tail
-    inside l = omega (arith, P .within, long-length g st i (P .seen) (P .is) h)
+    inside l = omega (arith, P .within, long-length g st i (P .followed) (P .is) h)
 
     abbrev filled : State
     filled = storeFrom g i first last p (lastSlot st last) st
@@ -120,7 +120,7 @@ module _ (g : Layout) (st : State) (i p : ℕ) (P : Placed g st i p) where
     long-is : removal g st i p ≡ shrink g filled i (first ∷ others)
     unfolding removal
     long-is =
-        ap (removalOf g st i p) (content-chained g st i (long-full g st i (P .seen) (P .is) h) blocks)
+        ap (removalOf g st i p) (content-chained g st i (long-full g st i (P .followed) (P .is) h) blocks)
         ∙ ap (λ (x : ℕ). shrink g (storeAt g st i (first ∷ others) p x) i (first ∷ others))
         (getD-end body tail (gather-some g (st .overflow) sz (blocks .chain)) ∙ last-slot g (st .overflow) sz (blocks .chain))
         ∙ ap (λ (u : State). shrink g u i (first ∷ others)) (store-is g st i sz (blocks .chain) (blocks .are) p (lastSlot st last) inside)
@@ -144,7 +144,7 @@ module _ (g : Layout) (st : State) (i p : ℕ) (P : Placed g st i p) where
           low = last-low g (st .overflow) (blocks .chain);
           few = last-few g (st .overflow) (blocks .chain);
           prior-low = prior-low g (st .overflow) prior.Basic tt (blocks .chain);
-          reaches = λ l. record { ends = long-ends g st i (P .seen) (P .is) h; within = rw (blocks .are) (inside l) };
+          reaches = λ l. record { ends = long-ends g st i (P .followed) (P .is) h; within = rw (blocks .are) (inside l) };
           is = long-is ∙ shrunk-is;
         }
 
@@ -251,8 +251,8 @@ pub record Found (g : Layout) (st : State) (i e l n : ℕ) : Type 0 where
   pub goes : deleteIn g st i e ≡ answered answer.Refused st (answer.Gone l n) (removal g st i (n - 1))
 
 module _ (g : Layout) (st : State) (i e : ℕ) where
-  found-as : (l n : ℕ) (o : Option Seen) → content g st i ≡ o → findSeen g e o ≡ found.Held l n → Found g st i e l n
-  unfolding findSeen deleteIn deleteSeen removal
+  found-as : (l n : ℕ) (o : Option Content) → content g st i ≡ o → findFollowed g e o ≡ found.Held l n → Found g st i e l n
+  unfolding findFollowed deleteIn deleteFollowed removal
   found-as l n none w = λ q. absurd (let z : _≡_ {A = ℕ} 0 1 = cc in omega arith)
   found-as l n (some v) w =
       cases (isHeld g e (v .slots))
@@ -263,7 +263,7 @@ module _ (g : Layout) (st : State) (i e : ℕ) where
       let m = ltb-true (position g e (v .slots)) (length (v .slots)) p in
       record {
         some-compared = omega arith;
-        placed = record { seen = v; is = w; within = omega arith };
+        placed = record { followed = v; is = w; within = omega arith };
         goes =
             rw (w, p)
             (ap₂ (λ (x y : ℕ). answered answer.Refused st (answer.Gone x y) (removalOf g st i (position g e (v .slots)) (some v))) el en
@@ -271,16 +271,16 @@ module _ (g : Layout) (st : State) (i e : ℕ) where
       }))
       (λ p. rw p (λ q. absurd (let z : _≡_ {A = ℕ} 0 1 = cc in omega arith)))
 
-  none-as : (n : ℕ) (o : Option Seen) → findSeen g e o ≡ found.None n → deleteSeen g st i e o ≡ unchanged st (answer.None n)
-  unfolding findSeen deleteSeen
+  none-as : (n : ℕ) (o : Option Content) → findFollowed g e o ≡ found.None n → deleteFollowed g st i e o ≡ unchanged st (answer.None n)
+  unfolding findFollowed deleteFollowed
   none-as n none = λ q. absurd (let z : _≡_ {A = ℕ} 0 1 = cc in omega arith)
   none-as n (some v) =
       cases (isHeld g e (v .slots))
       (λ p. rw p (λ q. absurd (let z : _≡_ {A = ℕ} 0 1 = cc in omega arith)))
       (λ p. rw p (λ q. let z : length (v .slots) ≡ n = cc in ap (λ (m : ℕ). unchanged st (answer.None m)) z))
 
-  refused-as : (why : Refusal) (o : Option Seen) → findSeen g e o ≡ found.Refused why → deleteSeen g st i e o ≡ unchanged st (answer.Refused why)
-  unfolding findSeen deleteSeen
+  refused-as : (why : Refusal) (o : Option Content) → findFollowed g e o ≡ found.Refused why → deleteFollowed g st i e o ≡ unchanged st (answer.Refused why)
+  unfolding findFollowed deleteFollowed
   refused-as why none = λ q. let z : refusal.Damage ≡ why = cc in ap (λ (x : Refusal). unchanged st (answer.Refused x)) z
   refused-as why (some v) =
       cases (isHeld g e (v .slots))

@@ -12,7 +12,7 @@ use lib.Dec.{ltb}
 use borrow.Author.Tests.{eq-eqb, ne-eqb, lt-ltb, le-ltb}
 use Rattle.settings.specs.declared.layout.Layout.{Layout}
 use Rattle.table.specs.State.{Overflow, State, basicAt, overflowAt, unpack}
-use Rattle.table.specs.Follow.{Seen, seen, lastOf, cons?, follow, gather, contentOver, content}
+use Rattle.table.specs.Follow.{Content, mkContent, lastOf, cons?, follow, gather, contentOver, content}
 use Rattle.table.specs.Take.{occurs}
 use Rattle.table_read.specs.Steps.{lastFrom, Followed}
 use Rattle.table_read.specs.BlockSlots.{blocksFrom, hasBlock, blockSlot, blockSlotIn, Reaches}
@@ -165,13 +165,13 @@ module _ (g : Layout) (st : State) (i : ℕ) where
   pub content-chained : basicAt (st .basic) i .counter ≡ suc (g .sib) → (c : Chained g (st .overflow) (basicAt (st .basic) i .head))
       → content g st i
       ≡ some
-      (seen (basicAt (st .basic) i .head ∷ c .others)
+      (mkContent (basicAt (st .basic) i .head ∷ c .others)
       (unpack g (overflowAt (st .overflow) (lastOf (basicAt (st .basic) i .head) (c .others)) .link) (basicAt (st .basic) i .rest)
       ++ gather g (st .overflow) (basicAt (st .basic) i .head ∷ c .others)))
   content-chained h c = content-over g st i h ∙ ap (contentOver g (basicAt (st .basic) i) (st .overflow)) (c .found)
 
   -- what is known of it where its content is known
-  module _ (v : Seen) (is : content g st i ≡ some v) (h : g .sib < basicAt (st .basic) i .counter) where
+  module _ (v : Content) (is : content g st i ≡ some v) (h : g .sib < basicAt (st .basic) i .counter) where
     not-damaged : {X : Type 0} → content g st i ≡ none → X
     not-damaged e = absurd (let z : _≡_ {A = ℕ} 0 1 = cc in omega arith)
 
@@ -199,5 +199,5 @@ module _ (g : Layout) (st : State) (i : ℕ) where
         let body = unpack g (last .link) (b .rest) in
         let tail = gather g (st .overflow) (b .head ∷ long-blocks .others) in
         let e = content-chained long-full long-blocks in
-        let z : v ≡ seen (b .head ∷ long-blocks .others) (body ++ tail) = cc in
-        ap (λ (x : Seen). length (x .slots)) z ∙ length-append body tail ∙ ap (λ (n : ℕ). n + length tail) (unpack-length g (last .link) (b .rest))
+        let z : v ≡ mkContent (b .head ∷ long-blocks .others) (body ++ tail) = cc in
+        ap (λ (x : Content). length (x .slots)) z ∙ length-append body tail ∙ ap (λ (n : ℕ). n + length tail) (unpack-length g (last .link) (b .rest))

@@ -18,8 +18,8 @@ use Rattle.settings.specs.declared.refusal.Refusal.the-variants as refusal
 use Rattle.table.specs.State.{State, basicAt, overflowAt, unpack, entryOf, labelOf}
 use Rattle.table.specs.Decode.{decode}
 use Rattle.table.specs.Table.{Table}
-use Rattle.table.specs.Follow.{Seen, content}
-use Rattle.table.specs.Find.{position, isHeld, findSeen, findIn}
+use Rattle.table.specs.Follow.{Content, content}
+use Rattle.table.specs.Find.{position, isHeld, findFollowed, findIn}
 use Rattle.table_read.specs.Steps.{slotsIn, basicRun, displacedRun, overflowRun, lastFrom, Overflows, gatherFrom, findFrom}
 use Rattle.table_read.specs.theory.Reads.{slots-length, basic-slots-in, displaced-slots-in, overflow-slots-in, link-lt}
 use Rattle.table_read.specs.theory.Walks.{Turn, followed, content-short, content-high, content-bad, content-long}
@@ -97,8 +97,8 @@ module _ (g : Layout) (e : ℕ) where
           ∙ ap₂ (λ (x n : ℕ). found.Held (labelOf g x) n) (getD-append-add xs ys (position g e ys) 0) z
           ∙ sym (find-held ys (k + length xs) (position g e ys) refl (omega arith))
 
-  pub find-all : (v : Seen) → findSeen g e (some v) ≡ findFrom g e (v .slots) 0
-  unfolding findSeen findFrom
+  pub find-all : (v : Content) → findFollowed g e (some v) ≡ findFrom g e (v .slots) 0
+  unfolding findFollowed findFrom
   find-all v =
       cases (isHeld g e (v .slots))
       (λ p. rw (p, zero-add (suc (position g e (v .slots)))))
@@ -156,12 +156,12 @@ module _ (g : Layout) (t : List ℕ) (T : Table g t) (e n f b c j : ℕ) (r : Sl
 
 module _ (g : Layout) (st : State) (i e : ℕ) where
   find-damaged : content g st i ≡ none → found.Refused refusal.Damage ≡ findIn g st i e
-  unfolding findIn findSeen
+  unfolding findIn findFollowed
   find-damaged q = rw q
 
-  find-whole : (v : Seen) → content g st i ≡ some v → findIn g st i e ≡ findFrom g e (v .slots) 0
+  find-whole : (v : Content) → content g st i ≡ some v → findIn g st i e ≡ findFrom g e (v .slots) 0
   unfolding findIn
-  find-whole v q = ap (findSeen g e) q ∙ find-all g e v
+  find-whole v q = ap (findFollowed g e) q ∙ find-all g e v
 
 module _ (g : Layout) (t : List ℕ) (T : Table g t) (i e : ℕ) (il : i < g .lists) where
   pub find-counted : (c : ℕ) (r : Slots) → c ≡ basicAt (decode g t .basic) i .counter → c ≤ g .sib → r ≡ basicRun g i c

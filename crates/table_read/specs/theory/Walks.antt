@@ -11,7 +11,7 @@ use Rattle.laws.specs.Cases.{cases}
 use Rattle.laws.specs.Options.{nothing}
 use Rattle.settings.specs.declared.layout.Layout.{Layout}
 use Rattle.table.specs.State.{Overflow, State, basicAt, overflowAt, unpack, ownSlots}
-use Rattle.table.specs.Follow.{seen, lastOf, cons?, follow, contentOver, content, goOn, stepAt}
+use Rattle.table.specs.Follow.{mkContent, lastOf, cons?, follow, contentOver, content, goOn, stepAt}
 use Rattle.table_read.specs.Steps.{lastIn, lastFrom, Followed, gatherFrom}
 use Rattle.table.specs.declared.step.Step.{Step}
 use Rattle.table.specs.declared.step.Step.the-variants.{Last, Further, Damage}
@@ -175,7 +175,7 @@ module _ (g : Layout) (os : List Overflow) where
 
 module _ (g : Layout) (st : State) (i : ℕ) where
   pub content-short : basicAt (st .basic) i .counter ≤ g .sib
-      → content g st i ≡ some (seen [] (take (basicAt (st .basic) i .counter) (ownSlots g (basicAt (st .basic) i))))
+      → content g st i ≡ some (mkContent [] (take (basicAt (st .basic) i .counter) (ownSlots g (basicAt (st .basic) i))))
   unfolding content
   content-short h = rw (lt-ltb (basicAt (st .basic) i .counter) (suc (g .sib)) (omega arith))
 
@@ -202,7 +202,7 @@ module _ (g : Layout) (st : State) (i : ℕ) where
 
   long-as : (b : ℕ) {o : Option (List ℕ)} → Walk g (st .overflow) (g .nob) b o → (bs : List ℕ) → follow g (g .nob) (st .overflow) b ≡ o → o ≡ some bs
       → contentOver g (basicAt (st .basic) i) (st .overflow) o
-      ≡ some (seen bs (unpack g (overflowAt (st .overflow) (lastFrom g (g .nob) (st .overflow) b) .link) (basicAt (st .basic) i .rest) ++ gatherFrom g (g .nob) (st .overflow) b))
+      ≡ some (mkContent bs (unpack g (overflowAt (st .overflow) (lastFrom g (g .nob) (st .overflow) b) .link) (basicAt (st .basic) i .rest) ++ gatherFrom g (g .nob) (st .overflow) b))
   unfolding lastFrom gatherFrom
   long-as b lost bs e w = nothing w
   long-as b (ended {cs} c l) bs e w = let z : b ∷ cs ≡ bs = cc in rw (e, ← z)
@@ -210,7 +210,7 @@ module _ (g : Layout) (st : State) (i : ℕ) where
   pub content-long : basicAt (st .basic) i .counter ≡ suc (g .sib) → (f : Followed g (g .nob) (st .overflow) (basicAt (st .basic) i .head))
       → content g st i
       ≡ some
-      (seen (f .blocks)
+      (mkContent (f .blocks)
       (unpack g (overflowAt (st .overflow) (lastFrom g (g .nob) (st .overflow) (basicAt (st .basic) i .head)) .link) (basicAt (st .basic) i .rest)
       ++ gatherFrom g (g .nob) (st .overflow) (basicAt (st .basic) i .head)))
   content-long h f =

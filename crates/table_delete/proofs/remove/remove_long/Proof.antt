@@ -50,7 +50,7 @@ end-of-requires : tie.Need-end-of-requires
 end-of-requires c κs =
     let s = c .before .before .before .before in
     let a = s .args in
-    (s .pre .0, rw (c .before .basic-head .ensures) (long-ends (a .g) (decode (a .g) (now (a .t))) (a .i .0) (s .pre .2 .seen) (s .pre .2 .is) (s .pre .3)))
+    (s .pre .0, rw (c .before .basic-head .ensures) (long-ends (a .g) (decode (a .g) (now (a .t))) (a .i .0) (s .pre .2 .followed) (s .pre .2 .is) (s .pre .3)))
 
 -- the list's end, and what follows from it
 way : (c : tie.After-end-of)
