@@ -18,7 +18,7 @@ use Rattle.table.specs.Table.{Table}
 use Rattle.table.specs.Follow.{further, stepAt}
 use Rattle.table.specs.Find.{position}
 use Rattle.table.specs.Check.{hasEntry, noEntryTwice}
-use Rattle.table_read.specs.Steps.{shown, First, SlotsWithin, slotsIn, basicRun, displacedRun, lastFrom}
+use Rattle.table_read.specs.Steps.{restoredBytes, First, SlotsWithin, slotsIn, basicRun, displacedRun, lastFrom}
 use Rattle.table_read.specs.theory.Reads.{slots-length, entry-in, overflow-run-within, basic-slots-in, displaced-slots-in, overflow-slots-in, link-lt}
 use Rattle.table_read.specs.declared.slots.Slots.{Slots}
 use Rattle.table.specs.declared.step.Step.{Step}
@@ -31,17 +31,17 @@ use Rattle.table_check.proofs.Doubles.{held-position, held-left, held-r
 -- ---- slot j of a run
 
 module _ (g : Layout) (F : Proper g) (t : List ℕ) (b : Slots) (R : SlotsWithin g t b) where
-  pub entry-is : (j at : ℕ) → j < b .count → at ≡ b .start + j * g .slot → field (shown t b) at (g .bie) ≡ entryOf g (getD (slotsIn g t b) j 0)
+  pub entry-is : (j at : ℕ) → j < b .count → at ≡ b .start + j * g .slot → field (restoredBytes t b) at (g .bie) ≡ entryOf g (getD (slotsIn g t b) j 0)
   entry-is j at h e =
-      ap (λ (a : ℕ). field (shown t b) a (g .bie)) e ∙ sym (entry-in g t b F j h)
+      ap (λ (a : ℕ). field (restoredBytes t b) a (g .bie)) e ∙ sym (entry-in g t b F j h)
 
   -- the first j slots looked through for an entry: it stands in one of them, or in none
-  pub met-before : (e j r : ℕ) → j ≤ b .count → First (shown t b) (b .start) (g .slot) (g .bie) e j r → r < j → position g e (slotsIn g t b) < j
+  pub met-before : (e j r : ℕ) → j ≤ b .count → First (restoredBytes t b) (b .start) (g .slot) (g .bie) e j r → r < j → position g e (slotsIn g t b) < j
   met-before e j r h f l =
       let n = slots-length g t b in
       omega (arith, position-at g e (slotsIn g t b) r (omega arith) (entry-in g t b F r (omega arith) ∙ f .found l))
 
-  pub none-before : (e j r : ℕ) → j ≤ b .count → First (shown t b) (b .start) (g .slot) (g .bie) e j r → j ≤ r → j ≤ position g e (slotsIn g t b)
+  pub none-before : (e j r : ℕ) → j ≤ b .count → First (restoredBytes t b) (b .start) (g .slot) (g .bie) e j r → j ≤ r → j ≤ position g e (slotsIn g t b)
   none-before e j r h f l =
       let n = slots-length g t b in
       position-from g e (slotsIn g t b) j (omega arith) (λ k i q. f .before k (omega arith) (sym (entry-in g t b F k (omega arith)) ∙ q))

@@ -23,17 +23,17 @@ ghost use Rattle.settings.specs.Proper.{Proper};
 ghost use Rattle.table.specs.Decode.{decode};
 ghost use Rattle.table.specs.Table.{Table};
 ghost use Rattle.table.specs.Check.{hasEntry, noEntryTwice};
-ghost use Rattle.table_read.specs.Steps.{shown, View, First, SlotsWithin, slotsIn};
+ghost use Rattle.table_read.specs.Steps.{restoredBytes, FieldWithin, First, SlotsWithin, slotsIn};
 ghost use Rattle.table_read.specs.Rows.{Row};
 ghost use Rattle.table_check.specs.Entries.{runOf, slotsFrom, slotsAfter, alone};
 
 // The same as `entry_at`, with a way of its own for entries behind the displaced bits, as most are. It serves one loop, and
 // is inlined there.
 fn next_entry(t: &[u8], b: Slots, at: usize, n: usize) -> Key
-    requires { ⌜ View (now t) b at n × (n ≤ 128) ⌝ }
-    ensures { λ r. ⌜ r ≡ keyOf (field (shown (now (t .entry)) b) at n) ⌝ }
+    requires { ⌜ FieldWithin (now t) b at n × (n ≤ 128) ⌝ }
+    ensures { λ r. ⌜ r ≡ keyOf (field (restoredBytes (now (t .entry)) b) at n) ⌝ }
 {
-    if at < b.start + b.link {
+    if at < b.start + b.displaced {
         return entry_at(&t[..], b, at, n);
     }
     if n <= 64 {
@@ -51,26 +51,26 @@ fn next_entry(t: &[u8], b: Slots, at: usize, n: usize) -> Key
 // The first of `count` slots that holds the entry, where their first bits are what they count as; count if none does.
 fn scan_run(t: &[u8], b: Slots, count: usize, slot: usize, bie: usize, entry: Key) -> SlotNumber
     requires { ⌜ Row (now t) (b .start) slot bie count × (keyNumber entry < 2 ^ bie) ⌝ }
-    requires { ⌜ (b .start + b .link ≤ 8 * length (now t)) × (b .link ≤ 16) × (b .head < 2 ^ b .link) ⌝ }
-    ensures { λ r. ⌜ First (shown (now (t .entry)) b) (b .start) slot bie (keyNumber entry) count (r .0) ⌝ }
+    requires { ⌜ (b .start + b .displaced ≤ 8 * length (now t)) × (b .displaced ≤ 16) × (b .value < 2 ^ b .displaced) ⌝ }
+    ensures { λ r. ⌜ First (restoredBytes (now (t .entry)) b) (b .start) slot bie (keyNumber entry) count (r .0) ⌝ }
 {
     if count == 0 {
         return SlotNumber(0);
     }
-    if b.link == 0 {
+    if b.displaced == 0 {
         let first = Slots {
             start: b.start,
             count,
-            link: 0,
-            head: 0,
+            displaced: 0,
+            value: 0,
         };
         return scan(&t[..], first, count, slot, bie, entry);
     }
     let first = Slots {
         start: b.start,
         count,
-        link: b.link,
-        head: b.head,
+        displaced: b.displaced,
+        value: b.value,
     };
     scan_displaced(&t[..], first, slot, bie, entry.high, entry.low)
 }

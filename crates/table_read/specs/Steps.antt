@@ -21,17 +21,17 @@ use Rattle.table.specs.declared.answers.FindAnswer.{FindAnswer}
 use Rattle.table.specs.declared.answers.FindAnswer.the-variants as found
 
 -- the bytes in which the first bits of the slots b are what they count as
-unfoldable pub shown : List ℕ → Slots → List ℕ
-shown t b = putField t (b .start) (b .link) (b .head)
+unfoldable pub restoredBytes : List ℕ → Slots → List ℕ
+restoredBytes t b = putField t (b .start) (b .displaced) (b .value)
 
 -- the n bits from bit at on can be read in those bytes
-pub record View (t : List ℕ) (b : Slots) (at n : ℕ) : Type 0 where
+pub record FieldWithin (t : List ℕ) (b : Slots) (at n : ℕ) : Type 0 where
   pub from : b .start ≤ at
   pub ends : at + n ≤ 8 * length t
   pub near : at + n ≤ 2 ^ 27
-  pub block : b .start + b .link ≤ 8 * length t
-  pub link : b .link ≤ 16
-  pub fits : b .head < 2 ^ b .link
+  pub block : b .start + b .displaced ≤ 8 * length t
+  pub narrow : b .displaced ≤ 16
+  pub fits : b .value < 2 ^ b .displaced
 
 -- n bits of each of `count` slots, those of slot 0 at bit `at`, with `step` bits from one slot to the next: r is the first slot that has the
 -- bits q; count if none has
@@ -45,26 +45,26 @@ module _ (g : Layout) where
   pub record SlotsWithin (t : List ℕ) (b : Slots) : Type 0 where
     pub ends : b .start + b .count * g .slot ≤ 8 * length t
     pub near : b .start + b .count * g .slot ≤ 2 ^ 27
-    pub block : b .start + b .link ≤ 8 * length t
-    pub link : b .link ≤ 16
-    pub fits : b .head < 2 ^ b .link
+    pub block : b .start + b .displaced ≤ 8 * length t
+    pub narrow : b .displaced ≤ 16
+    pub fits : b .value < 2 ^ b .displaced
     pub few : b .count ≤ 255
 
   -- the numbers in the slots b
   unfoldable pub slotsIn : List ℕ → Slots → List ℕ
-  slotsIn t b = tabulate (b .count) (λ k. field (shown t b) (b .start + k * g .slot) (g .slot))
+  slotsIn t b = tabulate (b .count) (λ k. field (restoredBytes t b) (b .start + k * g .slot) (g .slot))
 
   -- the first n slots of basic block i, as they stand
   unfoldable pub basicRun : ℕ → ℕ → Slots
-  basicRun i n = record { start = basicSlots g i; count = n; link = 0; head = 0 }
+  basicRun i n = record { start = basicSlots g i; count = n; displaced = 0; value = 0 }
 
   -- the slots of basic block i, whose first L bits count as h
   unfoldable pub displacedRun : ℕ → ℕ → Slots
-  displacedRun i h = record { start = basicSlots g i; count = g .sib; link = g .link; head = h }
+  displacedRun i h = record { start = basicSlots g i; count = g .sib; displaced = g .link; value = h }
 
   -- the slots in use of overflow block j, whose counter is c
   unfoldable pub overflowRun : ℕ → ℕ → Slots
-  overflowRun j c = record { start = overflowSlots g j; count = min (suc c) (g .sio); link = 0; head = 0 }
+  overflowRun j c = record { start = overflowSlots g j; count = min (suc c) (g .sio); displaced = 0; value = 0 }
 
   -- the last of the blocks that were followed; nob, which is no block, where there is damage
   abbrev pub lastIn : Option (List ℕ) → ℕ

@@ -54,8 +54,8 @@ pub fn basic_run(g: Layout, i: ListNumber, n: usize) -> Slots
     Slots {
         start: basic_slots(g, i),
         count: n,
-        link: 0,
-        head: 0,
+        displaced: 0,
+        value: 0,
     }
 }
 
@@ -67,8 +67,8 @@ pub fn displaced_run(g: Layout, i: ListNumber, h: usize) -> Slots
     Slots {
         start: basic_slots(g, i),
         count: g.sib,
-        link: g.link,
-        head: h as u64,
+        displaced: g.link,
+        value: h as u64,
     }
 }
 
@@ -80,8 +80,8 @@ pub fn overflow_run(g: Layout, j: BlockNumber, c: usize) -> Slots
     Slots {
         start: overflow_slots(g, j),
         count: least(c + 1, g.sio),
-        link: 0,
-        head: 0,
+        displaced: 0,
+        value: 0,
     }
 }
 

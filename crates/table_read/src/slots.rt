@@ -14,16 +14,16 @@ ghost use Rattle.bits.specs.Field.{field};
 ghost use Rattle.settings.specs.Proper.{Proper};
 ghost use Rattle.keys.specs.Key.{keyNumber, keyOf};
 ghost use Rattle.table.specs.State.{labelOf};
-ghost use Rattle.table_read.specs.Steps.{shown, View, First, SlotsWithin, slotsIn};
+ghost use Rattle.table_read.specs.Steps.{restoredBytes, FieldWithin, First, SlotsWithin, slotsIn};
 ghost use Rattle.table_read.specs.Rows.{Row};
 
-// Slots of a block: where the first begins, how many they are, and what their first `link` bits count
-// as. In a basic block that overflows those bits stand in the list's last link; elsewhere `link` is 0.
+// Slots of a block: where the first begins, how many they are, and what their first `displaced` bits count
+// as. In a basic block that overflows those bits stand in the list's last link; elsewhere `displaced` is 0.
 pub struct Slots {
     pub start: usize,
     pub count: usize,
-    pub link: usize,
-    pub head: u64,
+    pub displaced: usize,
+    pub value: u64,
 }
 
 pub fn least(a: usize, b: usize) -> usize
@@ -33,7 +33,7 @@ pub fn least(a: usize, b: usize) -> usize
 }
 
 // The n bits of x above its k low ones.
-fn part(x: u64, k: usize, n: usize) -> u64
+fn bits_above(x: u64, k: usize, n: usize) -> u64
     requires { ⌜ (k < 64) × (n < 64) ⌝ }
     ensures { λ r. ⌜ r ≡ x / 2 ^ k % 2 ^ n ⌝ }
 {
@@ -42,25 +42,25 @@ fn part(x: u64, k: usize, n: usize) -> u64
 
 // The field of n bits from bit `at` on, where the first bits of the slots are what they count as.
 pub fn restored(t: &[u8], b: Slots, at: usize, n: usize) -> u64
-    requires { ⌜ View (now t) b at n × (n ≤ 64) ⌝ }
-    ensures { λ r. ⌜ r ≡ field (shown (now (t .entry)) b) at n ⌝ }
+    requires { ⌜ FieldWithin (now t) b at n × (n ≤ 64) ⌝ }
+    ensures { λ r. ⌜ r ≡ field (restoredBytes (now (t .entry)) b) at n ⌝ }
 {
-    let end = b.start + b.link;
+    let end = b.start + b.displaced;
     if at >= end {
         return bits::get(t, at, n);
     }
     if at + n <= end {
-        return part(b.head, end - at - n, n);
+        return bits_above(b.value, end - at - n, n);
     }
     let k = end - at;
-    join(part(b.head, 0, k), n - k, bits::get(t, end, n - k))
+    join(bits_above(b.value, 0, k), n - k, bits::get(t, end, n - k))
 }
 
 // Whether the field of n bits from bit `at` on is the entry. Of more than 64 bits the low ones are
 // compared first.
 fn same_entry(t: &[u8], b: Slots, at: usize, n: usize, entry: Key) -> bool
-    requires { ⌜ View (now t) b at n × (n ≤ 128) × (keyNumber entry < 2 ^ n) ⌝ }
-    ensures { λ r. ⌜ r ≡ eqb (field (shown (now (t .entry)) b) at n) (keyNumber entry) ⌝ }
+    requires { ⌜ FieldWithin (now t) b at n × (n ≤ 128) × (keyNumber entry < 2 ^ n) ⌝ }
+    ensures { λ r. ⌜ r ≡ eqb (field (restoredBytes (now (t .entry)) b) at n) (keyNumber entry) ⌝ }
 {
     if n <= 64 {
         return restored(t, b, at, n) == entry.low;
@@ -156,8 +156,8 @@ pub fn scan(t: &[u8], b: Slots, room: usize, slot: usize, bie: usize, entry: Key
 
 // The first of the slots that holds the entry, where their first bits are what they count as.
 fn scan_restored(t: &[u8], b: Slots, slot: usize, bie: usize, entry: Key) -> SlotNumber
-    requires { ⌜ Row (now t) (b .start) slot bie (b .count) × (b .start + b .link ≤ 8 * length (now t)) × (b .link ≤ 16) × (b .head < 2 ^ b .link) × (keyNumber entry < 2 ^ bie) ⌝ }
-    ensures { λ r. ⌜ First (shown (now (t .entry)) b) (b .start) slot bie (keyNumber entry) (b .count) (r .0) ⌝ }
+    requires { ⌜ Row (now t) (b .start) slot bie (b .count) × (b .start + b .displaced ≤ 8 * length (now t)) × (b .displaced ≤ 16) × (b .value < 2 ^ b .displaced) × (keyNumber entry < 2 ^ bie) ⌝ }
+    ensures { λ r. ⌜ First (restoredBytes (now (t .entry)) b) (b .start) slot bie (keyNumber entry) (b .count) (r .0) ⌝ }
 {
     let mut at = b.start;
     let mut j: usize = 0;
@@ -174,10 +174,10 @@ fn scan_restored(t: &[u8], b: Slots, slot: usize, bie: usize, entry: Key) -> Slo
 // Whether slot 0 holds the entry, where its first bits are what they count as. Its last bits, which are not displaced, are
 // looked at first.
 fn first_holds(t: &[u8], b: Slots, bie: usize, entry: Key) -> bool
-    requires { ⌜ View (now t) b (b .start) bie × (bie ≤ 128) × (keyNumber entry < 2 ^ bie) × (b .link < bie) ⌝ }
-    ensures { λ r. ⌜ r ≡ eqb (field (shown (now (t .entry)) b) (b .start) bie) (keyNumber entry) ⌝ }
+    requires { ⌜ FieldWithin (now t) b (b .start) bie × (bie ≤ 128) × (keyNumber entry < 2 ^ bie) × (b .displaced < bie) ⌝ }
+    ensures { λ r. ⌜ r ≡ eqb (field (restoredBytes (now (t .entry)) b) (b .start) bie) (keyNumber entry) ⌝ }
 {
-    let m = least(bie - b.link, 57);
+    let m = least(bie - b.displaced, 57);
     if bits::get_short(t, b.start + (bie - m), m) != entry.low % pow(m) {
         return false;
     }
@@ -196,11 +196,11 @@ pub fn scan_displaced(
     low: u64,
 ) -> SlotNumber
     requires { ⌜ Row (now t) (b .start) slot bie (b .count) × (0 < b .count) × (high * 2 ^ 64 + low < 2 ^ bie) ⌝ }
-    requires { ⌜ (b .start + b .link ≤ 8 * length (now t)) × (b .link ≤ 16) × (b .head < 2 ^ b .link) ⌝ }
-    ensures { λ r. ⌜ First (shown (now (t .entry)) b) (b .start) slot bie (high * 2 ^ 64 + low) (b .count) (r .0) ⌝ }
+    requires { ⌜ (b .start + b .displaced ≤ 8 * length (now t)) × (b .displaced ≤ 16) × (b .value < 2 ^ b .displaced) ⌝ }
+    ensures { λ r. ⌜ First (restoredBytes (now (t .entry)) b) (b .start) slot bie (high * 2 ^ 64 + low) (b .count) (r .0) ⌝ }
 {
     let entry = Key { high, low };
-    if b.link >= bie {
+    if b.displaced >= bie {
         return scan_restored(&t[..], b, slot, bie, entry);
     }
     if first_holds(t, b, bie, entry) {
@@ -209,8 +209,8 @@ pub fn scan_displaced(
     let others = Slots {
         start: b.start + slot,
         count: b.count - 1,
-        link: 0,
-        head: 0,
+        displaced: 0,
+        value: 0,
     };
     let j = scan(&t[..], others, others.count, slot, bie, entry);
     SlotNumber(1 + j.0)
@@ -218,8 +218,8 @@ pub fn scan_displaced(
 
 // The entry of n bits from bit `at` on, among the slots.
 pub fn entry_at(t: &[u8], b: Slots, at: usize, n: usize) -> Key
-    requires { ⌜ View (now t) b at n × (n ≤ 128) ⌝ }
-    ensures { λ r. ⌜ r ≡ keyOf (field (shown (now (t .entry)) b) at n) ⌝ }
+    requires { ⌜ FieldWithin (now t) b at n × (n ≤ 128) ⌝ }
+    ensures { λ r. ⌜ r ≡ keyOf (field (restoredBytes (now (t .entry)) b) at n) ⌝ }
 {
     if n <= 64 {
         return Key {
@@ -235,10 +235,10 @@ pub fn entry_at(t: &[u8], b: Slots, at: usize, n: usize) -> Key
 
 // The label of val bits from bit `at` on, among the slots.
 pub fn label_at(t: &[u8], b: Slots, at: usize, val: usize) -> u32
-    requires { ⌜ View (now t) b at val × (val ≤ 32) ⌝ }
-    ensures { λ r. ⌜ r ≡ field (shown (now (t .entry)) b) at val ⌝ }
+    requires { ⌜ FieldWithin (now t) b at val × (val ≤ 32) ⌝ }
+    ensures { λ r. ⌜ r ≡ field (restoredBytes (now (t .entry)) b) at val ⌝ }
 {
-    if at >= b.start + b.link {
+    if at >= b.start + b.displaced {
         return bits::get(t, at, val) as u32;
     }
     restored(&t[..], b, at, val) as u32

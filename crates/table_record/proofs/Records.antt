@@ -25,7 +25,7 @@ use Rattle.table.specs.Decode.{decode}
 use Rattle.table.specs.Table.{Table}
 use Rattle.table.specs.Follow.{Content, contentOf, content}
 use Rattle.table.specs.Record.{recordFrom, recordIn}
-use Rattle.table_read.specs.Steps.{shown, slotsIn, basicRun, displacedRun, overflowRun, lastFrom, Followed, Overflows, gatherFrom}
+use Rattle.table_read.specs.Steps.{restoredBytes, slotsIn, basicRun, displacedRun, overflowRun, lastFrom, Followed, Overflows, gatherFrom}
 use Rattle.table_record.specs.RecordSteps.{slotNth, nthOf, nthIn, Bounded, recordsFrom}
 use Rattle.table_read.specs.theory.Reads.{slots-length, entry-in, unpack-length, basic-slots-in, displaced-slots-in, link-lt}
 use Rattle.table_read.specs.theory.Walks.{turn, followed, content-short, content-bad, content-long, Turn}
@@ -85,7 +85,7 @@ module _ (g : Layout) where
 
 pub entry-bound : (g : Layout) → Proper g → (t : List ℕ) (b : Slots) (j : ℕ) → j < b .count → (k : Key) → k ≡ keyOf (entryOf g (getD (slotsIn g t b) j 0)) → keyNumber k < 2 ^ g .bie
 entry-bound g F t b j l k e =
-    rw (e, number-key (entryOf g (getD (slotsIn g t b) j 0)), entry-in g t b F j l) (field-lt (shown t b) (b .start + j * g .slot) (g .bie))
+    rw (e, number-key (entryOf g (getD (slotsIn g t b) j 0)), entry-in g t b F j l) (field-lt (restoredBytes t b) (b .start + j * g .slot) (g .bie))
 
 -- ---- the slots of an overflow block, and those of the blocks behind it
 

@@ -101,7 +101,7 @@ pub fn copy(t: &mut [u8], from: usize, to: usize, n: usize)
     bits::put_wide(&mut t[..], to, 128, high, low);
 }
 
-// The slot v at bit `at`, where the first `link` bits of the slots b count as `head` and themselves stay. The answer is
+// The slot v at bit `at`, where the displaced bits of the slots b count as their value and themselves stay. The answer is
 // what they would be then: they are put back, the slot is stored, they are read again, and what stood there returns. A
 // label alone is a slot without an entry: bie is 0, and `at` is where it begins.
 pub fn store_over_displaced(
@@ -113,14 +113,14 @@ pub fn store_over_displaced(
     v: Slot,
 ) -> usize
     requires { ⌜ (at + (bie + val) ≤ 8 * length (now t)) × (at + (bie + val) ≤ 2 ^ 27) × (bie ≤ 128) × (val ≤ 32) × (keyNumber (v .entry) < 2 ^ bie) × (v .label < 2 ^ val) ⌝ }
-    requires { ⌜ (b .start + b .link ≤ 8 * length (now t)) × (b .link ≤ 16) × (b .head < 2 ^ b .link) ⌝ }
-    ensures { λ r. ⌜ StoredOver (b .link) (bie + val) (now (t .entry)) (now (t .exit)) (b .start) (b .head) at (keyNumber (v .entry) * 2 ^ val + v .label) r ⌝ }
+    requires { ⌜ (b .start + b .displaced ≤ 8 * length (now t)) × (b .displaced ≤ 16) × (b .value < 2 ^ b .displaced) ⌝ }
+    ensures { λ r. ⌜ StoredOver (b .displaced) (bie + val) (now (t .entry)) (now (t .exit)) (b .start) (b .value) at (keyNumber (v .entry) * 2 ^ val + v .label) r ⌝ }
 {
     let entry = v.entry;
-    let old = bits::get(t, b.start, b.link);
-    bits::put(t, b.start, b.link, b.head);
+    let old = bits::get(t, b.start, b.displaced);
+    bits::put(t, b.start, b.displaced, b.value);
     put_slot(t, at, bie, val, entry.high, entry.low, v.label);
-    let new = bits::get(t, b.start, b.link);
-    bits::put(t, b.start, b.link, old);
+    let new = bits::get(t, b.start, b.displaced);
+    bits::put(t, b.start, b.displaced, old);
     new as usize
 }

@@ -31,7 +31,7 @@ use Rattle.table.specs.Follow.{lastOf, Content, gather, content}
 use Rattle.table.specs.Find.{position, isHeld, labelAt, findFollowed, findIn}
 use Rattle.table.specs.Delete.{priorOf, basicSlotOff, shrinkAt, shrink, deleteFollowed, deleteIn}
 use Rattle.table.specs.Calls.{deleteAnswer, deleteBytes}
-use Rattle.table_read.specs.Steps.{shown, basicRun}
+use Rattle.table_read.specs.Steps.{restoredBytes, basicRun}
 use Rattle.table_read.specs.BlockSlots.{blocksFrom, Reaches}
 use Rattle.table.specs.Done.{Done, damage, done, Answered, unchanged, answered}
 use Rattle.table.specs.Store.{slotIn, storeAt}
@@ -165,7 +165,7 @@ module _ (g : Layout) (t : List ℕ) (T : Table g t) where
 
   pub basic-slot-is : (i k : ℕ) → i < g .lists → k < g .sib
       → getD (ownSlots g (basicAt (decode g t .basic) i)) k 0 ≡ field t (basicSlot g i k) (g .slot)
-  unfolding basicRun shown basicSlot
+  unfolding basicRun restoredBytes basicSlot
   basic-slot-is i k h l =
       let es = ownSlots g (basicAt (decode g t .basic) i) in
       sym (getD-take (g .sib) es k 0 l)

@@ -57,9 +57,9 @@ few c =
     let s = c .before .before .before .before .before .before in
     (omega (arith, ap (λ (r : Slots). r .count) (c .overflow-run .ensures)), s .pre .0 .proper .sio-high)
 
-plain : (c : tie.After-overflow-run Inv-loop μ-loop) → c .overflow-run .result .link ≡ 0
+plain : (c : tie.After-overflow-run Inv-loop μ-loop) → c .overflow-run .result .displaced ≡ 0
 unfolding overflowRun
-plain c = ap (λ (r : Slots). r .link) (c .overflow-run .ensures)
+plain c = ap (λ (r : Slots). r .displaced) (c .overflow-run .ensures)
 
 -- the entry's place in them
 place : (d : tie.After-scan Inv-loop μ-loop)

@@ -7,12 +7,12 @@ use lib.ListN.{length}
 use Rattle.keys.specs.Key.{keyNumber}
 use Rattle.table.specs.Decode.{decode}
 use Rattle.table.specs.Find.{position}
-use Rattle.table_read.specs.Steps.{shown, SlotsWithin, slotsIn, displacedRun, lastFrom}
+use Rattle.table_read.specs.Steps.{restoredBytes, SlotsWithin, slotsIn, displacedRun, lastFrom}
 use Rattle.table_read.specs.theory.Reads.{displaced-run-within, head-lt, link-lt}
 use Rattle.table_read.specs.theory.Walks.{followed}
 use Rattle.table_read.specs.theory.Lasts.{EndsAt, ends-at, no-end}
 use Rattle.table_read.specs.theory.Finds.{find-bad, find-first, find-rest}
-use Rattle.table_read.specs.theory.Scans.{run-row, label-inside, first-position, held-shown}
+use Rattle.table_read.specs.theory.Scans.{run-row, label-inside, first-position, held-restored}
 use Rattle.table_read.specs.declared.slots.Slots.{Slots}
 use Rattle.table.specs.declared.answers.FindAnswer.the-variants as found
 use borrow.Author.Needs.{needs}
@@ -59,7 +59,7 @@ all c = ap (λ (r : Slots). r .count) (c .displaced-run .ensures)
 place : (d : tie.After-scan-displaced)
     → (let s = (to-start (to-last (to-overflow-link d))) .args in
     d .scan-displaced .result .0 ≡ position (s .g) (keyNumber (s .entry)) (slotsIn (s .g) (now (s .t)) (d .before .displaced-run .result)))
-unfolding shown keyNumber
+unfolding restoredBytes keyNumber
 place d =
     let s = to-start (to-last (to-overflow-link d)) in
     first-position (s .args .g) (s .pre .0 .proper) (now (s .args .t)) (d .before .displaced-run .result)
@@ -103,7 +103,7 @@ unfolding keyNumber
 scan-displaced-requires c κs =
     let s = to-start (to-last (c .before)) in
     let R = run-within c in
-    ((run-row (s .args .g) (s .pre .0 .proper) (now (s .args .t)) (c .displaced-run .result) R, omega (arith, all c, s .pre .0 .proper .sib-low), s .pre .3), (R .block, R .link, R .fits))
+    ((run-row (s .args .g) (s .pre .0 .proper) (now (s .args .t)) (c .displaced-run .result) R, omega (arith, all c, s .pre .0 .proper .sib-low), s .pre .3), (R .block, R .narrow, R .fits))
 
 mul-label-at : tie.Need-mul-label-at
 mul-label-at c = omega (arith, inside (c .before .before))
@@ -125,7 +125,7 @@ label-at-requires c κs =
         ends = inside k .0;
         near = inside k .1;
         block = R .block;
-        link = R .link;
+        narrow = R .narrow;
         fits = R .fits;
       },
       s .pre .0 .proper .val-high,
@@ -149,7 +149,7 @@ returns-2 c =
     let s = e .before .before .before .before in
     let j = d .scan-displaced .result .0 in
     ap (λ (x : ℕ). found.Held x (j + 1)) (c .before .label-at .ensures)
-    ∙ held-shown (s .args .g) (s .pre .0 .proper) (now (s .args .t)) (d .before .displaced-run .result) j (j + 1) 0 (omega (arith, h .if1 .taken, all (d .before))) (omega arith)
+    ∙ held-restored (s .args .g) (s .pre .0 .proper) (now (s .args .t)) (d .before .displaced-run .result) j (j + 1) 0 (omega (arith, h .if1 .taken, all (d .before))) (omega arith)
     ∙ find-first (s .args .g) (now (s .args .t)) (s .pre .0) (s .args .i .0) (keyNumber (s .args .entry)) (s .pre .1)
     (s .args .first .0) (e .last .given .0 .0 .0) (s .pre .2) (end e .is)
     (k .overflow-link .result) j (d .before .displaced-run .result)

@@ -48,9 +48,9 @@ module _ (s : tie.Start) (b : Slots) (is : b ≡ basicRun (s .args .g) (s .args 
   unfolding basicRun
   all = ap (λ (x : Slots). x .count) is
 
-  plain : b .link ≡ 0
+  plain : b .displaced ≡ 0
   unfolding basicRun
-  plain = ap (λ (x : Slots). x .link) is
+  plain = ap (λ (x : Slots). x .displaced) is
 
   -- the block has room for sib slots
   room : Row t (b .start) (g .slot) (g .bie) (g .sib)

@@ -24,7 +24,7 @@ use Rattle.table.specs.Arrays.{tabulate, unpacked}
 use Rattle.table.specs.State.{Basic, Overflow, basicAt, overflowAt, restBits, unpack, ownSlots, entryOf, labelOf}
 use Rattle.table.specs.Decode.{basicSlots, linkAt, overflowSlots, readBasic, readOverflow, decode}
 use Rattle.table.specs.Table.{Table}
-use Rattle.table_read.specs.Steps.{shown, View, SlotsWithin, slotsIn, basicRun, displacedRun, overflowRun}
+use Rattle.table_read.specs.Steps.{restoredBytes, FieldWithin, SlotsWithin, slotsIn, basicRun, displacedRun, overflowRun}
 use Rattle.table.specs.theory.Arrays.{length-tab, getD-tab, tab-ext}
 use Rattle.table.specs.theory.Changes.{basic-ends, over-ends, start-high, bits-high, at-basic, at-over}
 use Rattle.table_read.specs.declared.slots.Slots.{Slots}
@@ -32,33 +32,33 @@ use Rattle.table_read.specs.declared.slots.Slots.{Slots}
 -- ---- a field that lies behind the displaced bits, in them, or across their end
 
 module _ (t : List ℕ) (b : Slots) (at : ℕ) where
-  pub shown-out : (n : ℕ) → View t b at n → b .start + b .link ≤ at → field t at n ≡ field (shown t b) at n
-  unfolding shown
-  shown-out n v o = sym (put-out t (b .start) (b .link) (b .head) at n (v .block) (inr o))
+  pub restored-bytes-out : (n : ℕ) → FieldWithin t b at n → b .start + b .displaced ≤ at → field t at n ≡ field (restoredBytes t b) at n
+  unfolding restoredBytes
+  restored-bytes-out n v o = sym (put-out t (b .start) (b .displaced) (b .value) at n (v .block) (inr o))
 
-  pub shown-in : (n : ℕ) → View t b at n → at + n ≤ b .start + b .link
-      → b .head / 2 ^ (b .start + b .link - at - n) % 2 ^ n ≡ field (shown t b) at n
-  unfolding shown
-  shown-in n v o =
-      let e : at - b .start + n + (b .start + b .link - at - n) ≡ b .link = omega (arith, v .from) in
+  pub restored-bytes-in : (n : ℕ) → FieldWithin t b at n → at + n ≤ b .start + b .displaced
+      → b .value / 2 ^ (b .start + b .displaced - at - n) % 2 ^ n ≡ field (restoredBytes t b) at n
+  unfolding restoredBytes
+  restored-bytes-in n v o =
+      let e : at - b .start + n + (b .start + b .displaced - at - n) ≡ b .displaced = omega (arith, v .from) in
       let f : b .start + (at - b .start) ≡ at = omega (arith, v .from) in
-      ap (λ (x : ℕ). x / 2 ^ (b .start + b .link - at - n) % 2 ^ n) (sym (put-same t (b .start) (b .link) (b .head) (v .block) (v .fits)))
-      ∙ sub-field (putField t (b .start) (b .link) (b .head)) (b .start) (b .link) (at - b .start) n (b .start + b .link - at - n) e
-      ∙ ap (λ (x : ℕ). field (putField t (b .start) (b .link) (b .head)) x n) f
+      ap (λ (x : ℕ). x / 2 ^ (b .start + b .displaced - at - n) % 2 ^ n) (sym (put-same t (b .start) (b .displaced) (b .value) (v .block) (v .fits)))
+      ∙ sub-field (putField t (b .start) (b .displaced) (b .value)) (b .start) (b .displaced) (at - b .start) n (b .start + b .displaced - at - n) e
+      ∙ ap (λ (x : ℕ). field (putField t (b .start) (b .displaced) (b .value)) x n) f
 
-  pub shown-across : (n k m : ℕ) → View t b at n → at + k ≡ b .start + b .link → k + m ≡ n
-      → b .head / 2 ^ 0 % 2 ^ k * 2 ^ m + field t (b .start + b .link) m ≡ field (shown t b) at n
-  unfolding shown
-  shown-across n k m v e f =
-      let z : b .start + b .link - at - k ≡ 0 = omega arith in
-      let p : View t b at k =
-      record { from = v .from; ends = omega (arith, v .ends); near = omega (arith, v .near); block = v .block; link = v .link; fits = v .fits } in
+  pub restored-bytes-across : (n k m : ℕ) → FieldWithin t b at n → at + k ≡ b .start + b .displaced → k + m ≡ n
+      → b .value / 2 ^ 0 % 2 ^ k * 2 ^ m + field t (b .start + b .displaced) m ≡ field (restoredBytes t b) at n
+  unfolding restoredBytes
+  restored-bytes-across n k m v e f =
+      let z : b .start + b .displaced - at - k ≡ 0 = omega arith in
+      let p : FieldWithin t b at k =
+      record { from = v .from; ends = omega (arith, v .ends); near = omega (arith, v .near); block = v .block; narrow = v .narrow; fits = v .fits } in
       ap₂ (λ (x y : ℕ). x * 2 ^ m + y)
-      (ap (λ (x : ℕ). b .head / 2 ^ x % 2 ^ k) (sym z) ∙ shown-in k p (omega arith))
-      (sym (put-out t (b .start) (b .link) (b .head) (b .start + b .link) m (v .block) (inr (omega arith)))
-      ∙ ap (λ (x : ℕ). field (putField t (b .start) (b .link) (b .head)) x m) (sym e))
-      ∙ sym (field-cat (putField t (b .start) (b .link) (b .head)) at k m)
-      ∙ ap (field (putField t (b .start) (b .link) (b .head)) at) f
+      (ap (λ (x : ℕ). b .value / 2 ^ x % 2 ^ k) (sym z) ∙ restored-bytes-in k p (omega arith))
+      (sym (put-out t (b .start) (b .displaced) (b .value) (b .start + b .displaced) m (v .block) (inr (omega arith)))
+      ∙ ap (λ (x : ℕ). field (putField t (b .start) (b .displaced) (b .value)) x m) (sym e))
+      ∙ sym (field-cat (putField t (b .start) (b .displaced) (b .value)) at k m)
+      ∙ ap (field (putField t (b .start) (b .displaced) (b .value)) at) f
 
 -- ---- a slot's entry and label
 
@@ -111,30 +111,30 @@ module _ (g : Layout) (t : List ℕ) (b : Slots) where
   unfolding slotsIn
   slots-length = length-tab (b .count) _
 
-  pub slot-in : (k : ℕ) → k < b .count → getD (slotsIn g t b) k 0 ≡ field (shown t b) (b .start + k * g .slot) (g .slot)
+  pub slot-in : (k : ℕ) → k < b .count → getD (slotsIn g t b) k 0 ≡ field (restoredBytes t b) (b .start + k * g .slot) (g .slot)
   unfolding slotsIn
   slot-in k h = getD-tab (b .count) _ k 0 h
 
-  pub entry-in : Proper g → (k : ℕ) → k < b .count → entryOf g (getD (slotsIn g t b) k 0) ≡ field (shown t b) (b .start + k * g .slot) (g .bie)
-  entry-in F k h = ap (entryOf g) (slot-in k h) ∙ slot-entry g F (shown t b) (b .start + k * g .slot)
+  pub entry-in : Proper g → (k : ℕ) → k < b .count → entryOf g (getD (slotsIn g t b) k 0) ≡ field (restoredBytes t b) (b .start + k * g .slot) (g .bie)
+  entry-in F k h = ap (entryOf g) (slot-in k h) ∙ slot-entry g F (restoredBytes t b) (b .start + k * g .slot)
 
   pub label-in : Proper g → (k : ℕ) → k < b .count
-      → labelOf g (getD (slotsIn g t b) k 0) ≡ field (shown t b) (b .start + k * g .slot + g .bie) (g .val)
-  label-in F k h = ap (labelOf g) (slot-in k h) ∙ slot-label g F (shown t b) (b .start + k * g .slot)
+      → labelOf g (getD (slotsIn g t b) k 0) ≡ field (restoredBytes t b) (b .start + k * g .slot + g .bie) (g .val)
+  label-in F k h = ap (labelOf g) (slot-in k h) ∙ slot-label g F (restoredBytes t b) (b .start + k * g .slot)
 
   pub slot-inside : (k : ℕ) → k < b .count → b .start + k * g .slot + g .slot ≤ b .start + b .count * g .slot
   slot-inside k h = omega (arith, mul-le-mul-right (g .slot) h)
 
   -- the entry of slot k is within the slots
-  pub entry-view : Proper g → SlotsWithin g t b → (k at : ℕ) → k < b .count → at ≡ b .start + k * g .slot → View t b at (g .bie)
-  entry-view F R k at h e =
+  pub entry-within : Proper g → SlotsWithin g t b → (k at : ℕ) → k < b .count → at ≡ b .start + k * g .slot → FieldWithin t b at (g .bie)
+  entry-within F R k at h e =
       let r = slot-inside k h in
       record {
         from = omega arith;
         ends = omega (arith, R .ends, F .slot-is);
         near = omega (arith, R .near, F .slot-is);
         block = R .block;
-        link = R .link;
+        narrow = R .narrow;
         fits = R .fits;
       }
 
@@ -203,7 +203,7 @@ module _ (g : Layout) (t : List ℕ) (T : Table g t) where
         ends = omega (arith, T .room);
         near = omega arith;
         block = omega (arith, T .room);
-        link = omega arith;
+        narrow = omega arith;
         fits = omega arith;
         few = omega (arith, F .sib-high);
       }
@@ -218,7 +218,7 @@ module _ (g : Layout) (t : List ℕ) (T : Table g t) where
         ends = omega (arith, T .room);
         near = omega arith;
         block = omega (arith, F .link-fits, T .room);
-        link = F .link-high;
+        narrow = F .link-high;
         fits = f;
         few = F .sib-high;
       }
@@ -235,7 +235,7 @@ module _ (g : Layout) (t : List ℕ) (T : Table g t) where
         ends = omega (arith, T .room);
         near = omega arith;
         block = omega (arith, T .room);
-        link = omega arith;
+        narrow = omega arith;
         fits = omega arith;
         few = omega (arith, F .sio-high);
       }
@@ -256,7 +256,7 @@ module _ (g : Layout) (t : List ℕ) (T : Table g t) where
 
   -- the slots of a basic block, whose first L bits count as h
   pub displaced-slots-in : (i h : ℕ) → i < g .lists → h < 2 ^ g .link → slotsIn g t (displacedRun g i h) ≡ unpack g h (basicAt (decode g t .basic) i .rest)
-  unfolding slotsIn shown displacedRun unpack readBasic
+  unfolding slotsIn restoredBytes displacedRun unpack readBasic
   displaced-slots-in i h l f =
       let F = T .proper in
       let e : g .sib * g .slot ≡ g .link + restBits g = omega (arith, F .link-fits) in
@@ -281,7 +281,7 @@ module _ (g : Layout) (t : List ℕ) (T : Table g t) where
 
   standing : (i n : ℕ) → i < g .lists → n ≤ g .sib
       → slotsIn g t (basicRun g i n) ≡ take n (slotsIn g t (displacedRun g i (basicAt (decode g t .basic) i .head)))
-  unfolding slotsIn shown basicRun displacedRun
+  unfolding slotsIn restoredBytes basicRun displacedRun
   standing i n l k =
       let z : n ≡ min n (g .sib) = omega arith in
       ap₂ (λ (s : List ℕ) (m : ℕ). tabulate m (λ q. field s (basicSlots g i + q * g .slot) (g .slot))) (put-zero t (basicSlots g i) 0 ∙ sym (own-head i l)) z
@@ -293,7 +293,7 @@ module _ (g : Layout) (t : List ℕ) (T : Table g t) where
 
   -- the slots in use of an overflow block
   pub overflow-slots-in : (j c : ℕ) → j < g .nob → slotsIn g t (overflowRun g j c) ≡ take (suc c) (overflowAt (decode g t .overflow) j .slots)
-  unfolding slotsIn shown overflowRun readOverflow
+  unfolding slotsIn restoredBytes overflowRun readOverflow
   overflow-slots-in j c l =
       ap (λ (s : List ℕ). tabulate (min (suc c) (g .sio)) (λ k. field s (overflowSlots g j + k * g .slot) (g .slot))) (put-zero t (overflowSlots g j) 0)
       ∙ sym

@@ -15,7 +15,7 @@ use Rattle.table.specs.State.{labelOf}
 use Rattle.table.specs.Decode.{basicSlots, overflowSlots}
 use Rattle.table.specs.Table.{Table}
 use Rattle.table.specs.Find.{position}
-use Rattle.table_read.specs.Steps.{shown, First, SlotsWithin, slotsIn, basicRun, overflowRun}
+use Rattle.table_read.specs.Steps.{restoredBytes, First, SlotsWithin, slotsIn, basicRun, overflowRun}
 use Rattle.table_read.specs.Rows.{Row}
 use Rattle.table_read.specs.theory.Reads.{slots-length, entry-in, label-in, slot-inside, basic-run-within, overflow-run-within}
 use Rattle.table_read.specs.theory.Finds.{position-is}
@@ -23,9 +23,9 @@ use Rattle.table_read.specs.declared.slots.Slots.{Slots}
 use Rattle.table.specs.declared.answers.FindAnswer.the-variants as found
 
 -- where no bits are displaced, the slots count as they stand
-pub shown-plain : (t : List ℕ) (b : Slots) → b .link ≡ 0 → shown t b ≡ t
-unfolding shown
-shown-plain t b z = ap (λ (n : ℕ). putField t (b .start) n (b .head)) z ∙ put-zero t (b .start) (b .head)
+pub restored-bytes-plain : (t : List ℕ) (b : Slots) → b .displaced ≡ 0 → restoredBytes t b ≡ t
+unfolding restoredBytes
+restored-bytes-plain t b z = ap (λ (n : ℕ). putField t (b .start) n (b .value)) z ∙ put-zero t (b .start) (b .value)
 
 module _ (g : Layout) (F : Proper g) (t : List ℕ) (b : Slots) where
   pub run-row : SlotsWithin g t b → Row t (b .start) (g .slot) (g .bie) (b .count)
@@ -48,7 +48,7 @@ module _ (g : Layout) (F : Proper g) (t : List ℕ) (b : Slots) where
       (omega (arith, R .ends), omega (arith, R .near))
 
   -- the first slot with an entry's bits is where the entry stands
-  pub first-position : (e r : ℕ) → First (shown t b) (b .start) (g .slot) (g .bie) e (b .count) r → r ≡ position g e (slotsIn g t b)
+  pub first-position : (e r : ℕ) → First (restoredBytes t b) (b .start) (g .slot) (g .bie) e (b .count) r → r ≡ position g e (slotsIn g t b)
   first-position e r f =
       let n = slots-length g t b in
       sym
@@ -57,21 +57,21 @@ module _ (g : Layout) (F : Proper g) (t : List ℕ) (b : Slots) where
       (λ h. ap (λ (x : ℕ). eqb x e) (entry-in g t b F r (omega arith)) ∙ eq-eqb (bits r) e (f .found (omega arith))))
     where
       bits : ℕ → ℕ
-      bits k = field (shown t b) (b .start + k * g .slot) (g .bie)
+      bits k = field (restoredBytes t b) (b .start + k * g .slot) (g .bie)
 
   -- and the label's bits are behind them; m slots were compared
-  pub held-shown : (k m n : ℕ) → k < b .count → m ≡ n + suc k
-      → found.Held (field (shown t b) (b .start + k * g .slot + g .bie) (g .val)) m ≡ found.Held (labelOf g (getD (slotsIn g t b) k 0)) (n + suc k)
-  held-shown k m n h e = ap₂ found.Held (sym (label-in g t b F k h)) e
+  pub held-restored : (k m n : ℕ) → k < b .count → m ≡ n + suc k
+      → found.Held (field (restoredBytes t b) (b .start + k * g .slot + g .bie) (g .val)) m ≡ found.Held (labelOf g (getD (slotsIn g t b) k 0)) (n + suc k)
+  held-restored k m n h e = ap₂ found.Held (sym (label-in g t b F k h)) e
 
-  module _ (z : b .link ≡ 0) where
+  module _ (z : b .displaced ≡ 0) where
     pub plain-position : (e r : ℕ) → First t (b .start) (g .slot) (g .bie) e (b .count) r → r ≡ position g e (slotsIn g t b)
-    plain-position e r f = first-position e r (rw (shown-plain t b z) f)
+    plain-position e r f = first-position e r (rw (restored-bytes-plain t b z) f)
 
     pub held-plain : (k m n : ℕ) → k < b .count → m ≡ n + suc k
         → found.Held (field t (b .start + k * g .slot + g .bie) (g .val)) m ≡ found.Held (labelOf g (getD (slotsIn g t b) k 0)) (n + suc k)
     held-plain k m n h e =
-        ap (λ (s : List ℕ). found.Held (field s (b .start + k * g .slot + g .bie) (g .val)) m) (sym (shown-plain t b z)) ∙ held-shown k m n h e
+        ap (λ (s : List ℕ). found.Held (field s (b .start + k * g .slot + g .bie) (g .val)) m) (sym (restored-bytes-plain t b z)) ∙ held-restored k m n h e
 
 -- the whole blocks
 module _ (g : Layout) (t : List ℕ) (T : Table g t) where

@@ -3,7 +3,7 @@ use mathlib.Core.Path.{sym, ap, _∙_, refl}
 use native.Mathlib.Omega.{arith}
 use denote.Ref.{now}
 use Rattle.keys.specs.Key.{keyOf}
-use Rattle.table_read.specs.theory.Reads.{slot-inside, entry-in, entry-view}
+use Rattle.table_read.specs.theory.Reads.{slot-inside, entry-in, entry-within}
 use Rattle.table_record.proofs.entry_in.Statement.{statement}
 use Rattle.table_record.proofs.entry_in.Tie as tie
 
@@ -20,7 +20,7 @@ add-entry-at c =
 entry-at-requires : tie.Need-entry-at-requires
 entry-at-requires c κs =
     let a = c .before .before .before .before in
-    (entry-view (a .args .g) (now (a .args .t)) (a .args .b) (a .pre .0) (a .pre .1) (a .args .j .0) _ (a .pre .2) refl, a .pre .0 .bie-high)
+    (entry-within (a .args .g) (now (a .args .t)) (a .args .b) (a .pre .0) (a .pre .1) (a .args .j .0) _ (a .pre .2) refl, a .pre .0 .bie-high)
 
 returns : tie.Need-returns
 returns c =

@@ -472,23 +472,23 @@ module _ (g : Layout) (t : List ℕ) (T : Table g t) (i : ℕ) (h : i < g .lists
   abbrev back : Basic → Basic
   back b = withHead v b
 
-  abbrev shown : List ℕ
-  shown = putField t (basicSlots g i) (g .link) v
+  abbrev restored : List ℕ
+  restored = putField t (basicSlots g i) (g .link) v
 
   abbrev stored : List ℕ
-  stored = slotPut g shown (basicSlot g i p) x
+  stored = slotPut g restored (basicSlot g i p) x
 
   there-is : i < length (decode g t .basic)
   there-is = omega (arith, basics g t, h)
 
-  shown-is : Stored g t shown (overBasic i back (decode g t))
+  restored-is : Stored g t restored (overBasic i back (decode g t))
   unfolding headPut
-  shown-is = stored-head g t T i h shown v hv refl
+  restored-is = stored-head g t T i h restored v hv refl
 
   stored-is : Stored g t stored (overBasic i (λ b. slotIn g p x (back b)) (decode g t))
   stored-is =
       stored-as (overBasic i (λ b. slotIn g p x (back b)) (decode g t))
-      (stored-then (overBasic i (slotIn g p x)) shown-is (stored-basic-slot g shown (shown-is .table) i h p x hp hx stored refl))
+      (stored-then (overBasic i (slotIn g p x)) restored-is (stored-basic-slot g restored (restored-is .table) i h p x hp hx stored refl))
       (basic-twice i (slotIn g p x) back (decode g t) there-is)
 
   own-head : field t (basicSlots g i) (g .link) ≡ basicAt (decode g t .basic) i .head

@@ -52,7 +52,7 @@ unfolding overflowRun runOf
 place d =
     let s = start (head (d .before)) in
     plain-position (s .args .g) (s .pre .0 .proper) (now (s .args .t)) (d .before .run-of .result)
-    (ap (λ (r : Slots). r .link) (d .before .run-of .ensures)) (keyNumber (s .args .entry)) (d .scan .result .0) (d .scan .ensures)
+    (ap (λ (r : Slots). r .displaced) (d .before .run-of .ensures)) (keyNumber (s .args .entry)) (d .scan .result .0) (d .scan .ensures)
 
 loop-holds : tie.Need-loop-holds Inv-loop μ-loop
 loop-holds c = refl

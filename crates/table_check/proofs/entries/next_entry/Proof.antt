@@ -4,13 +4,13 @@ use Prim.Native.Nat.{ℕ, _+_, _≤_}
 use native.Mathlib.Omega.{arith}
 use denote.Ref.{now}
 use borrow.Author.Needs.{needs}
-use Rattle.table_read.specs.Steps.{shown, View}
-use Rattle.table_read.specs.theory.Reads.{shown-out, short-key, long-key}
+use Rattle.table_read.specs.Steps.{restoredBytes, FieldWithin}
+use Rattle.table_read.specs.theory.Reads.{restored-bytes-out, short-key, long-key}
 use Rattle.table_check.proofs.entries.next_entry.Statement.{statement}
 use Rattle.table_check.proofs.entries.next_entry.Tie as tie
 
 -- a part of the entry
-part : (s : tie.Start) (at n : ℕ) → s .args .at ≤ at → at + n ≤ s .args .at + s .args .n → View (now (s .args .t)) (s .args .b) at n
+part : (s : tie.Start) (at n : ℕ) → s .args .at ≤ at → at + n ≤ s .args .at + s .args .n → FieldWithin (now (s .args .t)) (s .args .b) at n
 part s at n h l =
     let v = s .pre .0 in
     record {
@@ -18,7 +18,7 @@ part s at n h l =
       ends = omega (arith, v .ends);
       near = omega (arith, v .near);
       block = v .block;
-      link = v .link;
+      narrow = v .narrow;
       fits = v .fits;
     }
 
@@ -39,8 +39,8 @@ returns-2 c =
     let e = c .before .before in
     let s = e .before .before .before in
     let a = s .args in
-    short-key (shown (now (a .t)) (a .b)) (a .at) (a .n) (omega arith) _ refl
-    (c .get .ensures ∙ shown-out (now (a .t)) (a .b) (a .at) (a .n) (s .pre .0) (omega (arith, e .if1 .left)))
+    short-key (restoredBytes (now (a .t)) (a .b)) (a .at) (a .n) (omega arith) _ refl
+    (c .get .ensures ∙ restored-bytes-out (now (a .t)) (a .b) (a .at) (a .n) (s .pre .0) (omega (arith, e .if1 .left)))
 
 sub-get : tie.Need-sub-get
 sub-get c = search needs
@@ -62,9 +62,9 @@ returns-3 c =
     let e = c .before .before .before in
     let s = e .before .before .before in
     let a = s .args in
-    long-key (shown (now (a .t)) (a .b)) (a .at) (a .n) (omega arith) _
-    (c .before .get2 .ensures ∙ shown-out (now (a .t)) (a .b) (a .at) _ (part s (a .at) _ (omega arith) (omega arith)) (omega (arith, e .if1 .left)))
-    (c .get3 .ensures ∙ shown-out (now (a .t)) (a .b) _ 64 (part s _ 64 (omega arith) (omega arith)) (omega (arith, e .if1 .left)))
+    long-key (restoredBytes (now (a .t)) (a .b)) (a .at) (a .n) (omega arith) _
+    (c .before .get2 .ensures ∙ restored-bytes-out (now (a .t)) (a .b) (a .at) _ (part s (a .at) _ (omega arith) (omega arith)) (omega (arith, e .if1 .left)))
+    (c .get3 .ensures ∙ restored-bytes-out (now (a .t)) (a .b) _ 64 (part s _ 64 (omega arith) (omega arith)) (omega (arith, e .if1 .left)))
 
 pub next-entry-spec : {M : Type 1} → statement M
 next-entry-spec =

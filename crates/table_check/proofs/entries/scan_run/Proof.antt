@@ -2,8 +2,8 @@
 use native.Mathlib.Omega.{arith}
 use denote.Ref.{now}
 use Rattle.keys.specs.Key.{keyNumber}
-use Rattle.table_read.specs.Steps.{shown}
-use Rattle.table_read.specs.theory.Scans.{shown-plain}
+use Rattle.table_read.specs.Steps.{restoredBytes}
+use Rattle.table_read.specs.theory.Scans.{restored-bytes-plain}
 use Rattle.table_check.proofs.entries.scan_run.Statement.{statement}
 use Rattle.table_check.proofs.entries.scan_run.Tie as tie
 
@@ -18,7 +18,7 @@ scan-requires c κs =
 returns-2 : tie.Need-returns-2
 returns-2 c =
     let s = c .before .before .before .before .before in
-    rw (shown-plain (now (s .args .t)) (s .args .b) (c .before .if2 .taken)) (c .scan .ensures)
+    rw (restored-bytes-plain (now (s .args .t)) (s .args .b) (c .before .if2 .taken)) (c .scan .ensures)
 
 scan-displaced-requires : tie.Need-scan-displaced-requires
 unfolding keyNumber
@@ -27,7 +27,7 @@ scan-displaced-requires c κs =
     ((s .pre .0 .0, omega (arith, c .before .before .if1 .left), s .pre .0 .1), s .pre .1)
 
 returns-3 : tie.Need-returns-3
-unfolding shown keyNumber
+unfolding restoredBytes keyNumber
 returns-3 c = c .scan-displaced .ensures
 
 pub scan-run-spec : {M : Type 1} → statement M

@@ -15,8 +15,8 @@ use Rattle.keys.specs.Key.{keyNumber}
 use Rattle.keys.specs.theory.Keys.{number-key}
 use Rattle.table.specs.State.{entryOf}
 use Rattle.table.specs.Decode.{decode}
-use Rattle.table_read.specs.Steps.{shown, First, slotsIn}
-use Rattle.table_read.specs.theory.Reads.{entry-view}
+use Rattle.table_read.specs.Steps.{restoredBytes, First, slotsIn}
+use Rattle.table_read.specs.theory.Reads.{entry-within}
 use Rattle.table_read.specs.theory.Rows.{fewer}
 use Rattle.table_read.specs.theory.Scans.{run-row}
 use Rattle.table_check.specs.Entries.{alone, slotsAfter}
@@ -65,12 +65,12 @@ small : (c : tie.After-next-entry Inv-loop μ-loop) → let m = c .before .befor
 small c =
     let m = c .before .before .before in
     let s = start m in
-    let x = field (shown (now (s .args .t)) (s .args .b)) (m .loop .at) (s .args .g .bie) in
+    let x = field (restoredBytes (now (s .args .t)) (s .args .b)) (m .loop .at) (s .args .g .bie) in
     rw (c .next-entry .ensures, number-key x) (field-lt _ _ _)
 
 -- the first j slots were looked through for it
 looked : (c : tie.After-scan-run Inv-loop μ-loop) → let m = c .before .before .before .before in let s = start m in
-    First (shown (now (s .args .t)) (s .args .b)) (s .args .b .start) (s .args .g .slot) (s .args .g .bie) (keyNumber (c .before .next-entry .result)) (m .loop .j)
+    First (restoredBytes (now (s .args .t)) (s .args .b)) (s .args .b .start) (s .args .g .slot) (s .args .g .bie) (keyNumber (c .before .next-entry .result)) (m .loop .j)
     (c .scan-run .result .0)
 looked c = c .scan-run .ensures
 
@@ -81,7 +81,7 @@ next-entry-requires : tie.Need-next-entry-requires Inv-loop μ-loop
 next-entry-requires c κs =
     let m = c .before .before in
     let s = start m in (
-      entry-view (s .args .g) (now (s .args .t)) (s .args .b) (s .pre .0 .proper) (s .pre .1) (m .loop .j) (m .loop .at) (omega arith) (m .loop .inv .1),
+      entry-within (s .args .g) (now (s .args .t)) (s .args .b) (s .pre .0 .proper) (s .pre .1) (m .loop .j) (m .loop .at) (omega arith) (m .loop .inv .1),
       s .pre .0 .proper .bie-high,
     )
 
@@ -91,7 +91,7 @@ scan-run-requires c κs =
     let s = start m in
     let R = s .pre .1 in
     let row = run-row (s .args .g) (s .pre .0 .proper) (now (s .args .t)) (s .args .b) R in
-    ((fewer _ _ _ _ _ row (m .loop .j) (m .loop .inv .0), small c), (R .block, R .link, R .fits))
+    ((fewer _ _ _ _ _ row (m .loop .j) (m .loop .inv .0), small c), (R .block, R .narrow, R .fits))
 
 returns : tie.Need-returns Inv-loop μ-loop
 returns c =

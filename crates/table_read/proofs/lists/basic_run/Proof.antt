@@ -9,7 +9,7 @@ basic-slots-requires c κs = search needs
 
 returns : tie.Need-returns
 unfolding basicRun
-returns c = λ i. record { start = c .basic-slots .ensures i; count = c .before .args .n; link = 0; head = 0 }
+returns c = λ i. record { start = c .basic-slots .ensures i; count = c .before .args .n; displaced = 0; value = 0 }
 
 pub basic-run-spec : {M : Type 1} → statement M
 basic-run-spec = tie.close (tie.spec basic-slots-requires returns)

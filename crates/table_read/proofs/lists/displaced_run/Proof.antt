@@ -11,7 +11,7 @@ returns : tie.Need-returns
 unfolding displacedRun
 returns c =
     let a = c .before .args in
-    λ i. record { start = c .basic-slots .ensures i; count = a .g .sib; link = a .g .link; head = a .h }
+    λ i. record { start = c .basic-slots .ensures i; count = a .g .sib; displaced = a .g .link; value = a .h }
 
 pub displaced-run-spec : {M : Type 1} → statement M
 displaced-run-spec = tie.close (tie.spec basic-slots-requires returns)

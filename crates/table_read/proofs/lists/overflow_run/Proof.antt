@@ -21,7 +21,7 @@ unfolding overflowRun
 returns c =
     let a = c .before .before .args in
     let n = c .least .ensures ∙ ap (λ (x : ℕ). min x (a .g .sio)) (add-one (a .c)) in
-    λ i. record { start = c .before .overflow-slots .ensures i; count = n i; link = 0; head = 0 }
+    λ i. record { start = c .before .overflow-slots .ensures i; count = n i; displaced = 0; value = 0 }
 
 pub overflow-run-spec : {M : Type 1} → statement M
 overflow-run-spec = tie.close (tie.spec overflow-slots-requires add-least least-requires returns)

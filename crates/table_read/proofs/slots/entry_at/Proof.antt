@@ -3,7 +3,7 @@ use native.Mathlib.Omega.{arith}
 use mathlib.Core.Path.{refl}
 use denote.Ref.{now}
 use borrow.Author.Needs.{needs}
-use Rattle.table_read.specs.Steps.{shown}
+use Rattle.table_read.specs.Steps.{restoredBytes}
 use Rattle.table_read.specs.theory.Reads.{short-key, long-key}
 use Rattle.table_read.proofs.slots.entry_at.Statement.{statement}
 use Rattle.table_read.proofs.slots.entry_at.Tie as tie
@@ -14,7 +14,7 @@ restored-requires c κs = search needs
 returns : tie.Need-returns
 returns c =
     let a = c .before .before .before .args in
-    short-key (shown (now (a .t)) (a .b)) (a .at) (a .n) (omega arith) _ refl (c .restored .ensures)
+    short-key (restoredBytes (now (a .t)) (a .b)) (a .at) (a .n) (omega arith) _ refl (c .restored .ensures)
 
 sub-restored : tie.Need-sub-restored
 sub-restored c = search needs
@@ -34,7 +34,7 @@ restored-requires-3 c κs = search needs
 returns-2 : tie.Need-returns-2
 returns-2 c =
     let a = c .before .before .before .before .args in
-    long-key (shown (now (a .t)) (a .b)) (a .at) (a .n) (omega arith) _ (c .before .restored2 .ensures) (c .restored3 .ensures)
+    long-key (restoredBytes (now (a .t)) (a .b)) (a .at) (a .n) (omega arith) _ (c .before .restored2 .ensures) (c .restored3 .ensures)
 
 pub entry-at-spec : {M : Type 1} → statement M
 entry-at-spec =

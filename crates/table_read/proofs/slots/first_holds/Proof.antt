@@ -6,22 +6,22 @@ use denote.Ref.{now}
 use lib.Pow.{pow-pos}
 use Rattle.keys.specs.Key.{keyNumber}
 use Rattle.keys.specs.theory.Halves.{mod-low}
-use Rattle.table_read.specs.Steps.{shown, View}
-use Rattle.table_read.specs.theory.Reads.{shown-out, last-differ}
+use Rattle.table_read.specs.Steps.{restoredBytes, FieldWithin}
+use Rattle.table_read.specs.theory.Reads.{restored-bytes-out, last-differ}
 use borrow.Author.Needs.{needs}
 use Rattle.table_read.proofs.slots.first_holds.Statement.{statement}
 use Rattle.table_read.proofs.slots.first_holds.Tie as tie
 
 -- the last m bits of its entry
-view : (s : tie.Start) (m : ℕ) → m ≤ s .args .bie → View (now (s .args .t)) (s .args .b) (s .args .b .start + (s .args .bie - m)) m
-view s m h =
+last-within : (s : tie.Start) (m : ℕ) → m ≤ s .args .bie → FieldWithin (now (s .args .t)) (s .args .b) (s .args .b .start + (s .args .bie - m)) m
+last-within s m h =
     let v = s .pre .0 in
     record {
       from = omega arith;
       ends = omega (arith, v .ends);
       near = omega (arith, v .near);
       block = v .block;
-      link = v .link;
+      narrow = v .narrow;
       fits = v .fits;
     }
 
@@ -58,10 +58,10 @@ returns c =
     let h : m ≤ a .bie = omega (arith, k .least .ensures) in
     let i : m ≤ 63 = omega (arith, k .least .ensures) in
     let l : a .entry .low < 2 ^ 64 = omega (arith, c .before .struct-known3 .given) in
-    sym (last-differ (shown (now (a .t)) (a .b)) (a .b .start) (a .bie) m (keyNumber (a .entry)) h
+    sym (last-differ (restoredBytes (now (a .t)) (a .b)) (a .b .start) (a .bie) m (keyNumber (a .entry)) h
     (λ q. c .if1 .taken
     (g .get-short .ensures
-    ∙ shown-out (now (a .t)) (a .b) (a .b .start + (a .bie - m)) m (view s m h) (omega (arith, k .least .ensures, s .pre .3))
+    ∙ restored-bytes-out (now (a .t)) (a .b) (a .b .start + (a .bie - m)) m (last-within s m h) (omega (arith, k .least .ensures, s .pre .3))
     ∙ q
     ∙ mod-low (a .entry .high) l i
     ∙ ap (λ (x : ℕ). a .entry .low % x) (sym (p .pow .ensures)))))

@@ -3,8 +3,8 @@ use mathlib.Core.Path.{_∙_}
 use native.Mathlib.Omega.{arith}
 use denote.Ref.{now}
 use Rattle.bits.specs.theory.Fields.{field-fits}
-use Rattle.table_read.specs.Steps.{shown}
-use Rattle.table_read.specs.theory.Reads.{shown-out}
+use Rattle.table_read.specs.Steps.{restoredBytes}
+use Rattle.table_read.specs.theory.Reads.{restored-bytes-out}
 use borrow.Author.Needs.{needs}
 use Rattle.table_read.proofs.slots.label_at.Statement.{statement}
 use Rattle.table_read.proofs.slots.label_at.Tie as tie
@@ -24,7 +24,7 @@ cast-result c =
 returns : tie.Need-returns
 returns c =
     let s = c .before .before .before .before in
-    c .get .ensures ∙ shown-out (now (s .args .t)) (s .args .b) (s .args .at) (s .args .val) (s .pre .0) (omega arith)
+    c .get .ensures ∙ restored-bytes-out (now (s .args .t)) (s .args .b) (s .args .at) (s .args .val) (s .pre .0) (omega arith)
 
 restored-requires : tie.Need-restored-requires
 restored-requires c κs = search needs
@@ -32,7 +32,7 @@ restored-requires c κs = search needs
 cast-result-2 : tie.Need-cast-result-2
 cast-result-2 c =
     let s = c .before .before .before .before in
-    let f = field-fits (shown (now (s .args .t)) (s .args .b)) (s .args .at) (s .args .val) 32 (s .pre .1) in
+    let f = field-fits (restoredBytes (now (s .args .t)) (s .args .b)) (s .args .at) (s .args .val) 32 (s .pre .1) in
     record { fits = rw (c .restored .ensures) f }
 
 returns-2 : tie.Need-returns-2

@@ -4,7 +4,7 @@ use Prim.Native.Nat.{_+_, _*_, _≤_}
 use native.Mathlib.Omega.{arith}
 use denote.Ref.{now}
 use Rattle.bits.specs.theory.Fields.{field-fits}
-use Rattle.table_read.specs.Steps.{shown}
+use Rattle.table_read.specs.Steps.{restoredBytes}
 use Rattle.table_read.specs.theory.Reads.{slot-inside, label-in}
 use Rattle.table_read.proofs.slots.label_in.Statement.{statement}
 use Rattle.table_read.proofs.slots.label_in.Tie as tie
@@ -35,7 +35,7 @@ restored-requires c κs =
 cast-result : tie.Need-cast-result
 cast-result c =
     let s = c .before .before .before .before .before .before in
-    let f = field-fits (shown (now (s .args .t)) (s .args .b)) (s .args .b .start + s .args .j .0 * s .args .g .slot + s .args .g .bie) (s .args .g .val) 32 (s .pre .0 .val-high) in
+    let f = field-fits (restoredBytes (now (s .args .t)) (s .args .b)) (s .args .b .start + s .args .j .0 * s .args .g .slot + s .args .g .bie) (s .args .g .val) 32 (s .pre .0 .val-high) in
     record { fits = rw (c .restored .ensures) f }
 
 returns : tie.Need-returns

@@ -4,7 +4,7 @@ use Prim.Native.Nat.{ℕ}
 use native.Mathlib.Omega.{arith}
 use denote.Ref.{now}
 use lib.Dec.{eqb}
-use Rattle.table_read.specs.Steps.{shown}
+use Rattle.table_read.specs.Steps.{restoredBytes}
 use Rattle.table_read.specs.theory.Reads.{entry-low, entry-differs, entry-halves}
 use borrow.Author.Needs.{needs}
 use Rattle.table_read.proofs.slots.same_entry.Statement.{statement}
@@ -30,7 +30,7 @@ restored-requires-2 c κs = search needs
 returns-2 : tie.Need-returns-2
 returns-2 c =
     let s = c .before .before .before .before .before in
-    sym (entry-differs (shown (now (s .args .t)) (s .args .b)) (s .args .at) (s .args .n) (s .args .entry) (omega arith) (omega (arith, c .before .struct-known2 .given))
+    sym (entry-differs (restoredBytes (now (s .args .t)) (s .args .b)) (s .args .at) (s .args .n) (s .args .entry) (omega arith) (omega (arith, c .before .struct-known2 .given))
     (λ q. c .if2 .taken (c .before .before .restored2 .ensures ∙ q)))
 
 sub-restored-2 : tie.Need-sub-restored-2
@@ -44,7 +44,7 @@ returns-3 c =
     let s = c .before .before .before .before .before .before .before in
     let d = c .before .before in
     ap (λ (x : ℕ). eqb x (s .args .entry .high)) (c .before .restored3 .ensures)
-    ∙ entry-halves (shown (now (s .args .t)) (s .args .b)) (s .args .at) (s .args .n) (s .args .entry) (omega arith) (omega (arith, d .before .struct-known2 .given))
+    ∙ entry-halves (restoredBytes (now (s .args .t)) (s .args .b)) (s .args .at) (s .args .n) (s .args .entry) (omega arith) (omega (arith, d .before .struct-known2 .given))
     (sym (d .before .before .restored2 .ensures) ∙ d .if2 .left)
 
 pub same-entry-spec : {M : Type 1} → statement M

@@ -9,21 +9,21 @@ use borrow.Author.Tests.{eqb-true, eqb-false}
 use Rattle.bits.specs.Field.{field}
 use Rattle.bits.specs.theory.Puts.{put-out}
 use Rattle.keys.specs.Key.{keyNumber}
-use Rattle.table_read.specs.Steps.{shown}
+use Rattle.table_read.specs.Steps.{restoredBytes}
 use Rattle.table_read.specs.theory.Rows.{behind, found-behind}
 use borrow.Author.Needs.{needs}
 use Rattle.table_read.proofs.slots.scan_displaced.Statement.{statement}
 use Rattle.table_read.proofs.slots.scan_displaced.Tie as tie
 
 -- no displaced bit is in the slots behind slot 0
-plain : (s : tie.Start) → s .args .b .link < s .args .bie → (k : ℕ) → 0 < k → k < s .args .b .count
-    → field (shown (now (s .args .t)) (s .args .b)) (s .args .b .start + k * s .args .slot) (s .args .bie)
+plain : (s : tie.Start) → s .args .b .displaced < s .args .bie → (k : ℕ) → 0 < k → k < s .args .b .count
+    → field (restoredBytes (now (s .args .t)) (s .args .b)) (s .args .b .start + k * s .args .slot) (s .args .bie)
     ≡ field (now (s .args .t)) (s .args .b .start + k * s .args .slot) (s .args .bie)
-unfolding shown
+unfolding restoredBytes
 plain s h k l m =
     let f = s .pre .0 .0 .fits in
     let o : suc 0 * s .args .slot ≤ k * s .args .slot = mul-le-mul-right (s .args .slot) l in
-    put-out (now (s .args .t)) (s .args .b .start) (s .args .b .link) (s .args .b .head) (s .args .b .start + k * s .args .slot) (s .args .bie) (s .pre .1 .0)
+    put-out (now (s .args .t)) (s .args .b .start) (s .args .b .displaced) (s .args .b .value) (s .args .b .start + k * s .args .slot) (s .args .bie) (s .pre .1 .0)
     (inr (omega arith))
 
 scan-restored-requires : tie.Need-scan-restored-requires
@@ -46,7 +46,7 @@ first-holds-requires c κs =
         ends = omega (arith, r .ends);
         near = omega (arith, r .near);
         block = s .pre .1 .0;
-        link = s .pre .1 .1;
+        narrow = s .pre .1 .1;
         fits = s .pre .1 .2;
       },
       r .wide,

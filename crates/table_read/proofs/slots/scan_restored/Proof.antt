@@ -9,14 +9,14 @@ use borrow.Author.Tests.{eqb-true, eqb-false}
 use lib.Dec.{eqb}
 use Rattle.bits.specs.Field.{field}
 use Rattle.keys.specs.Key.{keyNumber}
-use Rattle.table_read.specs.Steps.{shown}
+use Rattle.table_read.specs.Steps.{restoredBytes}
 use Rattle.table_read.proofs.slots.scan_restored.Statement.{statement}
 use Rattle.table_read.proofs.slots.scan_restored.Tie as tie
 
 abbrev Inv-loop : tie.InvT-loop
 Inv-loop t b slot bie entry at₀ j₀ at j =
     (j ≤ b .count) × (at ≡ b .start + j * slot)
-    × ((k : ℕ) → k < j → field (shown t b) (b .start + k * slot) bie ≡ keyNumber entry → ⊥)
+    × ((k : ℕ) → k < j → field (restoredBytes t b) (b .start + k * slot) bie ≡ keyNumber entry → ⊥)
 
 abbrev μ-loop : tie.MeasureT-loop
 μ-loop t b slot bie entry at₀ j₀ at j = b .count - j
@@ -29,12 +29,12 @@ inside s j h = omega (arith, mul-le-mul-right (s .args .slot) h)
 -- what the comparison says of the slot
 compared : (c : tie.After-same-entry Inv-loop μ-loop)
     → (let m = c .before .before .before in let s = m .before .before .args in
-    eqb (field (shown (now (s .t)) (s .b)) (s .b .start + m .loop .j * s .slot) (s .bie)) (keyNumber (s .entry)) ≡ c .same-entry .result)
+    eqb (field (restoredBytes (now (s .t)) (s .b)) (s .b .start + m .loop .j * s .slot) (s .bie)) (keyNumber (s .entry)) ≡ c .same-entry .result)
 compared c =
     let m = c .before .before .before in
     let s = m .before .before .args in
     let e : s .b .start + m .loop .j * s .slot ≡ m .loop .at = omega arith in
-    ap (λ (x : ℕ). eqb (field (shown (now (s .t)) (s .b)) x (s .bie)) (keyNumber (s .entry))) e
+    ap (λ (x : ℕ). eqb (field (restoredBytes (now (s .t)) (s .b)) x (s .bie)) (keyNumber (s .entry))) e
     ∙ sym (c .same-entry .ensures)
 
 loop-holds : tie.Need-loop-holds Inv-loop μ-loop
@@ -47,7 +47,7 @@ same-entry-requires c κs =
     let r = s .pre .0 in
     let f = r .fits in
     let h = inside s (m .loop .j) (omega arith) in
-    (record { from = omega arith; ends = omega (arith, r .ends); near = omega (arith, r .near); block = s .pre .1; link = s .pre .2; fits = s .pre .3 }, r .wide, s .pre .4)
+    (record { from = omega arith; ends = omega (arith, r .ends); near = omega (arith, r .near); block = s .pre .1; narrow = s .pre .2; fits = s .pre .3 }, r .wide, s .pre .4)
 
 returns : tie.Need-returns Inv-loop μ-loop
 returns c =

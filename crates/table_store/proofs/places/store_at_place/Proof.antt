@@ -77,13 +77,13 @@ start-is : (c : tie.After-displaced-run) → let a = c .before .before .before .
 unfolding displacedRun
 start-is c = ap (λ (b : Slots). b .start) (c .displaced-run .ensures)
 
-link-is : (c : tie.After-displaced-run) → c .displaced-run .result .link ≡ c .before .before .before .before .before .before .before .before .before .args .g .link
+displaced-is : (c : tie.After-displaced-run) → c .displaced-run .result .displaced ≡ c .before .before .before .before .before .before .before .before .before .args .g .link
 unfolding displacedRun
-link-is c = ap (λ (b : Slots). b .link) (c .displaced-run .ensures)
+displaced-is c = ap (λ (b : Slots). b .displaced) (c .displaced-run .ensures)
 
-head-is : (c : tie.After-displaced-run) → c .displaced-run .result .head ≡ c .before .overflow-link .result
+value-is : (c : tie.After-displaced-run) → c .displaced-run .result .value ≡ c .before .overflow-link .result
 unfolding displacedRun
-head-is c = ap (λ (b : Slots). b .head) (c .displaced-run .ensures)
+value-is c = ap (λ (b : Slots). b .value) (c .displaced-run .ensures)
 
 old-fits : (c : tie.After-overflow-link) → c .overflow-link .result < 2 ^ c .before .before .before .before .before .before .before .before .args .g .link
 old-fits c =
@@ -98,7 +98,7 @@ store-over-displaced-requires c κs =
     let s = k .before .before .before in
     let F = s .pre .0 .proper in (
       slot-asks (s .args .g) (now (s .args .t)) (s .pre .0) (k .place-at .result) _ _ (slot-in k) (s .pre .2),
-      (omega (arith, start-is d, link-is d, b .basic-slots .ensures, head-ends b, s .pre .0 .room), omega (arith, link-is d, F .link-high), rw (link-is d, head-is d) (old-fits (d .before))),
+      (omega (arith, start-is d, displaced-is d, b .basic-slots .ensures, head-ends b, s .pre .0 .room), omega (arith, displaced-is d, F .link-high), rw (displaced-is d, value-is d) (old-fits (d .before))),
     )
 
 put-overflow-link-requires : tie.Need-put-overflow-link-requires
@@ -106,7 +106,7 @@ put-overflow-link-requires c κs =
     let v = c .before .before .before in
     let d = v .before .before in
     let s = d .before .before .before .before .before .before .before .before .before in
-    let new : v .store-over-displaced .result < 2 ^ s .args .g .link = rw (v .store-over-displaced .ensures .head, link-is d) (field-lt _ _ _) in
+    let new : v .store-over-displaced .result < 2 ^ s .args .g .link = rw (v .store-over-displaced .ensures .head, displaced-is d) (field-lt _ _ _) in
     let old = old-fits (d .before) in
     (table-kept _ (v .store-over-displaced .kept .0) (s .pre .0), s .pre .1 .last, omega arith)
 
@@ -125,10 +125,10 @@ returns-2 c =
     let r = d .displaced-run .result in
     let x = slotOf (a .g) (keyNumber (a .v .entry)) (a .v .label) in
     stored-under (a .g) (now (a .t)) (s .pre .0) (a .i .0) (a .h .0) (a .l .0) (a .p) (k .place-at .result) (s .pre .1) (k .place-at .ensures) x
-    (slot-lt (a .g) F _ _ (s .pre .2)) (omega (arith, d .before .before .before .if1 .left, b .basic-slots .ensures)) (r .head) (r .start) _ _ _
-    (head-is d ∙ d .before .overflow-link .ensures) (start-is d)
-    (subst (λ (m : ℕ). StoredOver m (a .g .slot) (now (a .t)) (v .store-over-displaced .last .0) (r .start) (r .head) (k .place-at .result) x (v .store-over-displaced .result)) (link-is d)
-    (subst (λ (n : ℕ). StoredOver (r .link) n (now (a .t)) (v .store-over-displaced .last .0) (r .start) (r .head) (k .place-at .result) x (v .store-over-displaced .result)) (sym (F .slot-is)) (v .store-over-displaced .ensures)))
+    (slot-lt (a .g) F _ _ (s .pre .2)) (omega (arith, d .before .before .before .if1 .left, b .basic-slots .ensures)) (r .value) (r .start) _ _ _
+    (value-is d ∙ d .before .overflow-link .ensures) (start-is d)
+    (subst (λ (m : ℕ). StoredOver m (a .g .slot) (now (a .t)) (v .store-over-displaced .last .0) (r .start) (r .value) (k .place-at .result) x (v .store-over-displaced .result)) (displaced-is d)
+    (subst (λ (n : ℕ). StoredOver (r .displaced) n (now (a .t)) (v .store-over-displaced .last .0) (r .start) (r .value) (k .place-at .result) x (v .store-over-displaced .result)) (sym (F .slot-is)) (v .store-over-displaced .ensures)))
     (c .before .before .put-overflow-link .ensures)
 
 pub store-at-place-spec : {M : Type 1} → statement M
