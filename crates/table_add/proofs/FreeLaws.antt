@@ -20,7 +20,7 @@ use Rattle.table_read.specs.Steps.{lastFrom}
 use Rattle.table_read.specs.BlockSlots.{blocksFrom, blockSlot, blockSlotIn, Reaches}
 use Rattle.table.specs.Done.{Done, damage, done, Answered, unchanged, answered}
 use Rattle.table_read.specs.theory.Walks.{last-low, content-short}
-use Rattle.table_read.specs.theory.BlockSlots.{Chained, gather-some, last-spot, long-full, long-ends, long-blocks, long-length}
+use Rattle.table_read.specs.theory.BlockSlots.{Chained, gather-some, last-block-slot, long-full, long-ends, long-blocks, long-length}
 use Rattle.table_read.specs.theory.Reads.{unpack-length}
 use Rattle.table_read.specs.declared.lists.BlockSlot.{BlockSlot}
 use Rattle.table.specs.declared.answers.AddAnswer.{AddAnswer}
@@ -187,12 +187,12 @@ module _ (g : Layout) (st : State) (i n : ℕ) (R : Readable g st i n) where
       abbrev last : ℕ
       last = lastOf (basicAt (st .basic) i .head) (blocks many .others)
 
-      spot-is : blockSlotIn g (blocksFrom g (st .overflow) (basicAt (st .basic) i .head)) (n - g .sib - 1)
+      block-slot-is : blockSlotIn g (blocksFrom g (st .overflow) (basicAt (st .basic) i .head)) (n - g .sib - 1)
           ≡ blockSlot last (overflowAt (st .overflow) last .counter)
-      spot-is =
+      block-slot-is =
           let c = blocks many in
           let e : n - g .sib - 1 ≡ length (gather g (st .overflow) (basicAt (st .basic) i .head ∷ c .others)) - 1 = omega (arith, entries many) in
-          rw (c .are, e) (last-spot g (st .overflow) sized (c .chain))
+          rw (c .are, e) (last-block-slot g (st .overflow) sized (c .chain))
 
       -- the last entry stands in the last block, in the slot that the counter there names
       pub ends-in : (h : ℕ) → h ≡ basicAt (st .basic) i .head → (s : BlockSlot) → s ≡ blockSlotIn g (blocksFrom g (st .overflow) h) (n - g .sib - 1)
@@ -201,7 +201,7 @@ module _ (g : Layout) (st : State) (i n : ℕ) (R : Readable g st i n) where
       ends-in h eh s =
           rw eh
           (λ es.
-          rw (es ∙ spot-is) (
+          rw (es ∙ block-slot-is) (
             record {
               full = long-full g st i (R .followed) (R .is) many;
               head = refl;

@@ -98,9 +98,9 @@ module _ (g : Layout) (F : Proper g) where
   linked-length (suc n) t = put-length (linked g n t) (linkAt g n) (g .link) (newOverflow g n .link) ∙ linked-length n t
 
   module _ (t : List ℕ) (room : g .bits ≤ 8 * length t) where
-    turn : (n : ℕ) → n < g .nob → Only (linked g n t) (linked g (suc n) t) (blockAt (g .overflow) n) (g .overflow .bits)
+    one-step : (n : ℕ) → n < g .nob → Only (linked g n t) (linked g (suc n) t) (blockAt (g .overflow) n) (g .overflow .bits)
     unfolding linked
-    turn n h = link-only (linked g n t) n (newOverflow g n .link) h (omega (arith, room, linked-length n t))
+    one-step n h = link-only (linked g n t) n (newOverflow g n .link) h (omega (arith, room, linked-length n t))
 
     linked-only : (n : ℕ) → n ≤ g .nob → Only t (linked g n t) (g .overflow .start) (g .nob * g .overflow .bits)
     unfolding linked
@@ -109,7 +109,7 @@ module _ (g : Layout) (F : Proper g) where
         only-trans t (linked g n t) (linked g (suc n) t) (g .overflow .start) (g .nob * g .overflow .bits)
         (linked-only n (omega arith))
         (only-wide (linked g n t) (linked g (suc n) t) (blockAt (g .overflow) n) (g .overflow .bits) (g .overflow .start) (g .nob * g .overflow .bits)
-        (turn n (omega arith))
+        (one-step n (omega arith))
         (over-low g F n)
         (omega (arith, over-ends g F n (omega arith), F .bits-is)))
 
@@ -118,7 +118,7 @@ module _ (g : Layout) (F : Proper g) where
     unfolding linked
     linked-rest zero j h l = refl
     linked-rest (suc n) j h l =
-        same-over g F (linked g n t) (linked g (suc n) t) (blockAt (g .overflow) n) (g .overflow .bits) j (turn n (omega arith)) (inr (over-apart g F n j (omega arith)))
+        same-over g F (linked g n t) (linked g (suc n) t) (blockAt (g .overflow) n) (g .overflow .bits) j (one-step n (omega arith)) (inr (over-apart g F n j (omega arith)))
         ∙ linked-rest n j (omega arith) (omega arith)
 
     linked-read : (n j : ℕ) → j < n → n ≤ g .nob
@@ -135,7 +135,7 @@ module _ (g : Layout) (F : Proper g) where
             (read-link (linked g n t) n (newOverflow g n .link) (omega arith) (omega (arith, room, linked-length n t)) (new-link-fits n (omega arith))
             ∙ ap (withLink (newOverflow g n .link)) (linked-rest n n (omega arith) (omega arith)))
         pick ih (no m) =
-            same-over g F (linked g n t) (linked g (suc n) t) (blockAt (g .overflow) n) (g .overflow .bits) j (turn n (omega arith)) (inl (over-apart g F j n (omega arith)))
+            same-over g F (linked g n t) (linked g (suc n) t) (blockAt (g .overflow) n) (g .overflow .bits) j (one-step n (omega arith)) (inl (over-apart g F j n (omega arith)))
             ∙ ih (omega arith)
 
   -- ---- the new table

@@ -13,7 +13,7 @@ use Rattle.bits.specs.Field.{field}
 use Rattle.bits.specs.Word.{swapped}
 use Rattle.bits.specs.theory.Fields.{sub-field}
 use Rattle.bits.specs.theory.Numbers.{no-high}
-use Rattle.bits.specs.theory.Words.{turned-twice}
+use Rattle.bits.specs.theory.Words.{swapped-twice}
 use Rattle.table_read.specs.Rows.{Row, Unlike}
 
 -- ---- places of slots
@@ -121,9 +121,9 @@ all-of h l n g f =
 low-byte : (w k i : ℕ) → w % 2 ^ (i + 8 + k) / 2 ^ k % 2 ^ 8 ≡ w / 2 ^ k % 2 ^ 8
 low-byte w k i = ap (λ (x : ℕ). x % 2 ^ 8) (P.field w (i + 8) k) ∙ mod-mod-pow (w / 2 ^ k) i 8
 
-turned-low : (w : ℕ)
+swapped-low : (w : ℕ)
     → swapped (w % 4294967296) ≡ w % 256 * 72057594037927936 + w / 256 % 256 * 281474976710656 + w / 65536 % 256 * 1099511627776 + w / 16777216 % 256 * 4294967296
-turned-low w =
+swapped-low w =
     let e4 : w % 4294967296 / 4294967296 % 256 ≡ 0 = omega arith in
     let e5 : w % 4294967296 / 1099511627776 % 256 ≡ 0 = omega arith in
     let e6 : w % 4294967296 / 281474976710656 % 256 ≡ 0 = omega arith in
@@ -134,8 +134,8 @@ high-four : (x y b0 b1 b2 b3 : ℕ) → x ≡ b0 * 72057594037927936 + b1 * 2814
     → x / 4294967296 * 4294967296 ≡ b0 * 72057594037927936 + b1 * 281474976710656 + b2 * 1099511627776 + b3 * 4294967296
 high-four x y b0 b1 b2 b3 e h = omega arith
 
-pub turned-four : (w : ℕ) → swapped (swapped w / 4294967296 * 2 ^ 32) ≡ w % 2 ^ 32
-turned-four w =
+pub swapped-four : (w : ℕ) → swapped (swapped w / 4294967296 * 2 ^ 32) ≡ w % 2 ^ 32
+swapped-four w =
     let y : ℕ = w / 4294967296 % 256 * 16777216 + w / 1099511627776 % 256 * 65536 + w / 281474976710656 % 256 * 256 + w / 72057594037927936 % 256 in
-    ap swapped (high-four (swapped w) y (w % 256) (w / 256 % 256) (w / 65536 % 256) (w / 16777216 % 256) (omega arith) (omega arith) ∙ sym (turned-low w))
-    ∙ turned-twice (w % 4294967296) (omega arith)
+    ap swapped (high-four (swapped w) y (w % 256) (w / 256 % 256) (w / 65536 % 256) (w / 16777216 % 256) (omega arith) (omega arith) ∙ sym (swapped-low w))
+    ∙ swapped-twice (w % 4294967296) (omega arith)

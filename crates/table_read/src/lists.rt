@@ -36,7 +36,8 @@ pub fn follow(t: &[u8], g: Layout, first: BlockNumber) -> Last
         if b.0 >= g.nob {
             return Last::Damage;
         }
-        match step_of(overflow_front(t, g, b), g.sio) {
+        let front = overflow_front(t, g, b);
+        match step_of(front, g.sio) {
             Step::Last => return Last::Block(b),
             Step::Further(next) => b = next,
             Step::Damage => return Last::Damage,

@@ -28,7 +28,7 @@ use Rattle.table.specs.Record.{recordFrom, recordIn}
 use Rattle.table_read.specs.Steps.{restoredBytes, slotsIn, basicRun, displacedRun, overflowRun, lastFrom, Followed, Overflows, gatherFrom}
 use Rattle.table_record.specs.RecordSteps.{slotNth, nthOf, nthIn, Bounded, recordsFrom}
 use Rattle.table_read.specs.theory.Reads.{slots-length, entry-in, unpack-length, basic-slots-in, displaced-slots-in, link-lt}
-use Rattle.table_read.specs.theory.Walks.{turn, followed, content-short, content-bad, content-long, Turn}
+use Rattle.table_read.specs.theory.Walks.{one-step, followed, content-short, content-bad, content-long, OneStep}
 use Rattle.table_read.specs.theory.Finds.{block-last, block-more}
 use Rattle.table_read.specs.declared.slots.Slots.{Slots}
 use Rattle.table.specs.declared.answers.RecordAnswer.{RecordAnswer}
@@ -91,8 +91,8 @@ entry-bound g F t b j l k e =
 
 module _ (g : Layout) (t : List ℕ) (T : Table g t) (k b c : ℕ) (run : Slots) (f : Followed g k (decode g t .overflow) b)
     (count-is : c ≡ overflowAt (decode g t .overflow) b .counter) (run-is : run ≡ overflowRun g b c) where
-  row : Turn g (decode g t .overflow) k b
-  row = turn g (decode g t .overflow) k b f
+  row : OneStep g (decode g t .overflow) k b
+  row = one-step g (decode g t .overflow) k b f
 
   pub nth-in-block : (m : ℕ) → m < run .count → nthOf g (slotsIn g t run) m ≡ nthOf g (gatherFrom g k (decode g t .overflow) b) m
   nth-in-block m h =
@@ -183,11 +183,11 @@ module _ (s : Settings) where
   onNth i (nth.Past m) on = on m
   onNth i nth.Damage on = answer.Refused refusal.Damage
 
-  record-turn : (i : ℕ) (b : Basic) (bs : List Basic) (os : List Overflow) (n : ℕ) (o : Option Content) → contentOf (layoutOf s) b os ≡ o
+  record-step : (i : ℕ) (b : Basic) (bs : List Basic) (os : List Overflow) (n : ℕ) (o : Option Content) → contentOf (layoutOf s) b os ≡ o
       → recordFrom s i (b ∷ bs) os n ≡ onNth i (nthIn (layoutOf s) o n) (λ m. recordFrom s (suc i) bs os m)
   unfolding recordFrom nthIn nthOf
-  record-turn i b bs os n none e = rw e
-  record-turn i b bs os n (some v) e =
+  record-step i b bs os n none e = rw e
+  record-step i b bs os n (some v) e =
       cases (ltb n (length (v .slots)))
       (λ p. rw (e, p, number-key))
       (λ p. rw (e, p))
@@ -201,12 +201,12 @@ module _ (s : Settings) where
     unfolding recordsFrom recordFrom
     records-none i n h = rw (drop-of-length-le (st .basic) h)
 
-    pub records-turn : (g : Layout) → layoutOf s ≡ g → (i n : ℕ) → i < length (st .basic) → (r : Nth) → r ≡ nthIn g (content g st i) n
+    pub records-step : (g : Layout) → layoutOf s ≡ g → (i n : ℕ) → i < length (st .basic) → (r : Nth) → r ≡ nthIn g (content g st i) n
         → recordsFrom s st i n ≡ onNth i r (λ m. recordsFrom s st (suc i) m)
     unfolding recordsFrom content
-    records-turn g e i n h r w =
+    records-step g e i n h r w =
         ap (λ (bs : List Basic). recordFrom s i bs (st .overflow) n) (drop-cons (st .basic) i emptyBasic h)
-        ∙ record-turn i (basicAt (st .basic) i) (drop (suc i) (st .basic)) (st .overflow) n (contentOf (layoutOf s) (basicAt (st .basic) i) (st .overflow)) refl
+        ∙ record-step i (basicAt (st .basic) i) (drop (suc i) (st .basic)) (st .overflow) n (contentOf (layoutOf s) (basicAt (st .basic) i) (st .overflow)) refl
         ∙ ap (λ (x : Nth). onNth i x (λ m. recordFrom s (suc i) (drop (suc i) (st .basic)) (st .overflow) m))
         (ap (λ (x : Layout). nthIn x (contentOf x (basicAt (st .basic) i) (st .overflow)) n) e ∙ sym w)
 

@@ -11,14 +11,14 @@ use Rattle.table_read.specs.BlockSlots.{blocksFrom, blockSlotIn, Reaches}
 use Rattle.table_read.specs.declared.lists.BlockSlot.{BlockSlot}
 
 -- x in the slot s of an overflow block
-abbrev pub storeSpot : BlockSlot → ℕ → State → State
-storeSpot s x = overOverflow (s .block .0) (withSlot (s .slot .0) x)
+abbrev pub storeInBlock : BlockSlot → ℕ → State → State
+storeInBlock s x = overOverflow (s .block .0) (withSlot (s .slot .0) x)
 
 module _ (g : Layout) where
   -- x in place p of list i, whose overflow blocks go from h to l
   unfoldable pub storeFrom : ℕ → ℕ → ℕ → ℕ → ℕ → State → State
   storeFrom i h l p x st =
-      cond (ltb p (g .sib)) (storeDisplaced g i l p x st) (storeSpot (blockSlotIn g (blocksFrom g (st .overflow) h) (p - g .sib)) x st)
+      cond (ltb p (g .sib)) (storeDisplaced g i l p x st) (storeInBlock (blockSlotIn g (blocksFrom g (st .overflow) h) (p - g .sib)) x st)
 
   -- where place p of list i begins, whose overflow blocks go on from h
   unfoldable pub placeFrom : ℕ → ℕ → ℕ → State → ℕ

@@ -165,9 +165,9 @@ sum-of : (x x1 x2 x3 x4 x5 x6 x7 b0 b1 b2 b3 b4 b5 b6 b7 : ℕ) → x ≡ x1 * 2
     → b7 * 72057594037927936 + b6 * 281474976710656 + b5 * 1099511627776 + b4 * 4294967296 + b3 * 16777216 + b2 * 65536 + b1 * 256 + b0 ≡ x
 sum-of x x1 x2 x3 x4 x5 x6 x7 b0 b1 b2 b3 b4 b5 b6 b7 e0 e1 e2 e3 e4 e5 e6 e7 = omega arith
 
-turned-bytes : (x : ℕ) → Eight (swapped x) (x / 72057594037927936 % 256) (x / 281474976710656 % 256) (x / 1099511627776 % 256) (x / 4294967296 % 256)
+swapped-bytes : (x : ℕ) → Eight (swapped x) (x / 72057594037927936 % 256) (x / 281474976710656 % 256) (x / 1099511627776 % 256) (x / 4294967296 % 256)
     (x / 16777216 % 256) (x / 65536 % 256) (x / 256 % 256) (x % 256)
-turned-bytes x =
+swapped-bytes x =
     eight (swapped x) (x / 72057594037927936 % 256) (x / 281474976710656 % 256) (x / 1099511627776 % 256) (x / 4294967296 % 256) (x / 16777216 % 256) (x / 65536 % 256) (x / 256 % 256) (x % 256)
     (omega arith) (omega arith) (omega arith) (omega arith) (omega arith) (omega arith) (omega arith) (omega arith) (omega arith)
 
@@ -179,8 +179,8 @@ bytes-of x h =
     sum-of x (x / 256) (x / 65536) (x / 16777216) (x / 4294967296) (x / 1099511627776) (x / 281474976710656) (x / 72057594037927936) _ _ _ _ _ _ _ _
     (omega arith) (omega arith) (omega arith) (omega arith) (omega arith) (omega arith) (omega arith) (omega arith)
 
-pub turned-twice : (x : ℕ) → x < 2 ^ 64 → swapped (swapped x) ≡ x
-turned-twice x h = let d = turned-bytes x in rw (d .at0, d .at1, d .at2, d .at3, d .at4, d .at5, d .at6, d .at7) (bytes-of x h)
+pub swapped-twice : (x : ℕ) → x < 2 ^ 64 → swapped (swapped x) ≡ x
+swapped-twice x h = let d = swapped-bytes x in rw (d .at0, d .at1, d .at2, d .at3, d .at4, d .at5, d .at6, d .at7) (bytes-of x h)
 
 -- ---- bytes compared as they stand
 
@@ -196,9 +196,9 @@ module _ (s : List ℕ) (i : ℕ) (b : Bytes s) where
 
   pub same-word : (q : ℕ) → q < 2 ^ 64 → field s (8 * i) 64 ≡ swapped q → lowFirst s i ≡ q
   same-word q h e =
-      sym (turned-twice (lowFirst s i) word-low)
+      sym (swapped-twice (lowFirst s i) word-low)
       ∙ ap swapped (load-word s i b (lowFirst s i) refl ∙ e)
-      ∙ turned-twice q h
+      ∙ swapped-twice q h
 
   -- four bytes, as a number of 64 bits whose first bytes they are
   four : field s (8 * i) 32 ≡ getD s i 0 * 16777216 + getD s (i + 1) 0 * 65536 + getD s (i + 2) 0 * 256 + getD s (i + 3) 0
@@ -212,8 +212,8 @@ module _ (s : List ℕ) (i : ℕ) (b : Bytes s) where
         byte-more s (8 * i) 24 (i + 3) (omega arith) (b (i + 3)),
       )
 
-  turned-four : swapped (lowFirstFour s i * 4294967296) ≡ field s (8 * i) 32
-  turned-four =
+  swapped-four : swapped (lowFirstFour s i * 4294967296) ≡ field s (8 * i) 32
+  swapped-four =
       let d =
       eight (lowFirstFour s i * 4294967296) 0 0 0 0 (getD s i 0) (getD s (i + 1) 0) (getD s (i + 2) 0) (getD s (i + 3) 0)
       (omega arith) (omega arith) (omega arith) (omega arith) (b i) (b (i + 1)) (b (i + 2)) (b (i + 3)) (omega arith) in
@@ -223,10 +223,10 @@ module _ (s : List ℕ) (i : ℕ) (b : Bytes s) where
   four-low = omega (arith, b i, b (i + 1), b (i + 2), b (i + 3))
 
   pub four-same : (q : ℕ) → lowFirstFour s i ≡ q → field s (8 * i) 32 ≡ swapped (q * 2 ^ 32)
-  four-same q e = sym turned-four ∙ ap (λ (x : ℕ). swapped (x * 4294967296)) e
+  four-same q e = sym swapped-four ∙ ap (λ (x : ℕ). swapped (x * 4294967296)) e
 
   pub same-four : (q : ℕ) → q < 2 ^ 32 → field s (8 * i) 32 ≡ swapped (q * 2 ^ 32) → lowFirstFour s i ≡ q
   same-four q h e =
       let z : lowFirstFour s i * 4294967296 ≡ q * 4294967296 =
-      sym (turned-twice (lowFirstFour s i * 4294967296) four-low) ∙ ap swapped (turned-four ∙ e) ∙ turned-twice (q * 4294967296) (four-fits q h) in
+      sym (swapped-twice (lowFirstFour s i * 4294967296) four-low) ∙ ap swapped (swapped-four ∙ e) ∙ swapped-twice (q * 4294967296) (four-fits q h) in
       omega arith

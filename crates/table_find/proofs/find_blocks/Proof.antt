@@ -11,7 +11,7 @@ use Rattle.table.specs.Find.{position}
 use Rattle.table_read.specs.Steps.{slotsIn, overflowRun, Followed, gatherFrom, findFrom}
 use Rattle.table_read.specs.theory.Reads.{overflow-run-within}
 use Rattle.table.specs.theory.Ways.{told-further, told-other}
-use Rattle.table_read.specs.theory.Walks.{Turn, turn}
+use Rattle.table_read.specs.theory.Walks.{OneStep, one-step}
 use Rattle.table_read.specs.theory.Finds.{block-held, block-none, block-on}
 use Rattle.table_read.specs.theory.Scans.{overflow-row, label-inside, plain-position, held-plain}
 use Rattle.table_read.specs.declared.slots.Slots.{Slots}
@@ -42,12 +42,12 @@ to-then1-2 c = c .before .before .before .before .before .before
 abbrev to-else2 : tie.After-known-told Inv-loop μ-loop → tie.Else2 Inv-loop μ-loop
 to-else2 c = c .before .before .before .before .before
 
--- the block that a turn stands at
+-- the block that a step stands at
 here : (c : tie.At-loop Inv-loop μ-loop)
-    → (let s = c .before .before .args in Turn (s .g) (decode (s .g) (now (s .t)) .overflow) (s .g .nob - c .loop .q) (c .loop .b .0))
+    → (let s = c .before .before .args in OneStep (s .g) (decode (s .g) (now (s .t)) .overflow) (s .g .nob - c .loop .q) (c .loop .b .0))
 here c =
     let s = c .before .before .args in
-    turn (s .g) (decode (s .g) (now (s .t)) .overflow) (s .g .nob - c .loop .q) (c .loop .b .0) (c .loop .inv .2)
+    one-step (s .g) (decode (s .g) (now (s .t)) .overflow) (s .g .nob - c .loop .q) (c .loop .b .0) (c .loop .inv .2)
 
 -- its slots
 few : (c : tie.After-overflow-run Inv-loop μ-loop)

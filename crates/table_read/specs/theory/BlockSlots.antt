@@ -17,7 +17,7 @@ use Rattle.table.specs.Take.{occurs}
 use Rattle.table_read.specs.Steps.{lastFrom, Followed}
 use Rattle.table_read.specs.BlockSlots.{blocksFrom, hasBlock, blockSlot, blockSlotIn, Reaches}
 use Rattle.table_read.specs.theory.Reads.{unpack-length}
-use Rattle.table_read.specs.theory.Walks.{follow-here, follow-on, Turn, Chain, ends, more, Walk, lost, ended, walk, followed, content-high, content-bad, content-over}
+use Rattle.table_read.specs.theory.Walks.{follow-here, follow-on, OneStep, Chain, ends, more, Walk, lost, ended, walk, followed, content-high, content-bad, content-over}
 
 module _ (g : Layout) (os : List Overflow) where
   -- the blocks of a list that has an end
@@ -113,19 +113,19 @@ module _ (g : Layout) (os : List Overflow) where
     gather-some (more {b} {cs} h e c) = omega (arith, one-block (gather g os (overflowAt os b .link ∷ cs)) h, gather-some c)
 
     -- it is in the last block, and is the slot that the counter there names
-    pub last-spot : {b : ℕ} {cs : List ℕ} → Chain g os b cs
+    pub last-block-slot : {b : ℕ} {cs : List ℕ} → Chain g os b cs
         → blockSlotIn g (b ∷ cs) (length (gather g os (b ∷ cs)) - 1) ≡ blockSlot (lastOf b cs) (overflowAt os (lastOf b cs) .counter)
-    last-spot (ends {b} h l) =
+    last-block-slot (ends {b} h l) =
         let n = overflowAt os b .counter in
         let e : length (gather g os (b ∷ [])) - 1 ≡ n = omega (arith, one-block [] h) in
         rw (e, lt-ltb n (g .sio) l)
-    last-spot (more {b} {cs} h e c) =
+    last-block-slot (more {b} {cs} h e c) =
         let ys = gather g os (overflowAt os b .link ∷ cs) in
         let q = length (gather g os (b ∷ overflowAt os b .link ∷ cs)) - 1 in
         let f = one-block ys h in
         let s = gather-some c in
         let k : q - g .sio ≡ length ys - 1 = omega arith in
-        rw (le-ltb q (g .sio) (omega arith), k) (last-spot c)
+        rw (le-ltb q (g .sio) (omega arith), k) (last-block-slot c)
 
 -- ---- whether block f is one of them
 
@@ -134,7 +134,7 @@ module _ (g : Layout) (os : List Overflow) (f : ℕ) where
   unfolding hasBlock
   has-as n b bs e = rw e
 
-  module _ (n b : ℕ) (k : Turn g os n b) where
+  module _ (n b : ℕ) (k : OneStep g os n b) where
     blocks-last : overflowAt os b .counter < g .sio → follow g n os b ≡ some (b ∷ [])
     blocks-last h = follow-here g os n b (k .fuel) (k .low) h
 

@@ -22,7 +22,7 @@ use Rattle.table.specs.Follow.{Content, content}
 use Rattle.table.specs.Find.{position, isHeld, findFollowed, findIn}
 use Rattle.table_read.specs.Steps.{slotsIn, basicRun, displacedRun, overflowRun, lastFrom, Overflows, gatherFrom, findFrom}
 use Rattle.table_read.specs.theory.Reads.{slots-length, basic-slots-in, displaced-slots-in, overflow-slots-in, link-lt}
-use Rattle.table_read.specs.theory.Walks.{Turn, followed, content-short, content-high, content-bad, content-long}
+use Rattle.table_read.specs.theory.Walks.{OneStep, followed, content-short, content-high, content-bad, content-long}
 use Rattle.table_read.specs.declared.slots.Slots.{Slots}
 use Rattle.table.specs.declared.answers.FindAnswer.the-variants as found
 
@@ -106,7 +106,7 @@ module _ (g : Layout) (e : ℕ) where
 
 -- ---- an overflow block: the last one, or one that goes on
 
-module _ (g : Layout) (t : List ℕ) (T : Table g t) (f b c : ℕ) (r : Slots) (S : Turn g (decode g t .overflow) f b)
+module _ (g : Layout) (t : List ℕ) (T : Table g t) (f b c : ℕ) (r : Slots) (S : OneStep g (decode g t .overflow) f b)
     (ec : c ≡ overflowAt (decode g t .overflow) b .counter) (er : r ≡ overflowRun g b c) where
   block-slots : take (suc (overflowAt (decode g t .overflow) b .counter)) (overflowAt (decode g t .overflow) b .slots) ≡ slotsIn g t r
   block-slots = sym (ap (slotsIn g t) (er ∙ ap (overflowRun g b) ec) ∙ overflow-slots-in g t T b (overflowAt (decode g t .overflow) b .counter) (S .low))
@@ -119,7 +119,7 @@ module _ (g : Layout) (t : List ℕ) (T : Table g t) (f b c : ℕ) (r : Slots) (
   block-more l = S .more (omega (arith, S .count)) ∙ ap (λ (xs : List ℕ). xs ++ gatherFrom g (f - 1) (decode g t .overflow) (overflowAt (decode g t .overflow) b .link)) block-slots
 
 -- found in it, not found in the last one, and not found in one that goes on
-module _ (g : Layout) (t : List ℕ) (T : Table g t) (e n f b c j : ℕ) (r : Slots) (S : Turn g (decode g t .overflow) f b)
+module _ (g : Layout) (t : List ℕ) (T : Table g t) (e n f b c j : ℕ) (r : Slots) (S : OneStep g (decode g t .overflow) f b)
     (ec : c ≡ overflowAt (decode g t .overflow) b .counter) (er : r ≡ overflowRun g b c) (ej : j ≡ position g e (slotsIn g t r)) where
   pub block-held : j < r .count → found.Held (labelOf g (getD (slotsIn g t r) j 0)) (n + suc j) ≡ findFrom g e (gatherFrom g f (decode g t .overflow) b) n
   block-held h = pick (decLe (g .sio) c)

@@ -122,7 +122,7 @@ module _ (g : Layout) (os : List Overflow) where
 
   -- ---- one block of a list without damage
 
-  pub record Turn (n b : ℕ) : Type 0 where
+  pub record OneStep (n b : ℕ) : Type 0 where
     pub fuel : 0 < n
     pub low : b < g .nob
     pub count : overflowAt os b .counter ≤ g .sio
@@ -131,11 +131,11 @@ module _ (g : Layout) (os : List Overflow) where
     pub more : overflowAt os b .counter ≡ g .sio
         → gatherFrom g n os b ≡ take (suc (overflowAt os b .counter)) (overflowAt os b .slots) ++ gatherFrom g (n - 1) os (overflowAt os b .link)
 
-  turn-on : (n b : ℕ) (bs : List ℕ) → b < g .nob → overflowAt os b .counter ≡ g .sio → (o : Option (List ℕ)) → follow g n os (overflowAt os b .link) ≡ o
-      → cons? b o ≡ some bs → Turn (suc n) b
+  one-step-on : (n b : ℕ) (bs : List ℕ) → b < g .nob → overflowAt os b .counter ≡ g .sio → (o : Option (List ℕ)) → follow g n os (overflowAt os b .link) ≡ o
+      → cons? b o ≡ some bs → OneStep (suc n) b
   unfolding gatherFrom
-  turn-on n b bs h z none w e = nothing e
-  turn-on n b bs h z (some cs) w e =
+  one-step-on n b bs h z none w e = nothing e
+  one-step-on n b bs h z (some cs) w e =
       let k : suc n - 1 ≡ n = omega arith in
       record {
         fuel = omega arith;
@@ -146,10 +146,10 @@ module _ (g : Layout) (os : List Overflow) where
         more = λ x. rw (k, follow-on (suc n) n b refl h z, w);
       }
 
-  turn-step : (n b : ℕ) (bs : List ℕ) → b < g .nob → (s : Step) → Way (g .sio) (overflowAt os b .counter) (overflowAt os b .link) s
-      → goOn s (b ∷ []) (λ c. cons? b (follow g n os c)) ≡ some bs → Turn (suc n) b
+  one-step-by : (n b : ℕ) (bs : List ℕ) → b < g .nob → (s : Step) → Way (g .sio) (overflowAt os b .counter) (overflowAt os b .link) s
+      → goOn s (b ∷ []) (λ c. cons? b (follow g n os c)) ≡ some bs → OneStep (suc n) b
   unfolding gatherFrom
-  turn-step n b bs h Last (ways.ends l) e =
+  one-step-by n b bs h Last (ways.ends l) e =
       record {
         fuel = omega arith;
         low = h;
@@ -158,18 +158,18 @@ module _ (g : Layout) (os : List Overflow) where
         on = λ z. absurd (omega arith);
         more = λ z. absurd (omega arith);
       }
-  turn-step n b bs h (Further c) (ways.goes z) e = turn-on n b bs h z (follow g n os (overflowAt os b .link)) refl e
-  turn-step n b bs h Damage (ways.breaks l) e = nothing e
+  one-step-by n b bs h (Further c) (ways.goes z) e = one-step-on n b bs h z (follow g n os (overflowAt os b .link)) refl e
+  one-step-by n b bs h Damage (ways.breaks l) e = nothing e
 
-  turn-from : (n b : ℕ) (bs : List ℕ) → follow g n os b ≡ some bs → Turn n b
-  turn-from zero b bs = λ e. nothing e
-  turn-from (suc n) b bs =
+  one-step-from : (n b : ℕ) (bs : List ℕ) → follow g n os b ≡ some bs → OneStep n b
+  one-step-from zero b bs = λ e. nothing e
+  one-step-from (suc n) b bs =
       cases (ltb b (g .nob))
-      (λ p. rw p (turn-step n b bs (ltb-true b (g .nob) p) (stepAt g os b) (way (g .sio) (overflowAt os b .counter) (overflowAt os b .link))))
+      (λ p. rw p (one-step-by n b bs (ltb-true b (g .nob) p) (stepAt g os b) (way (g .sio) (overflowAt os b .counter) (overflowAt os b .link))))
       (λ p. rw p (λ e. nothing e))
 
-  pub turn : (n b : ℕ) → Followed g n os b → Turn n b
-  turn n b f = turn-from n b (f .blocks) (f .are)
+  pub one-step : (n b : ℕ) → Followed g n os b → OneStep n b
+  one-step n b f = one-step-from n b (f .blocks) (f .are)
 
 -- ---- a list's content, by its basic block's counter
 

@@ -9,7 +9,7 @@ use Rattle.table_read.specs.Steps.{Followed, gatherFrom}
 use Rattle.table_record.specs.RecordSteps.{nthOf}
 use Rattle.table_read.specs.theory.Reads.{overflow-run-within}
 use Rattle.table.specs.theory.Ways.{told-further, told-other}
-use Rattle.table_read.specs.theory.Walks.{Turn, turn}
+use Rattle.table_read.specs.theory.Walks.{OneStep, one-step}
 use Rattle.table_record.proofs.Records.{nth-in-block, nth-past-last, nth-past-block, bounded-past}
 use Rattle.table_record.proofs.nth_blocks.Statement.{statement}
 use Rattle.table_record.proofs.nth_blocks.Tie as tie
@@ -23,8 +23,8 @@ abbrev μ-loop : tie.MeasureT-loop
 μ-loop t g n first m₀ q₀ b m q = g .nob - q
 
 here : (k : tie.At-loop Inv-loop μ-loop) → let a = k .before .before .args in
-    Turn (a .g) (decode (a .g) (now (a .t)) .overflow) (a .g .nob - k .loop .q) (k .loop .b .0)
-here k = turn _ _ _ _ (k .loop .inv .1)
+    OneStep (a .g) (decode (a .g) (now (a .t)) .overflow) (a .g .nob - k .loop .q) (k .loop .b .0)
+here k = one-step _ _ _ _ (k .loop .inv .1)
 
 loop-holds : tie.Need-loop-holds Inv-loop μ-loop
 loop-holds c =

@@ -10,7 +10,7 @@ use Rattle.table.specs.Decode.{decode}
 use Rattle.table.specs.Record.{recordIn}
 use Rattle.table.specs.theory.Formed.{basics}
 use Rattle.table_record.specs.RecordSteps.{recordsFrom}
-use Rattle.table_record.proofs.Records.{onNth, records-all, records-none, records-turn, lists-are, bie-is}
+use Rattle.table_record.proofs.Records.{onNth, records-all, records-none, records-step, lists-are, bie-is}
 use Rattle.table_record.specs.declared.Nth.{Nth}
 use Rattle.table_record.proofs.record_in.Statement.{statement}
 use Rattle.table_record.proofs.record_in.Tie as tie
@@ -31,7 +31,7 @@ goes c =
     let g = a .args .g in
     let t = now (a .args .t) in
     let h : k .loop .i < length (decode g t .basic) = omega (arith, basics g t, c .before .if1 .taken) in
-    sym (records-turn (a .args .s) (decode g t) g (a .pre .laid) (k .loop .i) (k .loop .m) h (c .nth-in .result) (c .nth-in .ensures .0)) ∙ k .loop .inv .1
+    sym (records-step (a .args .s) (decode g t) g (a .pre .laid) (k .loop .i) (k .loop .m) h (c .nth-in .result) (c .nth-in .ensures .0)) ∙ k .loop .inv .1
 
 loop-holds : tie.Need-loop-holds Inv-loop μ-loop
 loop-holds c = (omega arith, records-all _ _ _)

@@ -29,43 +29,43 @@ use Rattle.table_read.specs.theory.Walks.{Chain, ends, more}
 use Rattle.table_read.specs.theory.BlockSlots.{chained, one-more, last-one}
 use Rattle.table_read.specs.declared.lists.BlockSlot.{BlockSlot}
 use Rattle.table_store.specs.Stores.{StoredOver, Stored, linkPut, slotPut}
-use Rattle.table_store.specs.Places.{storeSpot, storeFrom, placeFrom, Storable}
+use Rattle.table_store.specs.Places.{storeInBlock, storeFrom, placeFrom, Storable}
 use Rattle.table_store.specs.theory.StoreLaws.{stored-then, stored-as, stored-link, stored-overflow-slot, over-behind, over-head, over-rest}
 
 module _ (g : Layout) (os : List Overflow) (sized : (j : ℕ) → j < g .nob → length (overflowAt os j .slots) ≡ g .sio) where
   -- what is known of place q of the blocks, and what a slot stored there does
-  pub record Spotted (bs : List ℕ) (q : ℕ) : Type 0 where
+  pub record InBlocks (bs : List ℕ) (q : ℕ) : Type 0 where
     pub low : blockSlotIn g bs q .block .0 < g .nob
     pub few : blockSlotIn g bs q .slot .0 < g .sio
     pub stored : (x : ℕ) → storeOverflow g os bs q x
         ≡ set os (blockSlotIn g bs q .block .0) (withSlot (blockSlotIn g bs q .slot .0) x (overflowAt os (blockSlotIn g bs q .block .0)))
 
-  spotted-here : {b : ℕ} (cs : List ℕ) (q : ℕ) → b < g .nob → q < g .sio → Spotted (b ∷ cs) q
+  in-blocks-here : {b : ℕ} (cs : List ℕ) (q : ℕ) → b < g .nob → q < g .sio → InBlocks (b ∷ cs) q
   unfolding storeOverflow
-  spotted-here {b} cs q h l =
+  in-blocks-here {b} cs q h l =
       record { low = rw (lt-ltb q (g .sio) l) h; few = rw (lt-ltb q (g .sio) l) l; stored = λ x. rw (lt-ltb q (g .sio) l) }
 
-  spotted-on : {b : ℕ} (cs : List ℕ) (q : ℕ) → g .sio ≤ q → Spotted cs (q - g .sio) → Spotted (b ∷ cs) q
+  in-blocks-on : {b : ℕ} (cs : List ℕ) (q : ℕ) → g .sio ≤ q → InBlocks cs (q - g .sio) → InBlocks (b ∷ cs) q
   unfolding storeOverflow
-  spotted-on cs q l s =
+  in-blocks-on cs q l s =
       record {
         low = rw (le-ltb q (g .sio) l) (s .low);
         few = rw (le-ltb q (g .sio) l) (s .few);
         stored = λ x. rw (le-ltb q (g .sio) l) (s .stored x);
       }
 
-  pub spotted : {b : ℕ} {cs : List ℕ} → Chain g os b cs → (q : ℕ) → q < length (gather g os (b ∷ cs)) → Spotted (b ∷ cs) q
-  spotted (ends {b} h l) q m = spotted-here [] q h (last-one g os sized h m)
-  spotted (more {b} {cs} h e c) q m = pick (decLe (g .sio) q) (λ l. spotted c (q - g .sio) (one-more g os sized (gather g os (overflowAt os b .link ∷ cs)) h l m))
+  pub in-blocks : {b : ℕ} {cs : List ℕ} → Chain g os b cs → (q : ℕ) → q < length (gather g os (b ∷ cs)) → InBlocks (b ∷ cs) q
+  in-blocks (ends {b} h l) q m = in-blocks-here [] q h (last-one g os sized h m)
+  in-blocks (more {b} {cs} h e c) q m = pick (decLe (g .sio) q) (λ l. in-blocks c (q - g .sio) (one-more g os sized (gather g os (overflowAt os b .link ∷ cs)) h l m))
     where
-      pick : Dec (g .sio ≤ q) → (g .sio ≤ q → Spotted (overflowAt os b .link ∷ cs) (q - g .sio)) → Spotted (b ∷ overflowAt os b .link ∷ cs) q
-      pick (no l) f = spotted-here (overflowAt os b .link ∷ cs) q h (omega arith)
-      pick (yes l) f = spotted-on (overflowAt os b .link ∷ cs) q l (f l)
+      pick : Dec (g .sio ≤ q) → (g .sio ≤ q → InBlocks (overflowAt os b .link ∷ cs) (q - g .sio)) → InBlocks (b ∷ overflowAt os b .link ∷ cs) q
+      pick (no l) f = in-blocks-here (overflowAt os b .link ∷ cs) q h (omega arith)
+      pick (yes l) f = in-blocks-on (overflowAt os b .link ∷ cs) q l (f l)
 
-  pub spotted-at : (b q : ℕ) → Reaches g os b q → Spotted (blocksFrom g os b) q
-  spotted-at b q r =
+  pub in-blocks-at : (b q : ℕ) → Reaches g os b q → InBlocks (blocksFrom g os b) q
+  in-blocks-at b q r =
       let c = chained g os b (r .ends) in
-      rw (c .are) (spotted (c .chain) q (rw (c .are) at (r .within)))
+      rw (c .are) (in-blocks (c .chain) q (rw (c .are) at (r .within)))
 
 -- ---- a slot stored in a place
 
@@ -75,7 +75,7 @@ module _ (g : Layout) (st : State) (i : ℕ) where
     unfolding storeFrom
     store-low h x k = rw (lt-ltb p (g .sib) k)
 
-    pub store-high : (h x : ℕ) → g .sib ≤ p → storeSpot (blockSlotIn g (blocksFrom g (st .overflow) h) (p - g .sib)) x st ≡ storeFrom g i h l p x st
+    pub store-high : (h x : ℕ) → g .sib ≤ p → storeInBlock (blockSlotIn g (blocksFrom g (st .overflow) h) (p - g .sib)) x st ≡ storeFrom g i h l p x st
     unfolding storeFrom
     store-high h x k = rw (le-ltb p (g .sib) k)
 
@@ -90,7 +90,7 @@ module _ (g : Layout) (st : State) (i : ℕ) where
       pick (no l) = let m : p < g .sib = omega arith in rw (lt-ltb p (g .sib) m)
       pick (yes l) =
           rw (le-ltb p (g .sib) l, e)
-          (ap (λ (os : List Overflow). mkState (st .free) (st .basic) os) (spotted g (st .overflow) sized c (p - g .sib) (k l) .stored x))
+          (ap (λ (os : List Overflow). mkState (st .free) (st .basic) os) (in-blocks g (st .overflow) sized c (p - g .sib) (k l) .stored x))
 
   -- a slot stored keeps counters, and the free start
   counter-kept : (j : ℕ) (o : Overflow) → o .counter ≡ overflowAt (st .overflow) j .counter → (l : ℕ)
@@ -153,9 +153,9 @@ module _ (g : Layout) (t : List ℕ) (T : Table g t) where
         (ap (linkPut g a l) (e ∙ ev ∙ sym (ap (λ (st : State). overflowAt (st .overflow) l .link) (under .state)))
         ∙ link-own g a (under .table) l hl))
 
-  stored-spot : (s : BlockSlot) (x at : ℕ) → s .block .0 < g .nob → s .slot .0 < g .sio → x < 2 ^ g .slot → at ≡ overflowSlot g (s .block .0) (s .slot .0) → (u : List ℕ) → u ≡ slotPut g t at x
-      → Stored g t u (storeSpot s x (decode g t))
-  stored-spot s x at hb hs hx ea u eu =
+  stored-in-block : (s : BlockSlot) (x at : ℕ) → s .block .0 < g .nob → s .slot .0 < g .sio → x < 2 ^ g .slot → at ≡ overflowSlot g (s .block .0) (s .slot .0) → (u : List ℕ) → u ≡ slotPut g t at x
+      → Stored g t u (storeInBlock s x (decode g t))
+  stored-in-block s x at hb hs hx ea u eu =
       stored-overflow-slot g t T (s .block .0) hb (s .slot .0) x hs hx u (eu ∙ ap (λ (n : ℕ). slotPut g t n x) ea)
 
   -- ---- at a place that is in the list
@@ -164,8 +164,8 @@ module _ (g : Layout) (t : List ℕ) (T : Table g t) where
     abbrev blockSlot : BlockSlot
     blockSlot = blockSlotIn g (blocksFrom g (decode g t .overflow) h) (p - g .sib)
 
-    spot-there : g .sib ≤ p → Spotted g (decode g t .overflow) (sized g t T) (blocksFrom g (decode g t .overflow) h) (p - g .sib)
-    spot-there k = spotted-at g (decode g t .overflow) (sized g t T) h (p - g .sib) (W .reaches k)
+    block-slot-there : g .sib ≤ p → InBlocks g (decode g t .overflow) (sized g t T) (blocksFrom g (decode g t .overflow) h) (p - g .sib)
+    block-slot-there k = in-blocks-at g (decode g t .overflow) (sized g t T) h (p - g .sib) (W .reaches k)
 
     at-low : p < g .sib → at ≡ basicSlot g i p
     unfolding placeFrom
@@ -180,7 +180,7 @@ module _ (g : Layout) (t : List ℕ) (T : Table g t) where
       where
         pick : Dec (g .sib ≤ p) → at + g .slot ≤ g .bits
         pick (no f) = let k : p < g .sib = omega arith in omega (arith, at-low k, basic-slot-ends g (T .proper) i (W .list) p k)
-        pick (yes k) = let s = spot-there k in omega (arith, at-high k, overflow-slot-ends g (T .proper) (blockSlot .block .0) (s .low) (blockSlot .slot .0) (s .few))
+        pick (yes k) = let s = block-slot-there k in omega (arith, at-high k, overflow-slot-ends g (T .proper) (blockSlot .block .0) (s .low) (blockSlot .slot .0) (s .few))
 
     -- the overflow blocks stand behind the basic blocks
     under-low : at < basicSlots g i + g .link → p < g .sib
@@ -208,9 +208,9 @@ module _ (g : Layout) (t : List ℕ) (T : Table g t) where
               (over-behind (g .link) (g .slot) t u (basicSlots g i) v at x y b (omega (arith, place-ends, T .room)) (link-lt g t T l (W .last)) eu) refl)
               (store-low g (decode g t) i l p h x k)
           pick (yes k) =
-              let s = spot-there k in
+              let s = block-slot-there k in
               stored-as (storeFrom g i h l p x (decode g t))
-              (stored-spot blockSlot x at (s .low) (s .few) hx (at-high k) u eu)
+              (stored-in-block blockSlot x at (s .low) (s .few) hx (at-high k) u eu)
               (store-high g (decode g t) i l p h x k)
 
       -- under them, what they are then goes to the link of block l

@@ -31,10 +31,10 @@ filled-less o o′ p n m k h l e =
     sym (take-take (n + m) (n + k) o′ (omega arith)) ∙ rw e
     (ap (λ (i : ℕ). take (i + m) (take n o ++ p)) (sym q) ∙ take-append-add (take n o) p m)
 
--- a turn of a copy, from the front
-pub copy-turn : (t o : List ℕ) (i : ℕ) → i < length t → i < length o
+-- a step of a copy, from the front
+pub copy-step : (t o : List ℕ) (i : ℕ) → i < length t → i < length o
     → set (take i t ++ drop i o) i (getD t i 0) ≡ take (i + 1) t ++ drop (i + 1) o
-copy-turn t o i h k =
+copy-step t o i h k =
     let p : length (take i t) ≡ i = length-take-le i t (omega arith) in
     let n : take (i + 1) t ≡ take i t ++ getD t i 0 ∷ [] = rw (add-one i) (take-suc t i 0 h) in
     rw (drop-next o i 0 k, n, append-snoc (take i t) (getD t i 0) (drop (i + 1) o))

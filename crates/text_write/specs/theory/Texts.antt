@@ -37,9 +37,9 @@ module _ (g : List ℕ) (i to : ℕ) where
       in
       rw d (sym (append-assoc (groupText (getD g i 0)) (58 ∷ []) (closedText (drop (i + 1) (take to g)))))
 
--- a turn of the loop over groups
-pub turn : (s s′ x l l′ : List ℕ) → s′ ≡ s ++ x → l ≡ x ++ l′ → s′ ++ l′ ≡ s ++ l
-turn s s′ x l l′ p e = rw (p, e) (append-assoc s x l′)
+-- a step of the loop over groups
+pub one-step : (s s′ x l l′ : List ℕ) → s′ ≡ s ++ x → l ≡ x ++ l′ → s′ ++ l′ ≡ s ++ l
+one-step s s′ x l l′ p e = rw (p, e) (append-assoc s x l′)
 
 -- the last byte is left out
 last-off : (o p : List ℕ) (r v : ℕ) → r ≤ length o → take r o ≡ p ++ v ∷ [] → (0 < r) × (take (r - 1) o ≡ p)

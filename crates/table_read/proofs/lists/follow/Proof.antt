@@ -31,8 +31,8 @@ returns c =
 overflow-front-requires : tie.Need-overflow-front-requires Inv-loop μ-loop
 overflow-front-requires c κs = omega arith
 
-abbrev head : tie.After-step-of Inv-loop μ-loop → tie.At-loop Inv-loop μ-loop
-head w = w .before .before .before .before .before .before .before
+abbrev head : tie.After-overflow-front Inv-loop μ-loop → tie.At-loop Inv-loop μ-loop
+head k = k .before .before .before .before .before .before
 
 step-of-requires : tie.Need-step-of-requires Inv-loop μ-loop
 step-of-requires c κs = search needs
@@ -43,10 +43,11 @@ enum-told c = search needs
 returns-2 : tie.Need-returns-2 Inv-loop μ-loop
 returns-2 c =
     let w = c .before .before in
-    let m = head w in
+    let k = w .before in
+    let m = head k in
     let s = m .before .before .args in
     last-block (s .g) (m .loop .b) (omega arith)
-    ∙ ap (lastAs (s .g)) (sym (last-here (s .g) (decode (s .g) (now (s .t)) .overflow) (s .g .nob - m .loop .k) (m .loop .b .0) (omega arith) (omega arith) (omega (arith, w .before .overflow-front .ensures .0, told-last _ _ _ _ (w .step-of .ensures) (c .enum-told .given .1))))
+    ∙ ap (lastAs (s .g)) (sym (last-here (s .g) (decode (s .g) (now (s .t)) .overflow) (s .g .nob - m .loop .k) (m .loop .b .0) (omega arith) (omega arith) (omega (arith, k .overflow-front .ensures .0, told-last _ _ _ _ (w .step-of .ensures) (c .enum-told .given .1))))
     ∙ m .loop .inv .1)
 
 enum-known-next : tie.Need-enum-known-next Inv-loop μ-loop
@@ -58,10 +59,11 @@ enum-told-2 c = search needs
 returns-3 : tie.Need-returns-3 Inv-loop μ-loop
 returns-3 c =
     let w = c .before .before in
-    let m = head w in
+    let k = w .before in
+    let m = head k in
     let s = m .before .before .args in
     last-none (s .g) (s .g .nob) (omega arith)
-    ∙ ap (lastAs (s .g)) (sym (last-bad (s .g) (decode (s .g) (now (s .t)) .overflow) (s .g .nob - m .loop .k) (m .loop .b .0) (omega (arith, w .before .overflow-front .ensures .0, told-damage _ _ _ _ (w .step-of .ensures) (c .enum-told2 .given .1))))
+    ∙ ap (lastAs (s .g)) (sym (last-bad (s .g) (decode (s .g) (now (s .t)) .overflow) (s .g .nob - m .loop .k) (m .loop .b .0) (omega (arith, k .overflow-front .ensures .0, told-damage _ _ _ _ (w .step-of .ensures) (c .enum-told2 .given .1))))
     ∙ m .loop .inv .1)
 
 add-k : tie.Need-add-k Inv-loop μ-loop
@@ -73,13 +75,14 @@ loop-less c = omega arith
 loop-again : tie.Need-loop-again Inv-loop μ-loop
 loop-again c =
     let w = c .before .before .before in
-    let m = head w in
+    let k = w .before in
+    let m = head k in
     let s = m .before .before .args in
     let os = decode (s .g) (now (s .t)) .overflow in
     let e = told-further _ _ _ _ (w .step-of .ensures) _ (c .before .next .given .1) in (
       omega arith,
-      ap (lastFrom (s .g) (s .g .nob - (m .loop .k + 1)) os) (e .link ∙ w .before .overflow-front .ensures .1)
-          ∙ sym (last-further (s .g) os (s .g .nob - m .loop .k) (s .g .nob - (m .loop .k + 1)) (m .loop .b .0) (omega arith) (omega arith) (omega (arith, w .before .overflow-front .ensures .0, e .full)))
+      ap (lastFrom (s .g) (s .g .nob - (m .loop .k + 1)) os) (e .link ∙ k .overflow-front .ensures .1)
+          ∙ sym (last-further (s .g) os (s .g .nob - m .loop .k) (s .g .nob - (m .loop .k + 1)) (m .loop .b .0) (omega arith) (omega arith) (omega (arith, k .overflow-front .ensures .0, e .full)))
           ∙ m .loop .inv .1,
     )
 

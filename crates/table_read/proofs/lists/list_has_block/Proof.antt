@@ -7,7 +7,7 @@ use borrow.Author.Needs.{needs}
 use Rattle.table.specs.Decode.{decode}
 use Rattle.table_read.specs.Steps.{Followed}
 use Rattle.table.specs.theory.Ways.{told-further, told-other}
-use Rattle.table_read.specs.theory.Walks.{Turn, turn}
+use Rattle.table_read.specs.theory.Walks.{OneStep, one-step}
 use Rattle.table_read.specs.BlockSlots.{hasBlock}
 use Rattle.table_read.specs.theory.BlockSlots.{has-here, has-last, has-on}
 use Rattle.table_read.proofs.lists.list_has_block.Statement.{statement}
@@ -24,10 +24,10 @@ abbrev μ-loop : tie.MeasureT-loop
 
 -- the block that the loop has come to
 here : (c : tie.At-loop Inv-loop μ-loop) → let s = c .before .before in
-    Turn (s .args .g) (decode (s .args .g) (now (s .args .t)) .overflow) (s .args .g .nob - c .loop .q) (c .loop .b .0)
+    OneStep (s .args .g) (decode (s .args .g) (now (s .args .t)) .overflow) (s .args .g .nob - c .loop .q) (c .loop .b .0)
 here c =
     let s = c .before .before in
-    turn (s .args .g) (decode (s .args .g) (now (s .args .t)) .overflow) (s .args .g .nob - c .loop .q) (c .loop .b .0) (c .loop .inv .1)
+    one-step (s .args .g) (decode (s .args .g) (now (s .args .t)) .overflow) (s .args .g .nob - c .loop .q) (c .loop .b .0) (c .loop .inv .1)
 
 loop-holds : tie.Need-loop-holds Inv-loop μ-loop
 loop-holds c =

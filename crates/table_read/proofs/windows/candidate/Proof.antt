@@ -6,8 +6,8 @@ use native.Mathlib.Nat.{mod-lt}
 use lib.Pow.{pow-pos, mod-mod-pow}
 use borrow.Author.Needs.{needs}
 use Rattle.bits.specs.Word.{swapped}
-use Rattle.bits.specs.theory.Words.{turned-twice}
-use Rattle.table_read.proofs.WindowLaws.{by-window, words-within, tails-within, last-of, all-of, turned-four}
+use Rattle.bits.specs.theory.Words.{swapped-twice}
+use Rattle.table_read.proofs.WindowLaws.{by-window, words-within, tails-within, last-of, all-of, swapped-four}
 use Rattle.table_read.proofs.windows.candidate.Statement.{statement}
 use Rattle.table_read.proofs.windows.candidate.Tie as tie
 
@@ -47,7 +47,7 @@ returns c =
     let o : ℕ = 8 * ((s .args .start + 7) / 8) - s .args .start in
     let l : w .part-of-two .result < 2 ^ 64 = rw (w .part-of-two .ensures) (mod-lt _ (pow-pos 64)) in
     by-window _ _ _ _ _ _ _ _ _ _ _ o (s .args .bie - o - 64) (omega arith) (omega arith) (omega arith)
-    (ap swapped (c .before .swap-bytes .ensures) ∙ turned-twice _ l ∙ w .part-of-two .ensures) (c .candidate-words .ensures)
+    (ap swapped (c .before .swap-bytes .ensures) ∙ swapped-twice _ l ∙ w .part-of-two .ensures) (c .candidate-words .ensures)
 
 add-if3 : tie.Need-add-if3
 add-if3 c = search needs
@@ -77,7 +77,7 @@ returns-2 c =
     let o : ℕ = 8 * ((s .args .start + 7) / 8) - s .args .start in
     by-window _ _ _ _ _ _ _ _ _ _ _ o (s .args .bie - o - 32) (omega arith) (omega arith) (omega arith)
     (ap (λ (x : ℕ). swapped (x / 4294967296 * 2 ^ 32)) (c .before .swap-bytes2 .ensures)
-    ∙ turned-four (w .part-of-two2 .result)
+    ∙ swapped-four (w .part-of-two2 .result)
     ∙ ap (λ (x : ℕ). x % 2 ^ 32) (w .part-of-two2 .ensures)
     ∙ mod-mod-pow _ 32 32)
     (c .next-four .ensures)

@@ -4,7 +4,7 @@ use mathlib.Core.List.{List, _++_}
 use Prim.Native.Nat.{ℕ, _-_, _≤_}
 use native.Mathlib.Omega.{arith}
 use lib.ListN.{length, take, drop, getD, set, length-set}
-use Rattle.text_write.specs.theory.Stores.{copy-turn}
+use Rattle.text_write.specs.theory.Stores.{copy-step}
 use Rattle.text_write.proofs.writer.copy.Statement.{statement}
 use Rattle.text_write.proofs.writer.copy.Tie as tie
 
@@ -37,7 +37,7 @@ loop-again c =
     let v = getD (a .text .now) i 0 in (
       omega arith,
       length-set (l .loop .out) i v ∙ l .loop .inv .1,
-      ap (λ (x : List ℕ). set x i v) (l .loop .inv .2) ∙ copy-turn (a .text .now) (a .out .now) i (omega arith) (omega arith),
+      ap (λ (x : List ℕ). set x i v) (l .loop .inv .2) ∙ copy-step (a .text .now) (a .out .now) i (omega arith) (omega arith),
     )
 
 same-length : tie.Need-same-length Inv-loop μ-loop

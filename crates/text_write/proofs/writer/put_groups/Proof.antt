@@ -7,7 +7,7 @@ use lib.ListN.{length, take, drop, getD}
 use Rattle.text_write.specs.Writing.{groupText}
 use Rattle.text_write.specs.WriterSteps.{keyGroups, closedText}
 use Rattle.text_write.proofs.Groups.{eight}
-use Rattle.text_write.specs.theory.Texts.{closed-none, closed-next, turn}
+use Rattle.text_write.specs.theory.Texts.{closed-none, closed-next, one-step}
 use Rattle.text_write.proofs.writer.put_groups.Statement.{statement}
 use Rattle.text_write.proofs.writer.put_groups.Tie as tie
 
@@ -51,7 +51,7 @@ loop-again c =
       omega arith,
       p .put-group .kept .0 ∙ l .loop .inv .2,
       omega (arith, l .loop .inv, p .put-group .ensures .0),
-      turn (take (l .loop .end) (l .loop .text)) (take (p .put-group .result) (p .put-group .last .0)) (groupText (getD g i 0) ++ 58 ∷ [])
+      one-step (take (l .loop .end) (l .loop .text)) (take (p .put-group .result) (p .put-group .last .0)) (groupText (getD g i 0) ++ 58 ∷ [])
           (closedText (drop i (take (a .to) g))) (closedText (drop (i + 1) (take (a .to) g)))
           (p .put-group .ensures .1 ∙ ap (λ (x : ℕ). take (l .loop .end) (l .loop .text) ++ (groupText x ++ 58 ∷ [])) (v .group-at .ensures .0))
           (closed-next g i (a .to) h w)
