@@ -6,6 +6,15 @@ use borrow.Author.Needs.{needs}
 use Rattle.filter.proofs.answer_read.Statement.{statement}
 use Rattle.filter.proofs.answer_read.Tie as tie
 
+abbrev answered : tie.Else1 → tie.After-answer-all
+answered e = e .before .before .before .before .before .before
+
+abbrev known : tie.After-answer-all → tie.After-slice-known3
+known a = a .before .before .before .before
+
+abbrev start : tie.After-slice-known3 → tie.Start
+start k = k .before .before .before
+
 slice-reshare-prefix-answer-all : tie.Need-slice-reshare-prefix-answer-all
 slice-reshare-prefix-answer-all c = search needs
 
@@ -35,9 +44,8 @@ returns c = search needs
 
 keep-requires : tie.Need-keep-requires
 keep-requires c κs =
-    let a = c .before .before .before .before .before .before .before in
-    let s = a .before .before .before .before .before .before .before in
-    omega (arith, simp length-take at (a .answer-all .ensures .0), s)
+    let a = answered (c .before) in
+    omega (arith, simp length-take at (a .answer-all .ensures .0), start (known a))
 
 same-length-4 : tie.Need-same-length-4
 same-length-4 c = search needs
@@ -51,9 +59,8 @@ same-length-6 c = search needs
 returns-2 : tie.Need-returns-2
 returns-2 c =
     let e = c .before .before .before .before in
-    let a = e .before .before .before .before .before .before in
-    let s = a .before .before .before .before .before .before .before in
-    omega (arith, c .before .before .keep .ensures .0, simp length-take at (a .answer-all .ensures .1 (not-false _ (e .if1 .left))), s)
+    let a = answered e in
+    omega (arith, c .before .before .keep .ensures .0, simp length-take at (a .answer-all .ensures .1 (not-false _ (e .if1 .left))), start (known a))
 
 pub answer-read-spec : {M : Type 1} → statement M
 answer-read-spec =

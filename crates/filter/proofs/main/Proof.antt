@@ -32,7 +32,8 @@ slice-aggregate-run-3 c = search needs
 run-requires : tie.Need-run-requires
 unfolding newTable
 run-requires c κs =
-    (c .before .before .before .before .before .before .before .classes .ensures, longer 65536 64 (lit< tt), omega (arith, c .before .before .before .before .before .make .kept .1 .0, length-replicate {A = ℕ} 19617 0), longer 65536 79 (lit< tt), c .before .before .before .before .before .make .ensures .1)
+    let m = c .before .before .before .before .before in
+    (m .before .before .classes .ensures, longer 65536 64 (lit< tt), omega (arith, m .make .kept .1 .0, length-replicate {A = ℕ} 19617 0), longer 65536 79 (lit< tt), m .make .ensures .1)
 
 returns : tie.Need-returns
 returns c = search needs

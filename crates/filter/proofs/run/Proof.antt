@@ -2,7 +2,7 @@
 use mathlib.Core.Path.{_≡_, refl, _∙_}
 use mathlib.Core.Bool.{and-eq-true-iff}
 use mathlib.Core.List.{List}
-use Prim.Native.Nat.{ℕ, _≤_}
+use Prim.Native.Nat.{ℕ, _≤_, _<_}
 use native.Mathlib.Omega.{arith}
 use lib.ListN.{length}
 use lib.Dec.{ltb}
@@ -24,6 +24,17 @@ Inv-loop classes buf₀ t₀ out₀ s₀ turns₀ buf t out s turns = Inv buf₀
 abbrev μ-loop : tie.MeasureT-loop
 μ-loop classes buf₀ t₀ out₀ s₀ turns₀ buf t out s turns = turns
 
+abbrev entered : tie.After-one-read Inv-loop μ-loop → tie.Then1 Inv-loop μ-loop
+entered o = o .before .before .before .before
+
+abbrev head : tie.Then1 Inv-loop μ-loop → tie.At-loop Inv-loop μ-loop
+head t = t .before .before
+
+some-left : (t : tie.Then1 Inv-loop μ-loop) → 0 < head t .loop .turns
+some-left t =
+    let l = head t .loop in
+    ltb-true 0 (l .turns) (and-eq-true-iff (l .s .go) (ltb 0 (l .turns)) .0 (t .if1 .taken) .1)
+
 loop-holds : tie.Need-loop-holds Inv-loop μ-loop
 loop-holds c = record { left = omega arith; input = refl; table = refl; room = refl }
 
@@ -34,21 +45,15 @@ one-read-requires c κs =
     (s .pre .0, l .loop .inv .left, omega (arith, s .pre .1, l .loop .inv .input), omega (arith, s .pre .2, l .loop .inv .table), omega (arith, s .pre .3, l .loop .inv .room))
 
 sub-turns : tie.Need-sub-turns Inv-loop μ-loop
-sub-turns c =
-    let t = c .before .before .before .before .before .before .before .before .before .before in
-    let l = t .before .before .loop in
-    omega (arith, ltb-true 0 (l .turns) (and-eq-true-iff (l .s .go) (ltb 0 (l .turns)) .0 (t .if1 .taken) .1))
+sub-turns c = omega (arith, some-left (entered (c .before .before .before .before .before .before)))
 
 loop-less : tie.Need-loop-less Inv-loop μ-loop
-loop-less c =
-    let t = c .before .before .before .before .before .before .before .before .before .before in
-    let l = t .before .before .loop in
-    omega (arith, ltb-true 0 (l .turns) (and-eq-true-iff (l .s .go) (ltb 0 (l .turns)) .0 (t .if1 .taken) .1))
+loop-less c = omega (arith, some-left (entered (c .before .before .before .before .before .before)))
 
 loop-again : tie.Need-loop-again Inv-loop μ-loop
 loop-again c =
     let o = c .before .before .before .before .before .before in
-    let l = o .before .before .before .before .before .before in
+    let l = head (entered o) in
     record {
       left = o .one-read .ensures;
       input = o .one-read .kept .1 .0 ∙ l .loop .inv .input;

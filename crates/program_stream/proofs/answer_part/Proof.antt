@@ -7,6 +7,12 @@ use borrow.Author.Needs.{needs}
 use Rattle.program_stream.proofs.answer_part.Statement.{statement}
 use Rattle.program_stream.proofs.answer_part.Tie as tie
 
+abbrev known : tie.After-answer-line → tie.After-slice-known2
+known l = l .before .before .before .before
+
+abbrev start : tie.After-slice-known2 → tie.Start
+start k = k .before .before .before
+
 sub-answer-line : tie.Need-sub-answer-line
 sub-answer-line c = search needs
 
@@ -39,9 +45,10 @@ same-length-2 c = search needs
 
 returns : tie.Need-returns
 returns c =
-    let s = c .before .before .before .before .before .before .before .before .before .before .before in
+    let l = c .before .before .before .before in
+    let s = start (known l) in
     let a = s .args in
-    let p = c .before .before .before .before .answer-line in
+    let p = l .answer-line in
     let room : p .result ≤ length (p .last .1 .1 .1 .0) = omega (arith, p .ensures .text .room, simp (length-take, length-drop) at (p .kept .1 .1 .1 .0), s) in (
       omega (arith, p .ensures .text .room),
       (p .ensures .table, part-written (a .out .now) (p .last .1 .1 .1 .0) _ _ (a .made) (p .result) (omega (arith, s)) room (p .ensures .text .is)),

@@ -30,9 +30,10 @@ same-length-2 c = search needs
 
 returns-3 : tie.Need-returns-3
 returns-3 c =
-    let e = c .before .before .before .before .before .before .before in
+    let l = c .before .before .before .before in
+    let p = l .answer-line in
+    let e = l .before .before .before in
     let a = e .before .before .before .before .before .args in
-    let p = c .before .before .before .before .answer-line in
     let some : 0 < length (a .input .now) = omega (arith, e .if2 .left) in
     record {
       room = p .ensures .text .room;

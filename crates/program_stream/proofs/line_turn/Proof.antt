@@ -7,6 +7,12 @@ use borrow.Author.Needs.{needs}
 use Rattle.program_stream.proofs.line_turn.Statement.{statement}
 use Rattle.program_stream.proofs.line_turn.Tie as tie
 
+abbrev start : tie.Else1 → tie.Start
+start t = t .before .before .before .before
+
+abbrev unskipped : tie.After-answer-part → tie.Else1
+unskipped p = p .before .before .before
+
 add-t11 : tie.Need-add-t11
 add-t11 c =
     let s = c .before .before .before .before in
@@ -26,7 +32,7 @@ answer-part-requires c κs =
 
 add-t16 : tie.Need-add-t16
 add-t16 c =
-    let s = c .before .before .before .before .before .before .before .before .before .before .before in
+    let s = start (unskipped (c .before .before .before .before)) in
     omega (arith, span-line _ _ _ (s .pre .0 .1))
 
 same-length : tie.Need-same-length
@@ -38,8 +44,8 @@ same-length-2 c = search needs
 returns-2 : tie.Need-returns-2
 returns-2 c =
     let p = c .before .before .before .before in
-    let t = p .before .before .before in
-    let s = t .before .before .before .before in
+    let t = unskipped p in
+    let s = start t in
     let a = s .args in
     let e = p .answer-part .ensures in
     turned-line (a .input .now) (a .at) (a .skip) (a .t .now) (a .out .now) (a .made) (s .pre .0 .0) (a .e) (s .pre .0 .1)

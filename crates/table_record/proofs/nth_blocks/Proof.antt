@@ -22,6 +22,12 @@ Inv-loop t g n first m₀ q₀ b m q =
 abbrev μ-loop : tie.MeasureT-loop
 μ-loop t g n first m₀ q₀ b m q = g .nob - q
 
+abbrev head : tie.After-overflow-run Inv-loop μ-loop → tie.At-loop Inv-loop μ-loop
+head r = r .before .before .before .before
+
+abbrev run : tie.After-step-of Inv-loop μ-loop → tie.After-overflow-run Inv-loop μ-loop
+run w = w .before .before
+
 here : (k : tie.At-loop Inv-loop μ-loop) → let a = k .before .before .args in
     OneStep (a .g) (decode (a .g) (now (a .t)) .overflow) (a .g .nob - k .loop .q) (k .loop .b .0)
 here k = one-step _ _ _ _ (k .loop .inv .1)
@@ -42,7 +48,7 @@ overflow-run-requires c κs =
 nth-of-requires : tie.Need-nth-of-requires Inv-loop μ-loop
 nth-of-requires c κs =
     let r = c .before in
-    let k = r .before .before .before .before in
+    let k = head r in
     let a = k .before .before in (
       a .pre .0 .proper,
       rw (r .overflow-run .ensures) (overflow-run-within (a .args .g) (now (a .args .t)) (a .pre .0) (k .loop .b .0) (r .before .overflow-front .result .counter) (here k .low)),
@@ -51,7 +57,7 @@ nth-of-requires c κs =
 returns : tie.Need-returns Inv-loop μ-loop
 returns c =
     let r = c .before .before in
-    let k = r .before .before .before .before in
+    let k = head r in
     let a = k .before .before in (
       c .nth-of .ensures .0
           ∙ nth-in-block (a .args .g) (now (a .args .t)) (a .pre .0) (a .args .g .nob - k .loop .q) (k .loop .b .0) (r .before .overflow-front .result .counter) (r .overflow-run .result)
@@ -71,7 +77,7 @@ returns-2 c =
     let w = c .before in
     let e = w .before in
     let r = e .before in
-    let k = r .before .before .before .before in
+    let k = head r in
     let a = k .before .before in
     let other = told-other _ _ _ _ (w .step-of .ensures) (λ e z. omega (arith, rw e at z)) (λ e z. omega (arith, rw e at z)) (c .match .keys2) in
     let last : r .before .overflow-front .result .counter < a .args .g .sio = omega (arith, r .before .overflow-front .ensures .0, here k .count, other) in (
@@ -82,17 +88,17 @@ returns-2 c =
     )
 
 add-q : tie.Need-add-q Inv-loop μ-loop
-add-q c = let k = c .before .before .before .before .before .before .before .before .before in omega (arith, k .loop .inv .0, k .before .before .pre .0 .proper .nob-high)
+add-q c = let k = head (run (c .before .before .before)) in omega (arith, k .loop .inv .0, k .before .before .pre .0 .proper .nob-high)
 
 loop-less : tie.Need-loop-less Inv-loop μ-loop
-loop-less c = let k = c .before .before .before .before .before .before .before .before .before in omega (arith, k .loop .inv .0, here k .fuel)
+loop-less c = let k = head (run (c .before .before .before)) in omega (arith, k .loop .inv .0, here k .fuel)
 
 loop-again : tie.Need-loop-again Inv-loop μ-loop
 loop-again c =
     let w = c .before .before .before in
     let e = w .before in
     let r = e .before in
-    let k = r .before .before .before .before in
+    let k = head r in
     let a = k .before .before in
     let g = a .args .g in
     let t = now (a .args .t) in

@@ -16,6 +16,12 @@ Inv-loop line at n label₀ i₀ label i = Read line at i label
 abbrev μ-loop : tie.MeasureT-loop
 μ-loop line at n label₀ i₀ label i = length line - i
 
+abbrev start : tie.At-loop Inv-loop μ-loop → tie.Start Inv-loop μ-loop
+start k = k .before .before .before .before .before
+
+abbrev head : tie.Else3 Inv-loop μ-loop → tie.At-loop Inv-loop μ-loop
+head c = c .before .before .before .before
+
 returns : tie.Need-returns Inv-loop μ-loop
 returns c = let k = c .before .before .args in none-number _ (label-past (k .line .now) (k .at) (omega arith))
 
@@ -47,13 +53,13 @@ returns-3 c =
 
 -- behind the test the byte is a digit, and the digits before it are two at most
 digit-at : (c : tie.Else3 Inv-loop μ-loop)
-    → isDigit (getD (c .before .before .before .before .before .before .before .before .before .args .line .now) (c .before .before .before .before .loop .i) 0) ≡ true
+    → isDigit (getD (start (head c) .args .line .now) (head c .loop .i) 0) ≡ true
 digit-at c = sym (c .before .is-digit .ensures) ∙ not-false _ (c .if3 .left)
 
-small-at : (c : tie.Else3 Inv-loop μ-loop) → c .before .before .before .before .loop .label < 100
+small-at : (c : tie.Else3 Inv-loop μ-loop) → head c .loop .label < 100
 small-at c =
     let t = c .before .before .before in
-    read-small _ _ _ _ (t .before .loop .inv) (t .loop-test .taken) (t .before .before .before .before .before .before .pre .1)
+    read-small _ _ _ _ (t .before .loop .inv) (t .loop-test .taken) (start (head c) .pre .1)
 
 mul-label : tie.Need-mul-label Inv-loop μ-loop
 mul-label c = omega (arith, small-at c)

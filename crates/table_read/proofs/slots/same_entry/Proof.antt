@@ -41,8 +41,8 @@ restored-requires-3 c κs = search needs
 
 returns-3 : tie.Need-returns-3
 returns-3 c =
-    let s = c .before .before .before .before .before .before .before in
     let d = c .before .before in
+    let s = d .before .before .before .before .before in
     ap (λ (x : ℕ). eqb x (s .args .entry .high)) (c .before .restored3 .ensures)
     ∙ entry-halves (restoredBytes (now (s .args .t)) (s .args .b)) (s .args .at) (s .args .n) (s .args .entry) (omega arith) (omega (arith, d .before .struct-known2 .given))
     (sym (d .before .before .restored2 .ensures) ∙ d .if2 .left)

@@ -15,6 +15,9 @@ use borrow.Author.Needs.{needs}
 use Rattle.table_read.proofs.slots.scan_displaced.Statement.{statement}
 use Rattle.table_read.proofs.slots.scan_displaced.Tie as tie
 
+abbrev start : tie.Else2 → tie.Start
+start d = d .before .before .before .before .before
+
 -- no displaced bit is in the slots behind slot 0
 plain : (s : tie.Start) → s .args .b .displaced < s .args .bie → (k : ℕ) → 0 < k → k < s .args .b .count
     → field (restoredBytes (now (s .args .t)) (s .args .b)) (s .args .b .start + k * s .args .slot) (s .args .bie)
@@ -74,7 +77,7 @@ sub-t15 c = search needs
 scan-requires : tie.Need-scan-requires
 unfolding keyNumber
 scan-requires c κs =
-    let s = c .before .before .before .before .before .before .before in (
+    let s = start (c .before .before) in (
       behind (now (s .args .t)) (s .args .b .start) (s .args .slot) (s .args .bie) (s .args .b .count) (s .pre .0 .0) (s .pre .0 .1),
       omega arith,
       s .pre .0 .2,
@@ -88,7 +91,7 @@ unfolding keyNumber
 returns-3 c =
     let k = c .before in
     let d = k .before .before .before in
-    let s = d .before .before .before .before .before in
+    let s = start d in
     found-behind (now (s .args .t)) _ (s .args .b .start) (s .args .slot) (s .args .bie) _ (s .args .b .count) (k .scan .result .0)
     (eqb-false _ _ (sym (d .before .first-holds .ensures) ∙ d .if2 .left)) (s .pre .0 .1) (plain s (omega (arith, d .before .before .if1 .left))) (k .scan .ensures)
 

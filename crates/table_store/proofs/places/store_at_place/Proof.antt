@@ -56,14 +56,16 @@ same-length c = search needs
 returns : tie.Need-returns
 unfolding keyNumber slotPut
 returns c =
-    let k = c .before .before .before .before .before .before .before .before in
+    let e = c .before .before .before .before .before in
+    let h = e .before .before in
+    let k = h .before in
     let b = k .before .before in
     let s = b .before in
     let a = s .args in
     let F = s .pre .0 .proper in
     stored-plain (a .g) (now (a .t)) (s .pre .0) (a .i .0) (a .h .0) (a .l .0) (a .p) (k .place-at .result) (s .pre .1) (k .place-at .ensures) _
     (slot-lt (a .g) F _ _ (s .pre .2)) (λ j. omega (arith, b .slice-known .given j))
-    (omega (arith, c .before .before .before .before .before .if1 .taken, c .before .before .before .before .before .before .before .basic-slots .ensures)) _
+    (omega (arith, e .if1 .taken, h .basic-slots .ensures)) _
     (slot-put (a .g) F _ _ _ _ (c .before .before .put-slot .ensures))
 
 overflow-link-requires : tie.Need-overflow-link-requires
@@ -73,11 +75,11 @@ displaced-run-requires : tie.Need-displaced-run-requires
 displaced-run-requires c κs = search needs
 
 -- the slots of the basic block, whose first bits count as the link of block l
-start-is : (c : tie.After-displaced-run) → let a = c .before .before .before .before .before .before .before .before .before .args in c .displaced-run .result .start ≡ basicSlots (a .g) (a .i .0)
+start-is : (c : tie.After-displaced-run) → let b = c .before .before .before .before .before in let a = b .before .before .before .before .args in c .displaced-run .result .start ≡ basicSlots (a .g) (a .i .0)
 unfolding displacedRun
 start-is c = ap (λ (b : Slots). b .start) (c .displaced-run .ensures)
 
-displaced-is : (c : tie.After-displaced-run) → c .displaced-run .result .displaced ≡ c .before .before .before .before .before .before .before .before .before .args .g .link
+displaced-is : (c : tie.After-displaced-run) → let b = c .before .before .before .before .before in c .displaced-run .result .displaced ≡ b .before .before .before .before .args .g .link
 unfolding displacedRun
 displaced-is c = ap (λ (b : Slots). b .displaced) (c .displaced-run .ensures)
 
@@ -85,9 +87,10 @@ value-is : (c : tie.After-displaced-run) → c .displaced-run .result .value ≡
 unfolding displacedRun
 value-is c = ap (λ (b : Slots). b .value) (c .displaced-run .ensures)
 
-old-fits : (c : tie.After-overflow-link) → c .overflow-link .result < 2 ^ c .before .before .before .before .before .before .before .before .args .g .link
+old-fits : (c : tie.After-overflow-link) → let b = c .before .before .before .before in c .overflow-link .result < 2 ^ b .before .before .before .before .args .g .link
 old-fits c =
-    let s = c .before .before .before .before .before .before .before .before in
+    let b = c .before .before .before .before in
+    let s = b .before .before .before .before in
     rw (c .overflow-link .ensures) (link-lt (s .args .g) (now (s .args .t)) (s .pre .0) (s .args .l .0) (s .pre .1 .last))
 
 store-over-displaced-requires : tie.Need-store-over-displaced-requires
@@ -105,7 +108,8 @@ put-overflow-link-requires : tie.Need-put-overflow-link-requires
 put-overflow-link-requires c κs =
     let v = c .before .before .before in
     let d = v .before .before in
-    let s = d .before .before .before .before .before .before .before .before .before in
+    let b = d .before .before .before .before .before in
+    let s = b .before .before .before .before in
     let new : v .store-over-displaced .result < 2 ^ s .args .g .link = rw (v .store-over-displaced .ensures .head, displaced-is d) (field-lt _ _ _) in
     let old = old-fits (d .before) in
     (table-kept _ (v .store-over-displaced .kept .0) (s .pre .0), s .pre .1 .last, omega arith)

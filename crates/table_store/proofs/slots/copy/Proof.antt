@@ -24,8 +24,9 @@ same-length c = search needs
 
 returns : tie.Need-returns
 returns c =
-    let a = c .before .before .before .before .before .before .before .before .args in
-    c .before .before .put-wide .ensures ∙ ap (putField (now (a .t)) (a .to) (a .n)) (zero-add _ ∙ c .before .before .before .before .get .ensures)
+    let k = c .before .before .before .before in
+    let a = k .before .before .before .before .args in
+    c .before .before .put-wide .ensures ∙ ap (putField (now (a .t)) (a .to) (a .n)) (zero-add _ ∙ k .get .ensures)
 
 sub-get : tie.Need-sub-get
 sub-get c = search needs
@@ -42,10 +43,12 @@ add-get c = search needs
 get-requires-3 : tie.Need-get-requires-3
 get-requires-3 c κs = search needs
 
-both : (c : tie.After-get3) → c .before .before .get2 .result * 2 ^ 64 + c .get3 .result ≡ field (now (c .before .before .before .before .before .before .before .args .t)) (c .before .before .before .before .before .before .before .args .from) (c .before .before .before .before .before .before .before .args .n)
+both : (c : tie.After-get3) → let k = c .before .before in let a = k .before .before .before .before .before .args in
+    k .get2 .result * 2 ^ 64 + c .get3 .result ≡ field (now (a .t)) (a .from) (a .n)
 both c =
-    let a = c .before .before .before .before .before .before .before .args in
-    field-parts (now (a .t)) (a .from) (a .n - 64) 64 (a .n) _ _ (omega arith) (c .before .before .get2 .ensures) (c .get3 .ensures)
+    let k = c .before .before in
+    let a = k .before .before .before .before .before .args in
+    field-parts (now (a .t)) (a .from) (a .n - 64) 64 (a .n) _ _ (omega arith) (k .get2 .ensures) (c .get3 .ensures)
 
 put-wide-requires-2 : tie.Need-put-wide-requires-2
 put-wide-requires-2 c κs = (omega arith, omega arith, omega arith, rw (both (c .before)) (field-lt _ _ _))
@@ -56,7 +59,8 @@ same-length-2 c = search needs
 returns-2 : tie.Need-returns-2
 returns-2 c =
     let k = c .before .before .before .before in
-    let a = k .before .before .before .before .before .before .before .args in
+    let m = k .before .before in
+    let a = m .before .before .before .before .before .args in
     c .before .before .put-wide2 .ensures ∙ ap (putField (now (a .t)) (a .to) (a .n)) (both k)
 
 get-requires-4 : tie.Need-get-requires-4
@@ -83,17 +87,20 @@ add-put-wide c = search needs
 sub-put-wide : tie.Need-sub-put-wide
 sub-put-wide c = search needs
 
-first : (c : tie.After-get5) → c .before .before .get4 .result * 2 ^ 64 + c .get5 .result ≡ field (now (c .before .before .before .before .before .before .before .args .t)) (c .before .before .before .before .before .before .before .args .from) 128
+first : (c : tie.After-get5) → let k = c .before .before in let a = k .before .before .before .before .before .args in
+    k .get4 .result * 2 ^ 64 + c .get5 .result ≡ field (now (a .t)) (a .from) 128
 first c =
-    let a = c .before .before .before .before .before .before .before .args in
-    field-parts (now (a .t)) (a .from) 64 64 128 _ _ refl (c .before .before .get4 .ensures) (c .get5 .ensures)
+    let k = c .before .before in
+    let a = k .before .before .before .before .before .args in
+    field-parts (now (a .t)) (a .from) 64 64 128 _ _ refl (k .get4 .ensures) (c .get5 .ensures)
 
 put-wide-requires-3 : tie.Need-put-wide-requires-3
 put-wide-requires-3 c κs = (omega arith, omega arith, omega arith, rw (zero-add, c .before .get6 .ensures) (field-lt _ _ _))
 
 put-wide-requires-4 : tie.Need-put-wide-requires-4
 put-wide-requires-4 c κs =
-    let k = c .before .before .before .before .before .before .before in
+    let m = c .before .before .before .before .before in
+    let k = m .before .before in
     (omega arith, omega arith, omega arith, rw (first k) (field-lt _ _ _))
 
 same-length-3 : tie.Need-same-length-3
@@ -101,14 +108,16 @@ same-length-3 c = search needs
 
 returns-3 : tie.Need-returns-3
 returns-3 c =
-    let k = c .before .before .before .before .before .before .before .before .before .before in
+    let w = c .before .before .before .before .before .before in
+    let m = w .before .before in
+    let k = m .before .before in
     let s = k .before .before .before .before .before .before in
     let a = s .before .args in
-    let r = c .before .before .before .before .before .before .before .before .get6 in
+    let r = m .get6 in
     put-back (now (a .t)) _ _ (a .to) 128 (a .to + 128) (a .n - 128) (a .n) _ _ _ (λ j. omega (arith, s .slice-known .given j)) (omega arith) refl (omega arith)
     (rw (zero-add, r .ensures) (field-lt _ _ _))
     (sym (ap₂ (λ (x y : ℕ). x * 2 ^ (a .n - 128) + y) (first k) (zero-add _ ∙ r .ensures) ∙ field-two (now (a .t)) (a .from) 128 (a .from + 128) (a .n - 128) (a .from) (a .n) refl refl (omega arith)))
-    (c .before .before .before .before .before .before .put-wide3 .ensures) (c .before .before .put-wide4 .ensures)
+    (w .put-wide3 .ensures) (c .before .before .put-wide4 .ensures)
 
 pub copy-spec : {M : Type 1} → statement M
 copy-spec =

@@ -49,13 +49,14 @@ same-length c = search needs
 
 returns-2 : tie.Need-returns-2
 returns-2 c =
-    let p = c .before .before .before .before .before .before .before in
+    let e = c .before .before .before .before .before in
+    let p = e .before .before in
     let s = p .before .before .before in
     let k = s .args .key in
     let b = s .args .out .now in
     let t = written (k .high) (k .low) in
     let n = p .put-text .result in
-    let f = fits k b (omega (arith, size p, c .before .before .before .before .before .if1 .left)) in (
+    let f = fits k b (omega (arith, size p, e .if1 .left)) in (
       ap answer.Length (size p) ∙ f .0,
       c .before .before .copy .ensures ∙ ap (λ (x : List ℕ). x ++ drop n b) (put p) ∙ ap (λ (m : ℕ). t ++ drop m b) (size p) ∙ f .1,
     )

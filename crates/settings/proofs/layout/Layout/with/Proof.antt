@@ -11,8 +11,11 @@ use Rattle.settings.specs.declared.settings.Settings.{Settings}
 use Rattle.settings.proofs.layout.Layout.with.Statement.{statement}
 use Rattle.settings.proofs.layout.Layout.with.Tie as tie
 
+abbrev first : tie.After-lists-of → tie.After-wide
+first c = c .before .before .before .before .before
+
 abbrev start : tie.After-lists-of → tie.Start
-start c = c .before .before .before .before .before .before .before
+start c = first c .before .before
 
 sub-wide : tie.Need-sub-wide
 sub-wide c = search needs
@@ -100,7 +103,7 @@ returns c =
     let p = b .before .before in
     let pre = start p .pre in
     laid _ _ _ _ _ _ _ _ _ _ _ _ _ _ _
-    (p .before .before .before .before .before .wide .ensures)
+    (first p .wide .ensures)
     (p .before .before .before .before .wide2 .ensures)
     (p .before .before .before .wide3 .ensures)
     (p .before .before .wide4 .ensures)
