@@ -22,7 +22,7 @@ use Rattle.keys.specs.declared.Key.{Key}
 use Rattle.settings.specs.declared.layout.Layout.{Layout}
 use Rattle.table.specs.Arrays.{tabulate, unpacked}
 use Rattle.table.specs.State.{Basic, Overflow, basicAt, overflowAt, restBits, unpack, ownSlots, entryOf, labelOf}
-use Rattle.table.specs.Decode.{basicSlots, linkAt, overflowSlots, readBasic, readOverflow, decode}
+use Rattle.table.specs.Decode.{blockAt, basicSlots, linkAt, overflowSlots, readBasic, readOverflow, decode}
 use Rattle.table.specs.Table.{Table}
 use Rattle.table_read.specs.Steps.{restoredBytes, FieldWithin, SlotsWithin, slotsIn, basicRun, displacedRun, overflowRun}
 use Rattle.table.specs.theory.Arrays.{length-tab, getD-tab, tab-ext}
@@ -239,6 +239,23 @@ module _ (g : Layout) (t : List ℕ) (T : Table g t) where
         fits = omega arith;
         few = omega (arith, F .sio-high);
       }
+
+  -- the fields of a block are those of the decoded state
+  pub basic-counter-field : (i : ℕ) → i < g .lists → field t (blockAt (g .basic) i) (g .basic .counter) ≡ basicAt (decode g t .basic) i .counter
+  unfolding readBasic
+  basic-counter-field i h = sym (ap (λ (b : Basic). b .counter) (at-basic g (T .proper) t i h))
+
+  pub head-field : (i : ℕ) → i < g .lists → field t (blockAt (g .basic) i + g .basic .counter) (g .link) ≡ basicAt (decode g t .basic) i .head
+  unfolding basicSlots readBasic
+  head-field i h = sym (ap (λ (b : Basic). b .head) (at-basic g (T .proper) t i h))
+
+  pub overflow-counter-field : (j : ℕ) → j < g .nob → field t (blockAt (g .overflow) j) (g .overflow .counter) ≡ overflowAt (decode g t .overflow) j .counter
+  unfolding readOverflow
+  overflow-counter-field j h = sym (ap (λ (o : Overflow). o .counter) (at-over g (T .proper) t j h))
+
+  pub link-field : (j : ℕ) → j < g .nob → field t (blockAt (g .overflow) j + g .overflow .counter) (g .link) ≡ overflowAt (decode g t .overflow) j .link
+  unfolding linkAt readOverflow
+  link-field j h = sym (ap (λ (o : Overflow). o .link) (at-over g (T .proper) t j h))
 
   -- what stands in a field fits it
   pub head-lt : (i : ℕ) → i < g .lists → basicAt (decode g t .basic) i .head < 2 ^ g .link
