@@ -17,8 +17,9 @@ ghost use Rattle.table.specs.State.{labelOf};
 ghost use Rattle.table_read.specs.Steps.{restoredBytes, FieldWithin, First, SlotsWithin, slotsIn};
 ghost use Rattle.table_read.specs.Rows.{Row};
 
-// Slots of a block: where the first begins, how many they are, and what their first `displaced` bits count
-// as. In a basic block that overflows those bits stand in the list's last link; elsewhere `displaced` is 0.
+// Slots of a block: where the first begins, how many they are, how many of their first bits are displaced,
+// and the value that these count as. In a basic block that overflows it stands in the list's last link;
+// elsewhere `displaced` is 0.
 pub struct Slots {
     pub start: usize,
     pub count: usize,

@@ -40,6 +40,9 @@ to-t c = c .before .before
 abbrev to-t-2 : tie.After-added → tie.After-t
 to-t-2 c = c .before .before .before .before .before .before
 
+abbrev to-number-3 : tie.After-t → tie.After-number
+to-number-3 c = to-number-2 (to-basic-head-2 (to-put-basic-front c))
+
 took : (c : tie.After-number) → let s = c .before .before .before .before .before in Takes (s .args .g) (decode (s .args .g) (now (s .args .t))) (c .number .given .0 .0 .0) (c .number .given .0 .1 .0 .0)
 took c = takes _ _ _ _ (sym (c .before .before .first-free .ensures) ∙ c .number .given .1)
 
@@ -63,8 +66,8 @@ put-basic-front-requires c κs =
 
 take-requires : tie.Need-take-requires
 take-requires c κs =
-    let s = to-start (to-slice-known (to-number-2 (to-basic-head-2 (to-put-basic-front (to-t c))))) in
-    let k = took (to-number-2 (to-basic-head-2 (to-put-basic-front (to-t c)))) in (
+    let s = to-start (to-slice-known (to-number-3 (to-t c))) in
+    let k = took (to-number-3 (to-t c)) in (
       c .before .before .before .put-basic-front .ensures .table,
       k .low,
       rw (c .before .before .before .before .before .before .basic-head .ensures) (head-lt (s .args .g) (now (s .args .t)) (s .pre .0 .table) (s .args .i .0) (s .pre .0 .list)),
@@ -83,14 +86,14 @@ same-length c = search needs
 
 returns : tie.Need-returns
 returns c =
-    let s = to-start (to-slice-known (to-number-2 (to-basic-head-2 (to-put-basic-front (to-t-2 c))))) in
-    let a = to-slice-known (to-number-2 (to-basic-head-2 (to-put-basic-front (to-t-2 c)))) in
+    let s = to-start (to-slice-known (to-number-3 (to-t-2 c))) in
+    let a = to-slice-known (to-number-3 (to-t-2 c)) in
     let g = s .args .g in
     let T = s .pre .0 .table in
     let v = s .args .v in
     append-first g (now (s .args .t)) T (λ j. omega (arith, a .slice-known .given j)) (s .args .i .0) v (s .pre .0 .list)
     (slot-lt g (T .proper) (keyNumber (v .entry)) (v .label) (s .pre .0 .slotted)) (s .pre .1) _ _ _
-    (took (to-number-2 (to-basic-head-2 (to-put-basic-front (to-t-2 c)))))
+    (took (to-number-3 (to-t-2 c)))
     ((to-basic-head-2 (to-put-basic-front (to-t-2 c))) .basic-head .ensures) _ _ _
     ((to-put-basic-front (to-t-2 c)) .put-basic-front .ensures)
     (c .before .before .before .take .ensures)

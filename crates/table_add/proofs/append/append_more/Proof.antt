@@ -44,6 +44,9 @@ to-t c = c .before .before
 abbrev to-t-2 : tie.After-added → tie.After-t
 to-t-2 c = c .before .before .before .before .before .before
 
+abbrev to-number-3 : tie.After-t → tie.After-number
+to-number-3 c = to-number-2 (to-list-has-block (to-else1 (to-overflow-link (to-put-overflow-front c))))
+
 took : (c : tie.After-number) → let s = c .before .before .before .before .before in Takes (s .args .g) (decode (s .args .g) (now (s .args .t))) (c .number .given .0 .0 .0) (c .number .given .0 .1 .0 .0)
 took c = takes _ _ _ _ (sym (c .before .before .first-free .ensures) ∙ c .number .given .1)
 
@@ -86,8 +89,8 @@ put-overflow-front-requires c κs =
 
 take-requires : tie.Need-take-requires
 take-requires c κs =
-    let s = to-start (to-slice-known (to-number-2 (to-list-has-block (to-else1 (to-overflow-link (to-put-overflow-front (to-t c))))))) in
-    let k = took (to-number-2 (to-list-has-block (to-else1 (to-overflow-link (to-put-overflow-front (to-t c)))))) in (
+    let s = to-start (to-slice-known (to-number-3 (to-t c))) in
+    let k = took (to-number-3 (to-t c)) in (
       c .before .before .before .put-overflow-front .ensures .table,
       k .low,
       rw (c .before .before .before .before .before .overflow-link .ensures) (link-lt (s .args .g) (now (s .args .t)) (s .pre .0 .table) (s .args .j .0) (s .pre .1 .low)),
@@ -106,14 +109,14 @@ same-length-2 c = search needs
 
 returns-2 : tie.Need-returns-2
 returns-2 c =
-    let s = to-start (to-slice-known (to-number-2 (to-list-has-block (to-else1 (to-overflow-link (to-put-overflow-front (to-t-2 c))))))) in
-    let a = to-slice-known (to-number-2 (to-list-has-block (to-else1 (to-overflow-link (to-put-overflow-front (to-t-2 c)))))) in
+    let s = to-start (to-slice-known (to-number-3 (to-t-2 c))) in
+    let a = to-slice-known (to-number-3 (to-t-2 c)) in
     let g = s .args .g in
     let T = s .pre .0 .table in
     let v = s .args .v in
     append-more g (now (s .args .t)) T (λ j. omega (arith, a .slice-known .given j)) (s .args .i .0) v (s .pre .0 .list)
     (slot-lt g (T .proper) (keyNumber (v .entry)) (v .label) (s .pre .0 .slotted)) (s .args .h .0) (s .args .j .0) (s .pre .1) (s .pre .2) _ _ _
-    (took (to-number-2 (to-list-has-block (to-else1 (to-overflow-link (to-put-overflow-front (to-t-2 c)))))))
+    (took (to-number-3 (to-t-2 c)))
     (sym ((to-else1 (to-overflow-link (to-put-overflow-front (to-t-2 c)))) .if1 .left) ∙ (to-list-has-block (to-else1 (to-overflow-link (to-put-overflow-front (to-t-2 c))))) .list-has-block .ensures)
     ((to-overflow-link (to-put-overflow-front (to-t-2 c))) .overflow-link .ensures) _ _ _
     ((to-put-overflow-front (to-t-2 c)) .put-overflow-front .ensures)
