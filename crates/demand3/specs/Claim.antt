@@ -8,53 +8,39 @@ use Rattle.settings.specs.declared.settings.Settings.{Settings}
 use Rattle.keys.specs.declared.Key.{Key}
 use Rattle.keys.specs.Key.{keyNumber}
 use Rattle.table.specs.Rebuilt.{Pair}
-use Rattle.plain_set.specs.Set.{Call, Answer, Step, setStep}
+use Rattle.plain_set.specs.Set.{Call, call, Step, setStep}
 use Rattle.plain_set.specs.Set as set
 use Rattle.plain_set.specs.Holds.{Holds}
-use Rattle.plain_set.specs.Plain.{plainFind, plainAdd, plainDelete}
-use Rattle.table.specs.Calls.{findAnswer, addAnswer, addBytes, deleteAnswer, deleteBytes}
+use Rattle.plain_set.specs.Plain.{plain}
+use Rattle.settings.specs.Reply.{Reply, answering}
+use Rattle.table.specs.Calls.{Verb, keyCall}
+use Rattle.table.specs.declared.answers.Answer as table
 use Rattle.text_read.specs.Answers.{readingOf}
 use Rattle.text_read.specs.declared.Parsed.{Parsed}
 use Rattle.text_read.specs.declared.Parsed.the-variants as parsed
-use Rattle.text_calls.specs.TextCalls.{findTextAnswer, addTextAnswer, addTextBytes, deleteTextAnswer, deleteTextBytes}
+use Rattle.text_calls.specs.TextCalls.{textCall}
 
 -- A call as the router makes it: with a key or a text, whatever it is, and any label -----------------------------------------
 
 pub data Asked : Type 0 where
-  find : Key → Asked
-  add : Key → ℕ → Asked
-  delete : Key → Asked
-  findText : List ℕ → Asked
-  addText : List ℕ → ℕ → Asked
-  deleteText : List ℕ → Asked
+  byKey : Verb → Key → Asked
+  byText : Verb → List ℕ → Asked
 
 -- a call, and how many of the table's bytes it is lent
 pub record Lending : Type 0 where
   pub call : Asked
   pub lent : ℕ
 
--- What the table does: the answers and bytes that the contracts of the calls cite --------------------------------------------
+-- What the table does: the answer and the bytes that the contracts of the calls cite ----------------------------------------
 
 module _ (s : Settings) where
-  unfoldable pub tableAnswer : List ℕ → Asked → Answer
-  tableAnswer t (find k) = plainFind (findAnswer s t k)
-  tableAnswer t (add k label) = plainAdd (addAnswer s t k label)
-  tableAnswer t (delete k) = plainDelete (deleteAnswer s t k)
-  tableAnswer t (findText x) = plainFind (findTextAnswer s t x)
-  tableAnswer t (addText x label) = plainAdd (addTextAnswer s t x label)
-  tableAnswer t (deleteText x) = plainDelete (deleteTextAnswer s t x)
-
-  unfoldable pub tableBytesAfter : List ℕ → Asked → List ℕ
-  tableBytesAfter t (find k) = t
-  tableBytesAfter t (add k label) = addBytes s t k label
-  tableBytesAfter t (delete k) = deleteBytes s t k
-  tableBytesAfter t (findText x) = t
-  tableBytesAfter t (addText x label) = addTextBytes s t x label
-  tableBytesAfter t (deleteText x) = deleteTextBytes s t x
+  abbrev pub tableCall : List ℕ → Asked → Reply table.Answer
+  tableCall t (byKey v k) = keyCall s t v k
+  tableCall t (byText v x) = answering (λ a. a .answer) (textCall s t v x)
 
   -- the memory after a call that was lent its first bytes
   abbrev pub memoryAfter : List ℕ → Lending → List ℕ
-  memoryAfter t c = tableBytesAfter (take (c .lent) t) (c .call) ++ drop (c .lent) t
+  memoryAfter t c = tableCall (take (c .lent) t) (c .call) .bytes ++ drop (c .lent) t
 
 -- What the set is given: "A text is given as the key that demand 2 reads from it, or as not legal." --------------------------
 
@@ -63,12 +49,8 @@ asRead (parsed.Key k) = some (keyNumber k)
 asRead (parsed.Refused why) = none
 
 abbrev pub given : Asked → Call
-given (find k) = set.find (set.key (keyNumber k))
-given (add k label) = set.add (set.key (keyNumber k)) label
-given (delete k) = set.delete (set.key (keyNumber k))
-given (findText x) = set.find (set.text (asRead (readingOf x)))
-given (addText x label) = set.add (set.text (asRead (readingOf x))) label
-given (deleteText x) = set.delete (set.text (asRead (readingOf x)))
+given (byKey v k) = call v (set.key (keyNumber k))
+given (byText v x) = call v (set.text (asRead (readingOf x)))
 
 -- The claim ------------------------------------------------------------------------------------------------------------------
 
@@ -82,5 +64,5 @@ module _ (s : Settings) where
   Behaves t ps [] = Holds s t ps
   Behaves t ps (c ∷ cs) =
       Holds s t ps
-      × (tableAnswer s (take (c .lent) t) (c .call) ≡ setAfter t ps c .answer)
+      × (plain (tableCall s (take (c .lent) t) (c .call) .answer) ≡ setAfter t ps c .answer)
       × Behaves (memoryAfter s t c) (setAfter t ps c .after) cs

@@ -1,6 +1,5 @@
 -- Its proof.
 pub mod KeySteps
 pub mod Lent
-pub mod TextSteps
 pub mod Demand3
 pub mod Spellings

@@ -2,11 +2,16 @@
 // a read that waits delays no answer.
 use libc::STDIN_FILENO;
 use libc::STDOUT_FILENO;
+use program_answers::TABLE_BYTES;
+use settings::Made;
 ghost use mathlib.Core.Path.{_≡_};
 ghost use mathlib.Core.Bool.{true, false};
 ghost use Prim.Native.Nat.{ℕ, _+_, _≤_, _<_};
 ghost use lib.ListN.{length};
 ghost use Rattle.text_read.specs.ReaderSteps.{Classes};
+ghost use Rattle.program_commands.specs.Command.{longestLine};
+ghost use Rattle.program_answers.specs.Program.{programBytes};
+ghost use Rattle.program_answers.specs.Answer.{answerRoom};
 ghost use Rattle.program_stream.specs.Output.{newTable};
 ghost use Rattle.filter.specs.declared.More.the-variants as more;
 
@@ -54,8 +59,8 @@ fn answer_some(
     t: &mut [u8],
     out: &mut [u8],
 ) -> Left
-    requires { ⌜ Classes (now classes) × (at ≤ length (now input)) × (19617 ≤ length (now t)) × (80 ≤ length (now out)) ⌝ }
-    ensures { λ r. ⌜ (r .at ≤ length (now (input .entry))) × (r .more ≡ true → at < r .at) × (r .more ≡ false → length (now (input .entry)) ≤ r .at + 64) ⌝ }
+    requires { ⌜ Classes (now classes) × (at ≤ length (now input)) × (programBytes ≤ length (now t)) × (answerRoom ≤ length (now out)) ⌝ }
+    ensures { λ r. ⌜ (r .at ≤ length (now (input .entry))) × (r .more ≡ true → at < r .at) × (r .more ≡ false → length (now (input .entry)) ≤ r .at + longestLine) ⌝ }
 {
     let r = program_stream::consume(classes, input, at, skip, t, out);
     let n = r.made;
@@ -70,8 +75,8 @@ fn answer_some(
 
 // The answers to all whole lines of the buffer, written out.
 fn answer_all(classes: &[u8; 256], input: &[u8], skip: bool, t: &mut [u8], out: &mut [u8]) -> Left
-    requires { ⌜ Classes (now classes) × (19617 ≤ length (now t)) × (80 ≤ length (now out)) ⌝ }
-    ensures { λ r. ⌜ (r .at ≤ length (now (input .entry))) × (r .ok ≡ true → length (now (input .entry)) ≤ r .at + 64) ⌝ }
+    requires { ⌜ Classes (now classes) × (programBytes ≤ length (now t)) × (answerRoom ≤ length (now out)) ⌝ }
+    ensures { λ r. ⌜ (r .at ≤ length (now (input .entry))) × (r .ok ≡ true → length (now (input .entry)) ≤ r .at + longestLine) ⌝ }
 {
     let mut r = answer_some(classes, input, 0, skip, t, out);
     while r.more & r.ok {
@@ -125,8 +130,8 @@ const END: Next = Next {
 
 // The end of the input: the answer to a last line that lacks its line feed, written out.
 fn last_line(classes: &[u8; 256], input: &[u8], skip: bool, t: &mut [u8], out: &mut [u8]) -> Next
-    requires { ⌜ Classes (now classes) × (19617 ≤ length (now t)) × (80 ≤ length (now out)) ⌝ }
-    ensures { λ r. ⌜ r .have ≤ 64 ⌝ }
+    requires { ⌜ Classes (now classes) × (programBytes ≤ length (now t)) × (answerRoom ≤ length (now out)) ⌝ }
+    ensures { λ r. ⌜ r .have ≤ longestLine ⌝ }
 {
     let n = program_stream::finish(classes, input, skip, t, out);
     if !write_out(&out[..n]) {
@@ -136,7 +141,7 @@ fn last_line(classes: &[u8; 256], input: &[u8], skip: bool, t: &mut [u8], out: &
 }
 
 // The answers to the whole lines among the first `end` bytes of buf. What follows the last line feed moves to
-// the start: at most 64 bytes, so that there is room for the next read.
+// the start: no more than a line, so that there is room for the next read.
 fn answer_read(
     classes: &[u8; 256],
     buf: &mut [u8],
@@ -145,8 +150,8 @@ fn answer_read(
     t: &mut [u8],
     out: &mut [u8],
 ) -> Next
-    requires { ⌜ Classes (now classes) × (end ≤ length (now buf)) × (19617 ≤ length (now t)) × (80 ≤ length (now out)) ⌝ }
-    ensures { λ r. ⌜ r .have ≤ 64 ⌝ }
+    requires { ⌜ Classes (now classes) × (end ≤ length (now buf)) × (programBytes ≤ length (now t)) × (answerRoom ≤ length (now out)) ⌝ }
+    ensures { λ r. ⌜ r .have ≤ longestLine ⌝ }
 {
     let r = answer_all(classes, &buf[..end], skip, t, out);
     if !r.ok {
@@ -165,8 +170,8 @@ fn answer_read(
 // One read, and what is due because of it. After an error the bytes that are left over may be a part of a line,
 // so they are not answered.
 fn one_read(classes: &[u8; 256], buf: &mut [u8], t: &mut [u8], out: &mut [u8], s: Next) -> Next
-    requires { ⌜ Classes (now classes) × (s .have ≤ 64) × (64 < length (now buf)) × (19617 ≤ length (now t)) × (80 ≤ length (now out)) ⌝ }
-    ensures { λ r. ⌜ r .have ≤ 64 ⌝ }
+    requires { ⌜ Classes (now classes) × (s .have ≤ longestLine) × (longestLine < length (now buf)) × (programBytes ≤ length (now t)) × (answerRoom ≤ length (now out)) ⌝ }
+    ensures { λ r. ⌜ r .have ≤ longestLine ⌝ }
 {
     let have = s.have;
     let skip = s.skip;
@@ -184,7 +189,7 @@ fn one_read(classes: &[u8; 256], buf: &mut [u8], t: &mut [u8], out: &mut [u8], s
 // Reads and answers until the input ends, or until an error, from a new table on. Nothing is promised of what a read
 // gives, so here too a counter shows that the loop ends.
 fn run(classes: &[u8; 256], buf: &mut [u8], t: &mut [u8], out: &mut [u8])
-    requires { ⌜ Classes (now classes) × (64 < length (now buf)) × (19617 ≤ length (now t)) × (80 ≤ length (now out)) × (now t ≡ newTable) ⌝ }
+    requires { ⌜ Classes (now classes) × (longestLine < length (now buf)) × (programBytes ≤ length (now t)) × (answerRoom ≤ length (now out)) × (now t ≡ newTable) ⌝ }
 {
     let mut s = Next {
         have: 0,
@@ -198,12 +203,19 @@ fn run(classes: &[u8; 256], buf: &mut [u8], t: &mut [u8], out: &mut [u8])
     }
 }
 
-// All memory of the run: the class table, the table, for which the settings ask 19617 bytes, and the buffers.
+// The bytes of each of the two buffers.
+const BUFFER_BYTES: usize = 65536;
+
+// All memory of the run: the class table, the table, for which the settings ask TABLE_BYTES, and the buffers.
 fn main() {
+    let Made::Settings(s) = program_answers::settings() else {
+        os::fail(b"settings");
+        return;
+    };
     let classes = text_read::classes();
-    let mut buf = [0u8; 65536];
-    let mut t = [0u8; 19617];
-    let mut out = [0u8; 65536];
-    table_make::make(program_answers::SETTINGS, &mut t);
+    let mut buf = [0u8; BUFFER_BYTES];
+    let mut t = [0u8; TABLE_BYTES];
+    let mut out = [0u8; BUFFER_BYTES];
+    table_make::make(s, &mut t);
     run(&classes, &mut buf, &mut t, &mut out);
 }

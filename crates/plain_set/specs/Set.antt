@@ -1,18 +1,21 @@
 -- Document 01, "The plain set of demand 3". "It is given the settings and each call's arguments, but of the lent table only its length. A text is
 -- given as the key that demand 2 reads from it, or as not legal. It is given nothing of the answers."
-use Prim.Native.Nat.{ℕ, suc, _+_, _-_, _/_, _^_}
-use mathlib.Core.Bool.{Bool, cond, _&&_}
-use mathlib.Core.List.{List, [], _∷_}
+use Prim.Native.Nat.{ℕ, suc, _+_, _-_, _/_}
+use mathlib.Core.Bool.{Bool, true, cond, _&&_}
+use mathlib.Core.List.{List, [], _∷_, _++_}
 use mathlib.Core.Option.{Option, none, some}
-use lib.Dec.{eqb, leb, ltb}
+use lib.Dec.{eqb}
 use Rattle.laws.specs.Folds.{count, sumBelow}
 use Rattle.settings.specs.declared.settings.Settings.{Settings}
 use Rattle.settings.specs.declared.refusal.Refusal.{Refusal}
 use Rattle.settings.specs.declared.refusal.Refusal.the-variants as refusal
-use Rattle.settings.specs.Sizes.{lists, tableBytes}
-use Rattle.settings.specs.Legal.{legal}
+use Rattle.settings.specs.Sizes.{lists}
+use Rattle.settings.specs.Due.{Due, due, unlessDue, settingsDue, shortDue, widthDue, keyDue}
 use Rattle.keys.specs.Key.{listNumber}
 use Rattle.table.specs.Rebuilt.{Pair, pair}
+use Rattle.table.specs.Calls.{Verb, find, add, delete, verbDue}
+use Rattle.table.specs.declared.answers.Word.{Word}
+use Rattle.table.specs.declared.answers.Word.the-variants as word
 
 -- Calls and answers ------------------------------------------------------------------------------------------------------
 
@@ -20,16 +23,21 @@ pub data Given : Type 0 where
   key : ℕ → Given
   text : Option ℕ → Given
 
-pub data Call : Type 0 where
-  find : Given → Call
-  add : Given → ℕ → Call
-  delete : Given → Call
+-- the key; a text that is not legal has none, and is refused
+abbrev pub keyGiven : Given → ℕ
+keyGiven (key k) = k
+keyGiven (text none) = 0
+keyGiven (text (some k)) = k
+
+pub record Call : Type 0 where
+  pub verb : Verb
+  pub given : Given
+
+abbrev pub call : Verb → Given → Call
+call v g = record { verb = v; given = g }
 
 pub data Answer : Type 0 where
-  held : ℕ → Answer
-  nothing : Answer
-  added : ℕ → Answer
-  gone : ℕ → Answer
+  said : Word → ℕ → Answer
   refused : Refusal → Answer
 
 -- Sets of pairs: "no key twice" ------------------------------------------------------------------------------------------
@@ -77,35 +85,36 @@ module _ (s : Settings) where
 
   -- The steps: "Inputs are legal if none of codes 1 to 6 is due. Otherwise the call is refused with the lowest, and the set stays." --------
 
-  abbrev findStep : List Pair → Option ℕ → Step
-  findStep ps none = step nothing ps
-  findStep ps (some l) = step (held l) ps
+  abbrev pub findStep : List Pair → Option ℕ → Step
+  findStep ps none = step (said word.None 0) ps
+  findStep ps (some l) = step (said word.Held l) ps
 
-  abbrev deleteStep : List Pair → ℕ → Option ℕ → Step
-  deleteStep ps k none = step nothing ps
-  deleteStep ps k (some l) = step (gone l) (erase k ps)
+  abbrev pub deleteStep : List Pair → ℕ → Option ℕ → Step
+  deleteStep ps k none = step (said word.None 0) ps
+  deleteStep ps k (some l) = step (said word.Gone l) (erase k ps)
 
-  abbrev addStep : List Pair → ℕ → ℕ → Option ℕ → Step
+  abbrev pub addStep : List Pair → ℕ → ℕ → Option ℕ → Step
   addStep ps k l none =
-      cond (noVacantSlot (listLength ps (listNumber s k)) && allBlocksUsed ps) (step (refused refusal.NoBlock) ps) (step (added l) (pair k l ∷ ps))
-  addStep ps k l (some m) = step (held m) ps
+      cond (noVacantSlot (listLength ps (listNumber s k)) && allBlocksUsed ps)
+      (step (refused refusal.NoBlock) ps) (step (said word.Added l) (pair k l ∷ ps))
+  addStep ps k l (some m) = step (said word.Held m) ps
 
-  -- 5 "a key bit above w is set"
-  abbrev pub withKey : List Pair → ℕ → Step → Step
-  withKey ps k on = cond (ltb k (2 ^ s .w)) on (step (refused refusal.Key) ps)
+  -- the call with a legal key
+  abbrev pub keyStep : List Pair → Verb → ℕ → Step
+  keyStep ps find k = findStep ps (lookup k ps)
+  keyStep ps (add l) k = addStep ps k l (lookup k ps)
+  keyStep ps delete k = deleteStep ps k (lookup k ps)
 
-  -- 3 "a text goes to a table with w other than 128", 4 "not a legal address"
-  abbrev pub withGiven : List Pair → Given → (ℕ → Step) → Step
-  withGiven ps (key k) on = withKey ps k (on k)
-  withGiven ps (text none) on = cond (eqb (s .w) 128) (step (refused refusal.Text) ps) (step (refused refusal.Width) ps)
-  withGiven ps (text (some k)) on = cond (eqb (s .w) 128) (withKey ps k (on k)) (step (refused refusal.Width) ps)
+  -- the refusals for what is given; 4 "not a legal address"
+  abbrev pub givenDue : Given → List Due
+  givenDue (key k) = keyDue s k ∷ []
+  givenDue (text none) = widthDue s ∷ due true refusal.Text ∷ []
+  givenDue (text (some k)) = widthDue s ∷ keyDue s k ∷ []
 
-  abbrev callStep : List Pair → Call → Step
-  callStep ps (find g) = withGiven ps g (λ k. findStep ps (lookup k ps))
-  callStep ps (delete g) = withGiven ps g (λ k. deleteStep ps k (lookup k ps))
-  callStep ps (add g l) = withGiven ps g (λ k. cond (ltb l (2 ^ s .val)) (addStep ps k l (lookup k ps)) (step (refused refusal.Label) ps))
+  -- all refusals for inputs, in their order, where the lent table has n bytes
+  abbrev pub callDue : ℕ → Call → List Due
+  callDue n c = settingsDue s ∷ shortDue s n ∷ givenDue (c .given) ++ verbDue s (c .verb)
 
-  -- 1 and 2: the set is told the settings and the lent table's length
+  -- the call, where the lent table has n bytes
   unfoldable pub setStep : ℕ → List Pair → Call → Step
-  setStep length ps c =
-      cond (legal s) (cond (leb (tableBytes s) length) (callStep ps c) (step (refused refusal.Short) ps)) (step (refused refusal.Settings) ps)
+  setStep n ps c = unlessDue (callDue n c) (λ why. step (refused why) ps) (keyStep ps (c .verb) (keyGiven (c .given)))

@@ -18,8 +18,9 @@ pub mod Check
 pub mod Keys
 pub mod SetLaws
 pub mod Rows
-pub mod Lists
 pub mod Refusals
+pub mod OneList
+pub mod Lists
 pub mod Agree
 pub mod Stored
 pub mod Longer

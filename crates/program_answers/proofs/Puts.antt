@@ -1,5 +1,5 @@
 -- Texts put one behind the other.
-use mathlib.Core.Path.{_≡_, refl, ap, _∙_}
+use mathlib.Core.Path.{_≡_, refl, sym, ap, _∙_}
 use mathlib.Core.List.{List, [], _∷_, _++_, append-assoc}
 use Prim.Native.Nat.{ℕ, suc, _+_, _≤_, _<_}
 use native.Mathlib.Numerals.{add-one}
@@ -8,11 +8,11 @@ use lib.ListN.{length, getD, set, take, length-append}
 use lib.Seq.{take-suc, take-suc-set}
 use Rattle.laws.specs.Lists.{take-stored}
 use Rattle.settings.specs.declared.refusal.Refusal.{Refusal}
-use Rattle.program_answers.specs.Answer.{refusedText, saidText, outcomeText}
-use Rattle.program_answers.specs.Steps.{Put, Wrote}
-use Rattle.program_answers.specs.declared.outcome.Word.{Word}
-use Rattle.program_answers.specs.declared.outcome.Outcome.{Outcome}
-use Rattle.program_answers.specs.declared.outcome.Outcome.the-variants as outcome
+use Rattle.settings.specs.Reply.{Reply, reply, answering, Gives}
+use Rattle.keys.specs.declared.Key.{Key}
+use Rattle.table.specs.declared.answers.Answer.{Answer}
+use Rattle.program_answers.specs.Answer.{answerRoom, refusedText, answerText}
+use Rattle.program_answers.specs.Steps.{Put, Wrote, Answered}
 
 -- one byte
 pub put-byte : (out : List ℕ) (at x : ℕ) → at < length out → Put (x ∷ []) out at (set out at x) (at + 1)
@@ -40,19 +40,22 @@ pub put-as : {a b out out₁ : List ℕ} {at r : ℕ} → a ≡ b → Put a out 
 put-as {a} {b} {out} {out₁} {at} {r} e p = rw e at p
 
 -- from the start
-pub put-wrote : {text out out₁ : List ℕ} {r : ℕ} → Put text out 0 out₁ r → length text ≤ 80 → Wrote text out₁ r
+pub put-wrote : {text out out₁ : List ℕ} {r : ℕ} → Put text out 0 out₁ r → length text ≤ answerRoom → Wrote text out₁ r
 put-wrote {text} {out} {out₁} {r} p h = record { room = omega (arith, p .end); is = p .is }
 
 -- behind what was written from the start
-pub wrote-then : {a b out₁ out₂ : List ℕ} {r₁ r₂ : ℕ} → take r₁ out₁ ≡ a → Put b out₁ r₁ out₂ r₂ → r₂ ≤ 80 → Wrote (a ++ b) out₂ r₂
+pub wrote-then : {a b out₁ out₂ : List ℕ} {r₁ r₂ : ℕ} → take r₁ out₁ ≡ a → Put b out₁ r₁ out₂ r₂ → r₂ ≤ answerRoom → Wrote (a ++ b) out₂ r₂
 wrote-then {a} {b} {out₁} {out₂} {r₁} {r₂} e q h = record { room = h; is = q .is ∙ ap (λ (l : List ℕ). l ++ b) e }
 
--- an outcome's text
-pub wrote-said : (a : List ℕ) (o : Outcome) {out : List ℕ} {r : ℕ} {w : Word} {label compared : ℕ} → o ≡ outcome.Said w label compared
-    → Wrote (saidText a w label compared) out r → Wrote (outcomeText a o) out r
-unfolding outcomeText
-wrote-said a o e p = rw e p
+-- the text of what a call answers
+pub answered-given : (k : Key) {o : Reply Answer} {a : Answer} {text u out : List ℕ} {r : ℕ} → Gives o a u → answerText k a ≡ text → Wrote text out r
+    → Answered (answering (answerText k) o) u out r
+answered-given k g e p = record { text = rw (ap (answerText k) (sym (g .answer)) ∙ e) p; bytes = g .bytes }
 
-pub wrote-refused : (a : List ℕ) (o : Outcome) {out : List ℕ} {r : ℕ} {why : Refusal} → o ≡ outcome.Refused why → Wrote (refusedText why) out r → Wrote (outcomeText a o) out r
-unfolding outcomeText
-wrote-refused a o e p = rw e p
+-- the same reply, by another name
+pub answered-as : {o o′ : Reply (List ℕ)} {u out : List ℕ} {r : ℕ} → o ≡ o′ → Answered o′ u out r → Answered o u out r
+answered-as e a = rw e a
+
+-- a refusal leaves the table
+pub answered-refused : {o : Reply (List ℕ)} {t out : List ℕ} {r : ℕ} (why : Refusal) → o ≡ reply (refusedText why) t → Wrote (refusedText why) out r → Answered o t out r
+answered-refused why e p = answered-as e (record { text = p; bytes = refl })

@@ -10,8 +10,8 @@ use Rattle.program_answers.specs.Answer.{wordText, numbersText}
 use Rattle.program_answers.specs.Decimal.{decimalText}
 use Rattle.program_answers.specs.Steps.{Change}
 use Rattle.program_answers.proofs.Decimal.{decimal-short}
-use Rattle.program_answers.specs.declared.outcome.Word.{Word}
-use Rattle.program_answers.specs.declared.outcome.Word.the-variants as word
+use Rattle.table.specs.declared.answers.Word.{Word}
+use Rattle.table.specs.declared.answers.Word.the-variants as word
 
 pub word-short : (w : Word) → length (wordText w) ≤ 7
 unfolding wordText ascii

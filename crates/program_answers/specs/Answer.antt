@@ -5,18 +5,17 @@ use mathlib.Core.Option.{Option, none, some}
 use Rattle.settings.specs.Refusal.{numberOf}
 use Rattle.settings.specs.declared.refusal.Refusal.{Refusal}
 use Rattle.settings.specs.declared.refusal.Refusal.the-variants as refusal
-use Rattle.text_read.specs.Answers.{readingOf}
-use Rattle.text_read.specs.declared.Parsed.{Parsed}
-use Rattle.text_read.specs.declared.Parsed.the-variants as parsed
+use Rattle.settings.specs.Reply.{Reply, reply, answering}
+use Rattle.keys.specs.declared.Key.{Key}
+use Rattle.table.specs.declared.answers.Answer.{Answer}
+use Rattle.table.specs.declared.answers.Answer.the-variants as answer
+use Rattle.table.specs.declared.answers.Word.{Word}
+use Rattle.table.specs.declared.answers.Word.the-variants as word
 use Rattle.text_write.specs.Writing.{written}
 use Rattle.text_calls.specs.Ascii.{ascii}
 use Rattle.program_commands.specs.Command.{Command, commandOf}
 use Rattle.program_answers.specs.Decimal.{decimalText}
-use Rattle.program_answers.specs.Outcome.{outcomeOf, bytesOf}
-use Rattle.program_answers.specs.declared.outcome.Word.{Word}
-use Rattle.program_answers.specs.declared.outcome.Word.the-variants as word
-use Rattle.program_answers.specs.declared.outcome.Outcome.{Outcome}
-use Rattle.program_answers.specs.declared.outcome.Outcome.the-variants as outcome
+use Rattle.program_answers.specs.Outcome.{commandCall}
 
 -- "The four words added, held, gone and none are printed so"
 unfoldable pub wordText : Word → List ℕ
@@ -24,6 +23,10 @@ wordText word.Added = ascii " added "
 wordText word.Held = ascii " held "
 wordText word.Gone = ascii " gone "
 wordText word.None = ascii " none "
+
+-- an answer needs no more room: an address has at most 39 bytes, a word with its spaces 7, two numbers of ten digits with what follows them 22
+abbrev pub answerRoom : ℕ
+answerRoom = 80
 
 -- an output line ends in a line feed (10)
 unfoldable pub refusedText : Refusal → List ℕ
@@ -35,26 +38,15 @@ numbersText label compared = decimalText label ++ 32 ∷ decimalText compared ++
 unfoldable pub saidText : List ℕ → Word → ℕ → ℕ → List ℕ
 saidText address w label compared = address ++ wordText w ++ numbersText label compared
 
--- the address as it is written
-unfoldable pub keyText : Parsed → List ℕ
-keyText (parsed.Key k) = written (k .high) (k .low)
-keyText (parsed.Refused why) = []
-
-unfoldable pub outcomeText : List ℕ → Outcome → List ℕ
-outcomeText address (outcome.Said w label compared) = saidText address w label compared
-outcomeText address (outcome.Refused why) = refusedText why
-
-unfoldable pub answerText : List ℕ → Option Command → List ℕ
-answerText t none = refusedText refusal.Line
-answerText t (some c) = outcomeText (keyText (readingOf (c .address))) (outcomeOf (c .op) t (c .address) (c .label))
-
-unfoldable pub answerBytes : List ℕ → Option Command → List ℕ
-answerBytes t none = t
-answerBytes t (some c) = bytesOf (c .op) t (c .address) (c .label)
+-- "address, word, label, compared, or "refused" and the number"
+unfoldable pub answerText : Key → Answer → List ℕ
+answerText k (answer.Said label w compared) = saidText (written (k .high) (k .low)) w label compared
+answerText k (answer.Refused why) = refusedText why
 
 -- what is written for a line, and the table afterwards
-unfoldable pub lineText : List ℕ → List ℕ → List ℕ
-lineText t l = answerText t (commandOf l)
+unfoldable pub commandReply : List ℕ → Option Command → Reply (List ℕ)
+commandReply t none = reply (refusedText refusal.Line) t
+commandReply t (some c) = answering (λ a. answerText (a .key) (a .answer)) (commandCall t c)
 
-unfoldable pub lineTable : List ℕ → List ℕ → List ℕ
-lineTable t l = answerBytes t (commandOf l)
+unfoldable pub lineReply : List ℕ → List ℕ → Reply (List ℕ)
+lineReply t l = commandReply t (commandOf l)

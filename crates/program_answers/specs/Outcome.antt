@@ -1,43 +1,20 @@
--- What a command comes to: one of the four words with a label and the number compared, or a refusal.
+-- What a command comes to: the library's call with the text of its address.
 use Prim.Native.Nat.{ℕ}
 use mathlib.Core.List.{List}
-use Rattle.table.specs.declared.answers.FindAnswer.{FindAnswer}
-use Rattle.table.specs.declared.answers.FindAnswer.the-variants as finding
-use Rattle.table.specs.declared.answers.AddAnswer.{AddAnswer}
-use Rattle.table.specs.declared.answers.AddAnswer.the-variants as adding
-use Rattle.table.specs.declared.answers.DeleteAnswer.{DeleteAnswer}
-use Rattle.table.specs.declared.answers.DeleteAnswer.the-variants as deleting
-use Rattle.text_calls.specs.TextCalls.{findTextAnswer, addTextAnswer, addTextBytes, deleteTextAnswer, deleteTextBytes}
-use Rattle.program_answers.specs.Program.{program}
+use Rattle.settings.specs.Reply.{Reply}
+use Rattle.table.specs.Calls.{Verb, find, add, delete}
+use Rattle.text_calls.specs.TextCalls.{textCall}
+use Rattle.text_calls.specs.declared.calls.TextAnswer.{TextAnswer}
+use Rattle.program_commands.specs.Command.{Command}
 use Rattle.program_commands.specs.declared.command.Op.{Op}
 use Rattle.program_commands.specs.declared.command.Op.the-variants as op
-use Rattle.program_answers.specs.declared.outcome.Word.the-variants as word
-use Rattle.program_answers.specs.declared.outcome.Outcome.{Outcome}
-use Rattle.program_answers.specs.declared.outcome.Outcome.the-variants as outcome
+use Rattle.program_answers.specs.Program.{program}
 
-unfoldable pub ofFind : FindAnswer → Outcome
-ofFind (finding.Held label compared) = outcome.Said word.Held label compared
-ofFind (finding.None compared) = outcome.Said word.None 0 compared
-ofFind (finding.Refused why) = outcome.Refused why
+abbrev pub verbOf : Op → ℕ → Verb
+verbOf op.Add label = add label
+verbOf op.Delete label = delete
+verbOf op.Find label = find
 
-unfoldable pub ofAdd : AddAnswer → Outcome
-ofAdd (adding.Added label compared) = outcome.Said word.Added label compared
-ofAdd (adding.Held label compared) = outcome.Said word.Held label compared
-ofAdd (adding.Refused why) = outcome.Refused why
-
-unfoldable pub ofDelete : DeleteAnswer → Outcome
-ofDelete (deleting.Gone label compared) = outcome.Said word.Gone label compared
-ofDelete (deleting.None compared) = outcome.Said word.None 0 compared
-ofDelete (deleting.Refused why) = outcome.Refused why
-
--- the outcome for the address that the text x spells, with a label, on the table t
-unfoldable pub outcomeOf : Op → List ℕ → List ℕ → ℕ → Outcome
-outcomeOf op.Add t x label = ofAdd (addTextAnswer program t x label)
-outcomeOf op.Delete t x label = ofDelete (deleteTextAnswer program t x)
-outcomeOf op.Find t x label = ofFind (findTextAnswer program t x)
-
--- and the table's bytes afterwards
-unfoldable pub bytesOf : Op → List ℕ → List ℕ → ℕ → List ℕ
-bytesOf op.Add t x label = addTextBytes program t x label
-bytesOf op.Delete t x label = deleteTextBytes program t x
-bytesOf op.Find t x label = t
+-- the command c on the table t
+unfoldable pub commandCall : List ℕ → Command → Reply TextAnswer
+commandCall t c = textCall program t (verbOf (c .op) (c .label)) (c .address)

@@ -1,6 +1,4 @@
 // The answer to a line.
-use crate::outcome::Outcome;
-use crate::outcome::Word;
 use crate::outcome::apply;
 use crate::text::put;
 use crate::text::put_decimal;
@@ -10,15 +8,18 @@ use program_commands::Request;
 use program_commands::parse;
 use program_commands::unread;
 use settings::Refusal;
+use table::Answer;
+use table::Word;
 use text_read::Parsed;
 ghost use mathlib.Core.Path.{_≡_};
 ghost use Prim.Native.Nat.{_+_, _≤_};
 ghost use lib.ListN.{length};
 ghost use Rattle.text_read.specs.ReaderSteps.{Classes};
 ghost use Rattle.text_write.specs.Writing.{written};
-ghost use Rattle.program_answers.specs.Answer.{wordText, numbersText, refusedText, saidText};
-ghost use Rattle.program_answers.specs.Steps.{Change, Put, Wrote, AnsweredKey, Answered};
-ghost use Rattle.program_answers.specs.declared.outcome.Word.the-variants as word;
+ghost use Rattle.program_answers.specs.Program.{programBytes};
+ghost use Rattle.program_answers.specs.Answer.{answerRoom, wordText, numbersText, refusedText, saidText, lineReply};
+ghost use Rattle.program_answers.specs.Steps.{Change, Put, Wrote, keyReply, Answered};
+ghost use Rattle.table.specs.declared.answers.Word.the-variants as word;
 
 // Room for any answer: an address of at most 39 bytes, a word, two numbers of at most ten digits.
 pub const ANSWER_MAX: usize = 80;
@@ -58,7 +59,7 @@ fn put_word(w: Word, out: &mut [u8], at: usize) -> usize
 
 // "refused" and the number.
 pub fn refuse(why: Refusal, out: &mut [u8]) -> usize
-    requires { ⌜ 80 ≤ length (now out) ⌝ }
+    requires { ⌜ answerRoom ≤ length (now out) ⌝ }
     ensures { λ r. ⌜ Wrote (refusedText why) (now (out .exit)) r ⌝ }
 {
     let n = put(b"refused ", out, 0);
@@ -79,7 +80,7 @@ fn put_numbers(label: u32, compared: u32, out: &mut [u8], at: usize) -> usize
 
 // Address, word, label, compared.
 fn say(key: Key, word: Word, label: u32, compared: u32, out: &mut [u8]) -> usize
-    requires { ⌜ 80 ≤ length (now out) ⌝ }
+    requires { ⌜ answerRoom ≤ length (now out) ⌝ }
     ensures { λ r. ⌜ Wrote (saidText (written (key .high) (key .low)) word label compared) (now (out .exit)) r ⌝ }
 {
     let n = text_write::put_text(out, key);
@@ -89,24 +90,24 @@ fn say(key: Key, word: Word, label: u32, compared: u32, out: &mut [u8]) -> usize
 
 // The answer to a command whose address was read.
 fn answer_key(q: Request, key: Key, t: &mut [u8], out: &mut [u8]) -> usize
-    requires { ⌜ (19617 ≤ length (now t)) × (80 ≤ length (now out)) ⌝ }
-    ensures { λ r. ⌜ AnsweredKey q key (now (t .entry)) (now (t .exit)) (now (out .exit)) r ⌝ }
+    requires { ⌜ (programBytes ≤ length (now t)) × (answerRoom ≤ length (now out)) ⌝ }
+    ensures { λ r. ⌜ Answered (keyReply (now (t .entry)) q key) (now (t .exit)) (now (out .exit)) r ⌝ }
 {
     let op = q.op;
     match apply(op, q.label, t, key) {
-        Outcome::Said {
+        Answer::Said {
             word,
             label,
             compared,
         } => say(key, word, label, compared, out),
-        Outcome::Refused(why) => refuse(why, out),
+        Answer::Refused(why) => refuse(why, out),
     }
 }
 
 // The answer to a line, and what the line does to the table.
 pub fn answer_line(classes: &[u8; 256], line: &[u8], t: &mut [u8], out: &mut [u8]) -> usize
-    requires { ⌜ Classes (now classes) × (19617 ≤ length (now t)) × (80 ≤ length (now out)) ⌝ }
-    ensures { λ r. ⌜ Answered (now (line .entry)) (now (t .entry)) (now (t .exit)) (now (out .exit)) r ⌝ }
+    requires { ⌜ Classes (now classes) × (programBytes ≤ length (now t)) × (answerRoom ≤ length (now out)) ⌝ }
+    ensures { λ r. ⌜ Answered (lineReply (now (t .entry)) (now (line .entry))) (now (t .exit)) (now (out .exit)) r ⌝ }
 {
     match parse(line) {
         Asked::Request(q) => {

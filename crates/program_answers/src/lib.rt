@@ -6,4 +6,5 @@ mod text;
 pub use answer::ANSWER_MAX;
 pub use answer::answer_line;
 pub use answer::refuse;
-pub use outcome::SETTINGS;
+pub use outcome::TABLE_BYTES;
+pub use outcome::settings;

@@ -3,38 +3,25 @@ use keys::Key;
 use program_commands::Op;
 use settings::Blocks;
 use settings::Layout;
+use settings::Made;
 use settings::Refusal;
 use settings::Settings;
-use table::AddAnswer;
-use table::DeleteAnswer;
-use table::FindAnswer;
+use table::Answer;
+use table_add::add_sought;
+use table_add::fits;
+use table_delete::delete_sought;
+use table_find::seek;
 ghost use mathlib.Core.Path.{_≡_};
 ghost use Prim.Native.Nat.{_≤_};
 ghost use lib.ListN.{length};
 ghost use Rattle.settings.specs.Layout.{layoutOf};
-ghost use Rattle.program_answers.specs.Program.{program};
-ghost use Rattle.program_answers.specs.Outcome.{ofFind, ofAdd, ofDelete};
-ghost use Rattle.program_answers.specs.Steps.{Applied};
-ghost use Rattle.program_answers.specs.declared.outcome.Outcome.the-variants as outcome;
+ghost use Rattle.settings.specs.Reply.{Gives};
+ghost use Rattle.settings.specs.declared.settings.Made.the-variants as made;
+ghost use Rattle.table.specs.Calls.{keyCall};
+ghost use Rattle.program_answers.specs.Program.{program, programBytes};
+ghost use Rattle.program_answers.specs.Outcome.{verbOf};
 
-// The four words.
-pub enum Word {
-    Added,
-    Held,
-    Gone,
-    None,
-}
-
-pub enum Outcome {
-    Said {
-        word: Word,
-        label: u32,
-        compared: u32,
-    },
-    Refused(Refusal),
-}
-
-pub const SETTINGS: Settings = Settings {
+const SETTINGS: Settings = Settings {
     w: 128,
     bii: 8,
     sib: 4,
@@ -45,17 +32,36 @@ pub const SETTINGS: Settings = Settings {
     b: 31,
 };
 
+// The bytes that they ask for the table.
+pub const TABLE_BYTES: usize = 19617;
+
+// The settings, by their constructor, which does not refuse them.
+pub fn settings() -> Made
+    ensures { λ r. ⌜ r ≡ made.Settings program ⌝ }
+{
+    Settings::new(
+        SETTINGS.w,
+        SETTINGS.bii,
+        SETTINGS.sib,
+        SETTINGS.nob,
+        SETTINGS.sio,
+        SETTINGS.val,
+        SETTINGS.a,
+        SETTINGS.b,
+    )
+}
+
 // The layout of the settings, known before the program runs: no call computes it again.
 fn layout() -> Layout
     ensures { λ r. ⌜ r ≡ layoutOf program ⌝ }
 {
     Layout {
         bie: 120,
-        val: 8,
+        val: SETTINGS.val as usize,
         slot: 128,
-        sib: 4,
-        nob: 64,
-        sio: 3,
+        sib: SETTINGS.sib as usize,
+        nob: SETTINGS.nob as usize,
+        sio: SETTINGS.sio as usize,
         lists: 256,
         link: 6,
         basic: Blocks {
@@ -69,69 +75,26 @@ fn layout() -> Layout
             bits: 392,
         },
         bits: 156935,
-        bytes: 19617,
+        bytes: TABLE_BYTES,
     }
 }
 
-fn said(word: Word, label: u32, compared: u32) -> Outcome
-    ensures { λ r. ⌜ r ≡ outcome.Said word label compared ⌝ }
-{
-    Outcome::Said {
-        word,
-        label,
-        compared,
-    }
-}
-
-fn found(answer: FindAnswer) -> Outcome
-    ensures { λ r. ⌜ r ≡ ofFind answer ⌝ }
-{
-    match answer {
-        FindAnswer::Held { label, compared } => said(Word::Held, label, compared),
-        FindAnswer::None { compared } => said(Word::None, 0, compared),
-        FindAnswer::Refused(why) => Outcome::Refused(why),
-    }
-}
-
-fn added(answer: AddAnswer) -> Outcome
-    ensures { λ r. ⌜ r ≡ ofAdd answer ⌝ }
-{
-    match answer {
-        AddAnswer::Added { label, compared } => said(Word::Added, label, compared),
-        AddAnswer::Held { label, compared } => said(Word::Held, label, compared),
-        AddAnswer::Refused(why) => Outcome::Refused(why),
-    }
-}
-
-fn deleted(answer: DeleteAnswer) -> Outcome
-    ensures { λ r. ⌜ r ≡ ofDelete answer ⌝ }
-{
-    match answer {
-        DeleteAnswer::Gone { label, compared } => said(Word::Gone, label, compared),
-        DeleteAnswer::None { compared } => said(Word::None, 0, compared),
-        DeleteAnswer::Refused(why) => Outcome::Refused(why),
-    }
-}
-
-// The command on the table. Each of the three starts with finding the key, so that find is there once, for the compiler
-// to join with what is known of the layout.
-pub(crate) fn apply(op: Op, label: u32, t: &mut [u8], key: Key) -> Outcome
-    requires { ⌜ 19617 ≤ length (now t) ⌝ }
-    ensures { λ r. ⌜ Applied op label (now (t .entry)) key (now (t .exit)) r ⌝ }
+// The command on the table, behind the checks that its settings pass. The key is sought before the commands part, so that
+// find is there once, for the compiler to join with what is known of the layout.
+pub(crate) fn apply(op: Op, label: u32, t: &mut [u8], key: Key) -> Answer
+    requires { ⌜ programBytes ≤ length (now t) ⌝ }
+    ensures { λ r. ⌜ Gives (keyCall program (now (t .entry)) (verbOf op label) key) r (now (t .exit)) ⌝ }
 {
     let g = layout();
-    let place = key.place(SETTINGS);
-    let list = place.list;
-    let entry = place.entry;
-    let answer = table_find::find_in(t, g, list, entry);
+    let v = seek(SETTINGS, g, t, key);
     match op {
         Op::Add => {
-            if label > 255 {
-                return Outcome::Refused(Refusal::Label);
+            if !fits(label as u64, SETTINGS.val) {
+                return Answer::Refused(Refusal::Label);
             }
-            added(table_add::add_found(t, g, list, answer, entry, label))
+            add_sought(t, SETTINGS, g, key, v, label)
         }
-        Op::Delete => deleted(table_delete::delete_found(t, g, list, answer, entry)),
-        Op::Find => found(answer),
+        Op::Delete => delete_sought(t, SETTINGS, g, key, v),
+        Op::Find => v.found,
     }
 }

@@ -13,7 +13,7 @@ use Rattle.laws.specs.Cases.{cases, cond-same}
 use Rattle.program_lines.specs.Ends.{before, firstFrom}
 use Rattle.program_lines.specs.theory.Ends.{first-after, first-le}
 use Rattle.program_commands.specs.Fields.{space, fields}
-use Rattle.program_commands.specs.Command.{Command, mkCommand, opOf, labelOf, addressed, asked, spelled, commandOf}
+use Rattle.program_commands.specs.Command.{Command, mkCommand, opOf, labelOf, addressed, asked, spelled, longestLine, commandOf}
 use Rattle.program_commands.specs.Steps.{labelNumber, labelRoom, Begins, spaceless, addressIn, requested, Asks}
 use Rattle.program_commands.specs.declared.command.Op.{Op}
 use Rattle.program_commands.specs.declared.command.Op.the-variants as op
@@ -102,7 +102,7 @@ module _ (x y : List ℕ) where
 
 not-spelled : (l : List ℕ) → spelled l ≡ none → commandOf l ≡ none
 unfolding commandOf
-not-spelled l e = rw e (cond-same (leb (length l) 64) none)
+not-spelled l e = rw e (cond-same (leb (length l) longestLine) none)
 
 pub malformed : (l : List ℕ) → commandOf l ≡ none → Asks l answer.Malformed
 malformed l e = record { is = e ∙ (unfold requested in refl); bounded = tt }
@@ -118,15 +118,15 @@ short-line l h = not-spelled l (go l h)
 
 module _ (l : List ℕ) where
   -- by the test of the length
-  pub size-malformed : (ltb (length l) 3 || ltb 64 (length l)) ≡ true → Asks l answer.Malformed
+  pub size-malformed : (ltb (length l) 3 || ltb longestLine (length l)) ≡ true → Asks l answer.Malformed
   size-malformed e =
       malformed l
-      (either (ltb (length l) 3) (ltb 64 (length l)) e (λ t. short-line l (ltb-true (length l) 3 t)) (λ t. long-none l (ltb-true 64 (length l) t)))
+      (either (ltb (length l) 3) (ltb longestLine (length l)) e (λ t. short-line l (ltb-true (length l) 3 t)) (λ t. long-none l (ltb-true longestLine (length l) t)))
 
-  pub size-fits : (ltb (length l) 3 || ltb 64 (length l)) ≡ false → (3 ≤ length l) × (length l ≤ 64)
+  pub size-fits : (ltb (length l) 3 || ltb longestLine (length l)) ≡ false → (3 ≤ length l) × (length l ≤ longestLine)
   size-fits e =
-      let p = neither (ltb (length l) 3) (ltb 64 (length l)) e in
-      (ltb-false (length l) 3 (p .0), ltb-false 64 (length l) (p .1))
+      let p = neither (ltb (length l) 3) (ltb longestLine (length l)) e in
+      (ltb-false (length l) 3 (p .0), ltb-false longestLine (length l) (p .1))
 
 pub unspaced-line : (l : List ℕ) → (getD l 1 0 ≡ space → ⊥) → commandOf l ≡ none
 unspaced-line l n = not-spelled l (go l n)
@@ -141,11 +141,11 @@ unspaced-line l n = not-spelled l (go l n)
 begun : (l : List ℕ) (c : ℕ) → Begins l c → commandOf l ≡ asked c (fields (drop 2 l))
 begun l c b = go l (b .low) (b .high) (b .first) (b .second)
   where
-    go : (l : List ℕ) → 3 ≤ length l → length l ≤ 64 → getD l 0 0 ≡ c → getD l 1 0 ≡ space → commandOf l ≡ asked c (fields (drop 2 l))
+    go : (l : List ℕ) → 3 ≤ length l → length l ≤ longestLine → getD l 0 0 ≡ c → getD l 1 0 ≡ space → commandOf l ≡ asked c (fields (drop 2 l))
     go [] low high first second = absurd (omega arith)
     go (x ∷ []) low high first second = absurd (omega arith)
     go (x ∷ y ∷ s) low high first second =
-        unfold commandOf spelled in rw (le-leb (length (x ∷ y ∷ s)) 64 high, first, eq-eqb y space second)
+        unfold commandOf spelled in rw (le-leb (length (x ∷ y ∷ s)) longestLine high, first, eq-eqb y space second)
 
 -- the address that goes to the end of the line
 whole : (l : List ℕ) (e : ℕ) → e ≡ length l → addressIn l e ≡ drop 2 l

@@ -52,5 +52,8 @@ spelled (c ∷ []) = none
 spelled (c ∷ d ∷ s) = cond (eqb d space) (asked c (fields s)) none
 
 -- "at most 64 bytes before the line feed"
+abbrev pub longestLine : ℕ
+longestLine = 64
+
 unfoldable pub commandOf : List ℕ → Option Command
-commandOf l = cond (leb (length l) 64) (spelled l) none
+commandOf l = cond (leb (length l) longestLine) (spelled l) none

@@ -10,7 +10,7 @@ use Rattle.settings.specs.declared.refusal.Refusal.{Refusal}
 use Rattle.settings.specs.declared.refusal.Refusal.the-variants as refusal
 use Rattle.program_lines.specs.Ends.{before}
 use Rattle.program_commands.specs.Fields.{space}
-use Rattle.program_commands.specs.Command.{Command, mkCommand, commandOf}
+use Rattle.program_commands.specs.Command.{Command, mkCommand, longestLine, commandOf}
 use Rattle.program_commands.specs.declared.command.Asked.{Asked}
 use Rattle.program_commands.specs.declared.command.Asked.the-variants as answer
 
@@ -26,10 +26,10 @@ labelNumber (some n) = n
 unfoldable pub labelRoom : ℕ → ℕ
 labelRoom n = cond (ltb n 6) 2 (n - 4)
 
--- a line of 3 to 64 bytes that begins with the byte c and a space
+-- a line of 3 bytes or more, and not too long, that begins with the byte c and a space
 pub record Begins (l : List ℕ) (c : ℕ) : Type 0 where
   pub low : 3 ≤ length l
-  pub high : length l ≤ 64
+  pub high : length l ≤ longestLine
   pub first : getD l 0 0 ≡ c
   pub second : getD l 1 0 ≡ space
 

@@ -10,8 +10,9 @@ use Rattle.laws.specs.Cases.{cases}
 use Rattle.settings.specs.declared.refusal.Refusal.the-variants as refusal
 use Rattle.text_read.specs.Reading.{onFirst}
 use Rattle.program_lines.specs.Ends.{lineFeed, before}
-use Rattle.program_answers.specs.Answer.{refusedText, lineText, lineTable}
-use Rattle.program_answers.specs.theory.Lines.{long-text, long-table}
+use Rattle.program_commands.specs.Command.{longestLine}
+use Rattle.program_answers.specs.Answer.{refusedText, lineReply}
+use Rattle.program_answers.specs.theory.Lines.{line-long}
 use Rattle.program_stream.specs.Output.{linesOf, answersTo, outputOf}
 use Rattle.program_stream.specs.Steps.{pastLine}
 
@@ -84,18 +85,18 @@ past-goes-on (b ∷ s) rest h =
 
 pub output-ends : (t s rest : List ℕ) → before lineFeed s < length s
     → outputOf t (s ++ rest)
-    ≡ lineText t (take (before lineFeed s) s) ++ outputOf (lineTable t (take (before lineFeed s) s)) (drop (suc (before lineFeed s)) s ++ rest)
+    ≡ lineReply t (take (before lineFeed s) s) .answer ++ outputOf (lineReply t (take (before lineFeed s) s) .bytes) (drop (suc (before lineFeed s)) s ++ rest)
 unfolding outputOf answersTo
 output-ends t s rest h = ap (answersTo t) (line-ends s rest h)
 
--- a line of more than 64 bytes is refused before its end is known
-pub output-long : (t s rest : List ℕ) → length s ≤ before lineFeed s → 64 < length s
+-- a line that is too long is refused before its end is known
+pub output-long : (t s rest : List ℕ) → length s ≤ before lineFeed s → longestLine < length s
     → outputOf t (s ++ rest) ≡ refusedText refusal.Line ++ outputOf t (pastLine rest)
 unfolding outputOf answersTo
 output-long t s rest h k =
     let l = s ++ take (before lineFeed rest) rest in
-    let long : 64 < length l = simp length-append (omega arith) in
-    ap (answersTo t) (line-goes-on s rest h (omega arith)) ∙ rw (long-text t l long, long-table t l long) refl
+    let long : longestLine < length l = simp length-append (omega arith) in
+    ap (answersTo t) (line-goes-on s rest h (omega arith)) ∙ rw (line-long t l long) refl
 
 -- ---- the end of the input
 
@@ -105,7 +106,7 @@ output-none t [] h = refl
 output-none t (b ∷ s) h = absurd (omega (arith, h))
 
 -- a last line that lacks its line feed
-pub output-last : (t s : List ℕ) → length s ≤ before lineFeed s → 0 < length s → outputOf t s ≡ lineText t s
+pub output-last : (t s : List ℕ) → length s ≤ before lineFeed s → 0 < length s → outputOf t s ≡ lineReply t s .answer
 unfolding before outputOf answersTo linesOf pastLine
 output-last t s h k =
     ap (outputOf t) (sym (append-nil s)) ∙ ap (answersTo t) (line-goes-on s [] h k) ∙ simp append-nil

@@ -11,7 +11,8 @@ use Rattle.settings.specs.declared.refusal.Refusal.the-variants as refusal
 use Rattle.program_lines.specs.Ends.{lineFeed, before, firstFrom, spanAt}
 use Rattle.program_lines.specs.theory.Ends.{span-line, span-rest, first-after}
 use Rattle.program_lines.specs.declared.Span.the-variants.{Line, Rest}
-use Rattle.program_answers.specs.Answer.{refusedText, lineText, lineTable}
+use Rattle.program_commands.specs.Command.{longestLine}
+use Rattle.program_answers.specs.Answer.{answerRoom, refusedText, lineReply}
 use Rattle.program_stream.specs.Output.{outputOf}
 use Rattle.program_stream.specs.Steps.{pastLine, Turned}
 use Rattle.program_stream.proofs.Lines.{past-ends, past-goes-on, output-ends, output-long}
@@ -36,7 +37,7 @@ module _ (t input : List ℕ) (at e : ℕ) (rest : List ℕ) (he : e ≡ firstFr
   inside = omega (arith, length-drop at input)
 
   line-at : outputOf t (drop at input ++ rest)
-      ≡ lineText t (take (e - at) (drop at input)) ++ outputOf (lineTable t (take (e - at) (drop at input))) (drop (e + 1) input ++ rest)
+      ≡ lineReply t (take (e - at) (drop at input)) .answer ++ outputOf (lineReply t (take (e - at) (drop at input)) .bytes) (drop (e + 1) input ++ rest)
   line-at = output-ends t (drop at input) rest inside ∙ rw (after, is-before) refl
 
   past-at : pastLine (drop at input ++ rest) ≡ drop (e + 1) input ++ rest
@@ -44,9 +45,9 @@ module _ (t input : List ℕ) (at e : ℕ) (rest : List ℕ) (he : e ≡ firstFr
 
 module _ (input : List ℕ) (at : ℕ) (skip : Bool) (t out : List ℕ) (made : ℕ) (ha : at ≤ length input) where
   module _ (e : ℕ) (he : spanAt input at ≡ Line e) where
-    pub turned-line : (t′ out′ : List ℕ) (r : ℕ) → skip ≡ false → r ≤ made + 80
-        → t′ ≡ lineTable t (take (e - at) (drop at input))
-        → take r out′ ≡ take made out ++ lineText t (take (e - at) (drop at input))
+    pub turned-line : (t′ out′ : List ℕ) (r : ℕ) → skip ≡ false → r ≤ made + answerRoom
+        → t′ ≡ lineReply t (take (e - at) (drop at input)) .bytes
+        → take r out′ ≡ take made out ++ lineReply t (take (e - at) (drop at input)) .answer
         → Turned input at skip t out made (record { at = e + 1; made = r; skip = false; more = true }) t′ out′
     turned-line t′ out′ r es hr et eo =
         let s = span-line input at e he in
@@ -57,7 +58,7 @@ module _ (input : List ℕ) (at : ℕ) (skip : Bool) (t out : List ℕ) (made : 
           short = λ f. let z : _≡_ {A = ℕ} 0 1 = cc in absurd (omega arith);
           none = λ f. let z : _≡_ {A = ℕ} 0 1 = cc in absurd (omega arith);
           says = λ rest. rw (es, et) (ap (λ (x : List ℕ). take made out ++ x) (line-at t input at e rest (s .0) (omega arith))
-              ∙ behind (take made out) (lineText t (take (e - at) (drop at input))) (outputOf (lineTable t (take (e - at) (drop at input))) (drop (e + 1) input ++ rest)) (take r out′) eo);
+              ∙ behind (take made out) (lineReply t (take (e - at) (drop at input)) .answer) (outputOf (lineReply t (take (e - at) (drop at input)) .bytes) (drop (e + 1) input ++ rest)) (take r out′) eo);
         }
 
     pub turned-past : skip ≡ true → Turned input at skip t out made (record { at = e + 1; made = made; skip = false; more = true }) t out
@@ -92,7 +93,7 @@ module _ (input : List ℕ) (at : ℕ) (skip : Bool) (t out : List ℕ) (made : 
           says = λ rest. rw (es, drop-length) (ap (λ (x : List ℕ). take made out ++ outputOf t x) (past-goes-on (drop at input) rest all-in));
         }
 
-    pub turned-long : (out′ : List ℕ) (r : ℕ) → skip ≡ false → 64 < length input - at → r ≤ made + 80
+    pub turned-long : (out′ : List ℕ) (r : ℕ) → skip ≡ false → longestLine < length input - at → r ≤ made + answerRoom
         → take r out′ ≡ take made out ++ refusedText refusal.Line
         → Turned input at skip t out made (record { at = length input; made = r; skip = true; more = false }) t out′
     turned-long out′ r es hl hr eo =
@@ -106,7 +107,7 @@ module _ (input : List ℕ) (at : ℕ) (skip : Bool) (t out : List ℕ) (made : 
               ∙ behind (take made out) (refusedText refusal.Line) (outputOf t (pastLine rest)) (take r out′) eo);
         }
 
-    pub turned-short : skip ≡ false → length input - at ≤ 64 → Turned input at skip t out made (record { at = at; made = made; skip = false; more = false }) t out
+    pub turned-short : skip ≡ false → length input - at ≤ longestLine → Turned input at skip t out made (record { at = at; made = made; skip = false; more = false }) t out
     turned-short es hl =
         record {
           within = ha;

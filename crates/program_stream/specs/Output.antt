@@ -6,9 +6,9 @@ use lib.Dec.{eqb}
 use lib.ListN.{replicate}
 use Rattle.text_read.specs.Reading.{onFirst}
 use Rattle.program_lines.specs.Ends.{lineFeed}
-use Rattle.table.specs.Calls.{makeBytes}
-use Rattle.program_answers.specs.Program.{program}
-use Rattle.program_answers.specs.Answer.{lineText, lineTable}
+use Rattle.table.specs.Calls.{makeCall}
+use Rattle.program_answers.specs.Program.{program, programBytes}
+use Rattle.program_answers.specs.Answer.{lineReply}
 
 -- "Lines of standard input, [..] before the line feed (the last may lack it)": nothing follows a final line feed
 unfoldable pub linesOf : List ℕ → List (List ℕ)
@@ -18,7 +18,7 @@ linesOf (b ∷ s) = cond (eqb b lineFeed) ([] ∷ linesOf s) (onFirst b (linesOf
 -- "Output, a line for each"
 unfoldable pub answersTo : List ℕ → List (List ℕ) → List ℕ
 answersTo t [] = []
-answersTo t (l ∷ ls) = lineText t l ++ answersTo (lineTable t l) ls
+answersTo t (l ∷ ls) = lineReply t l .answer ++ answersTo (lineReply t l .bytes) ls
 
 -- all that is written for all that is read, on the table t
 unfoldable pub outputOf : List ℕ → List ℕ → List ℕ
@@ -26,7 +26,7 @@ outputOf t input = answersTo t (linesOf input)
 
 -- the table that the program starts with: a new one
 unfoldable pub newTable : List ℕ
-newTable = makeBytes program (replicate 19617 0)
+newTable = makeCall program (replicate programBytes 0) .bytes
 
 -- all that the program writes for all that it reads
 unfoldable pub programOutput : List ℕ → List ℕ

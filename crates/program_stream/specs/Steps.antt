@@ -6,6 +6,8 @@ use mathlib.Core.Bool.{Bool, true, false, cond}
 use lib.ListN.{length, take, drop}
 use lib.Dec.{eqb}
 use Rattle.program_lines.specs.Ends.{lineFeed, before}
+use Rattle.program_commands.specs.Command.{longestLine}
+use Rattle.program_answers.specs.Answer.{answerRoom}
 use Rattle.program_stream.specs.Output.{outputOf}
 use Rattle.program_stream.specs.declared.Turn.{Turn}
 use Rattle.program_stream.specs.declared.Step.{Step}
@@ -23,9 +25,9 @@ due t true s = outputOf t (pastLine s)
 -- the bytes from `at` on, with whatever follows, are answered by what the turn wrote and by what the rest is answered with
 pub record Turned (input : List ℕ) (at : ℕ) (skip : Bool) (t out : List ℕ) (made : ℕ) (r : Turn) (t′ out′ : List ℕ) : Type 0 where
   pub within : r .at ≤ length input
-  pub room : r .made ≤ made + 80
+  pub room : r .made ≤ made + answerRoom
   pub onward : r .more ≡ true → at < r .at
-  pub short : r .more ≡ false → length input ≤ r .at + 64
+  pub short : r .more ≡ false → length input ≤ r .at + longestLine
   pub none : r .more ≡ false → length (drop (r .at) input) ≤ before lineFeed (drop (r .at) input)
   pub says : (rest : List ℕ) → take made out ++ due t skip (drop at input ++ rest) ≡ take (r .made) out′ ++ due t′ (r .skip) (drop (r .at) input ++ rest)
 
@@ -33,12 +35,12 @@ pub record Turned (input : List ℕ) (at : ℕ) (skip : Bool) (t out : List ℕ)
 pub record Consumed (input : List ℕ) (at : ℕ) (skip : Bool) (t : List ℕ) (r : Step) (t′ out′ : List ℕ) : Type 0 where
   pub within : r .at ≤ length input
   pub fits : r .made ≤ length out′
-  pub onward : r .full ≡ true → 80 ≤ length out′ → at < r .at
-  pub short : r .full ≡ false → length input ≤ r .at + 64
+  pub onward : r .full ≡ true → answerRoom ≤ length out′ → at < r .at
+  pub short : r .full ≡ false → length input ≤ r .at + longestLine
   pub none : r .full ≡ false → length (drop (r .at) input) ≤ before lineFeed (drop (r .at) input)
   pub says : (rest : List ℕ) → due t skip (drop at input ++ rest) ≡ take (r .made) out′ ++ due t′ (r .skip) (drop (r .at) input ++ rest)
 
 -- the last line, which lacks its line feed, is answered
 pub record Finished (input : List ℕ) (skip : Bool) (t out′ : List ℕ) (r : ℕ) : Type 0 where
-  pub room : r ≤ 80
+  pub room : r ≤ answerRoom
   pub says : length input ≤ before lineFeed input → take r out′ ≡ due t skip input

@@ -11,7 +11,8 @@ ghost use Rattle.text_read.specs.ReaderSteps.{Classes};
 ghost use Rattle.program_lines.specs.Ends.{spanAt};
 ghost use Rattle.program_lines.specs.declared.Span.the-variants as span;
 ghost use Rattle.settings.specs.declared.refusal.Refusal.the-variants as refusal;
-ghost use Rattle.program_answers.specs.Answer.{refusedText, lineText, lineTable};
+ghost use Rattle.program_answers.specs.Program.{programBytes};
+ghost use Rattle.program_answers.specs.Answer.{answerRoom, refusedText, lineReply};
 ghost use Rattle.program_stream.specs.Steps.{Turned, Consumed, Finished};
 
 // How far a turn has come in the input and in the output, whether the input begins inside a line that has
@@ -34,18 +35,18 @@ fn answer_part(
     made: usize,
 ) -> usize
     requires { ⌜ (at ≤ e) × (e ≤ length (now input)) ⌝ }
-    requires { ⌜ Classes (now classes) × (19617 ≤ length (now t)) × (made + 80 ≤ length (now out)) ⌝ }
-    ensures { λ r. ⌜ r ≤ made + 80 ⌝ }
-    ensures { λ _. ⌜ now (t .exit) ≡ lineTable (now (t .entry)) (take (e - at) (drop at (now (input .entry)))) ⌝ }
-    ensures { λ r. ⌜ take r (now (out .exit)) ≡ take made (now (out .entry)) ++ lineText (now (t .entry)) (take (e - at) (drop at (now (input .entry)))) ⌝ }
+    requires { ⌜ Classes (now classes) × (programBytes ≤ length (now t)) × (made + answerRoom ≤ length (now out)) ⌝ }
+    ensures { λ r. ⌜ r ≤ made + answerRoom ⌝ }
+    ensures { λ _. ⌜ now (t .exit) ≡ lineReply (now (t .entry)) (take (e - at) (drop at (now (input .entry)))) .bytes ⌝ }
+    ensures { λ r. ⌜ take r (now (out .exit)) ≡ take made (now (out .entry)) ++ lineReply (now (t .entry)) (take (e - at) (drop at (now (input .entry)))) .answer ⌝ }
 {
     made + program_answers::answer_line(classes, &input[at..e], t, &mut out[made..])
 }
 
 // Refuses a line into out from `made` on.
 fn refuse_part(out: &mut [u8], made: usize) -> usize
-    requires { ⌜ made + 80 ≤ length (now out) ⌝ }
-    ensures { λ r. ⌜ r ≤ made + 80 ⌝ }
+    requires { ⌜ made + answerRoom ≤ length (now out) ⌝ }
+    ensures { λ r. ⌜ r ≤ made + answerRoom ⌝ }
     ensures { λ r. ⌜ take r (now (out .exit)) ≡ take made (now (out .entry)) ++ refusedText refusal.Line ⌝ }
 {
     made + program_answers::refuse(Refusal::Line, &mut out[made..])
@@ -63,7 +64,7 @@ fn line_turn(
     made: usize,
 ) -> Turn
     requires { ⌜ (at ≤ length (now input)) × (spanAt (now input) at ≡ span.Line e) ⌝ }
-    requires { ⌜ Classes (now classes) × (19617 ≤ length (now t)) × (made + 80 ≤ length (now out)) ⌝ }
+    requires { ⌜ Classes (now classes) × (programBytes ≤ length (now t)) × (made + answerRoom ≤ length (now out)) ⌝ }
     ensures { λ r. ⌜ Turned (now (input .entry)) at skip (now (t .entry)) (now (out .entry)) made r (now (t .exit)) (now (out .exit)) ⌝ }
 {
     if skip {
@@ -85,7 +86,7 @@ fn line_turn(
 
 // What no line feed ends yet: it waits for more, unless it is too long already, or has been answered.
 fn rest_turn(input: &[u8], at: usize, skip: bool, out: &mut [u8], made: usize) -> Turn
-    requires { ⌜ (at ≤ length (now input)) × (spanAt (now input) at ≡ span.Rest) × (made + 80 ≤ length (now out)) ⌝ }
+    requires { ⌜ (at ≤ length (now input)) × (spanAt (now input) at ≡ span.Rest) × (made + answerRoom ≤ length (now out)) ⌝ }
     ensures { λ r. ⌜ ((t : List ℕ) → Turned (now (input .entry)) at skip t (now (out .entry)) made r t (now (out .exit))) ⌝ }
 {
     if skip {
@@ -124,8 +125,8 @@ fn one_turn(
     made: usize,
 ) -> Turn
     requires { ⌜ at ≤ length (now input) ⌝ }
-    requires { ⌜ Classes (now classes) × (19617 ≤ length (now t)) ⌝ }
-    requires { ⌜ made + 80 ≤ length (now out) ⌝ }
+    requires { ⌜ Classes (now classes) × (programBytes ≤ length (now t)) ⌝ }
+    requires { ⌜ made + answerRoom ≤ length (now out) ⌝ }
     ensures { λ r. ⌜ Turned (now (input .entry)) at skip (now (t .entry)) (now (out .entry)) made r (now (t .exit)) (now (out .exit)) ⌝ }
 {
     match program_lines::next_in(input, at) {
@@ -152,7 +153,7 @@ pub fn consume(
     out: &mut [u8],
 ) -> Step
     requires { ⌜ at ≤ length (now input) ⌝ }
-    requires { ⌜ Classes (now classes) × (19617 ≤ length (now t)) ⌝ }
+    requires { ⌜ Classes (now classes) × (programBytes ≤ length (now t)) ⌝ }
     ensures { λ r. ⌜ Consumed (now (input .entry)) at skip (now (t .entry)) r (now (t .exit)) (now (out .exit)) ⌝ }
 {
     let mut i = at;
@@ -182,7 +183,7 @@ pub fn consume(
 
 // The end of the input: a last line that lacks its line feed.
 pub fn finish(classes: &[u8; 256], input: &[u8], skip: bool, t: &mut [u8], out: &mut [u8]) -> usize
-    requires { ⌜ Classes (now classes) × (19617 ≤ length (now t)) × (80 ≤ length (now out)) ⌝ }
+    requires { ⌜ Classes (now classes) × (programBytes ≤ length (now t)) × (answerRoom ≤ length (now out)) ⌝ }
     ensures { λ r. ⌜ Finished (now (input .entry)) skip (now (t .entry)) (now (out .exit)) r ⌝ }
 {
     if skip {

@@ -1,5 +1,5 @@
 -- Document 01, "Settings": every range and rule, in its order. Refusal 1 is given "exactly if a range or rule above is broken".
-use Prim.Native.Nat.{_*_, _≤_, _<_}
+use Prim.Native.Nat.{ℕ, _*_, _≤_, _<_}
 use mathlib.Core.Bool.{Bool, _&&_}
 use lib.Dec.{leb, ltb}
 use Rattle.settings.specs.Prime.{primeAbove}
@@ -12,9 +12,17 @@ inRanges s =
     leb 2 (s .w) && leb (s .w) 128 && leb (s .bii) 16 && ltb (s .bii) (s .w) && leb 1 (s .sib) && leb (s .sib) 255
     && leb (s .nob) 65535 && leb 1 (s .sio) && leb (s .sio) 15 && leb (s .val) 32
 
+-- "The table needs at most 16,777,216 bytes."
+abbrev pub mostBytes : ℕ
+mostBytes = 16777216
+
+-- so that a place in it is below this number of bits
+abbrev pub mostBits : ℕ
+mostBits = 8 * mostBytes
+
 -- "sib × (bie + val) must be at least L." "The table needs at most 16,777,216 bytes."
 unfoldable pub fits : Settings → Bool
-fits s = leb (linkBits s) (s .sib * slotBits s) && leb (tableBytes s) 16777216
+fits s = leb (linkBits s) (s .sib * slotBits s) && leb (tableBytes s) mostBytes
 
 -- "Settings a and b are 1 to p - 1."
 unfoldable pub belowPrime : Settings → Bool
@@ -39,7 +47,7 @@ pub record Ranges (s : Settings) : Type 0 where
 pub record Legal (s : Settings) : Type 0 where
   pub ranges : Ranges s
   pub link-fits : linkBits s ≤ s .sib * slotBits s
-  pub bytes-high : tableBytes s ≤ 16777216
+  pub bytes-high : tableBytes s ≤ mostBytes
   pub a-low : 1 ≤ s .a
   pub a-below : s .a < primeAbove (s .bii)
   pub b-low : 1 ≤ s .b

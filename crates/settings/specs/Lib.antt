@@ -7,6 +7,8 @@ pub mod Sizes
 pub mod Legal
 pub mod Layout
 pub mod Made
+pub mod Due
+pub mod Reply
 pub mod Proper
 -- What is proved of them.
 pub mod theory

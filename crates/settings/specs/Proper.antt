@@ -1,6 +1,7 @@
 -- What holds of the layout of legal settings: the facts that the functions on a table start from.
 use mathlib.Core.Path.{_≡_}
 use Prim.Native.Nat.{suc, _+_, _*_, _/_, _^_, _≤_, _<_}
+use Rattle.settings.specs.Legal.{mostBytes}
 use Rattle.settings.specs.declared.layout.Layout.{Layout}
 
 pub record Proper (g : Layout) : Type 0 where
@@ -26,7 +27,7 @@ pub record Proper (g : Layout) : Type 0 where
   pub start-is : g .overflow .start ≡ g .basic .start + g .lists * g .basic .bits
   pub bits-is : g .bits ≡ g .overflow .start + g .nob * g .overflow .bits
   pub bytes-is : g .bytes ≡ (g .bits + 7) / 8
-  pub bytes-high : g .bytes ≤ 16777216
+  pub bytes-high : g .bytes ≤ mostBytes
   -- each field holds the largest number that belongs in it
   pub basic-holds : suc (g .sib) < 2 ^ g .basic .counter
   pub overflow-holds : g .sio < 2 ^ g .overflow .counter

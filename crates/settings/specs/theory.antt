@@ -4,3 +4,4 @@ pub mod Logs
 pub mod Primes
 pub mod Legal
 pub mod Proper
+pub mod Dues

@@ -1,3 +1,2 @@
 -- Definitions: what a reader must believe.
 pub mod Reply
-pub mod TextReply

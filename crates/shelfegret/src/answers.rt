@@ -3,16 +3,15 @@ use crate::Answer;
 use keys::Key;
 use settings::Refusal;
 use settings::Size;
-use table::AddAnswer;
 use table::CheckAnswer;
-use table::DeleteAnswer;
-use table::FindAnswer;
 use table::MakeAnswer;
 use table::RecordAnswer;
+use table::Word;
 use text_read::Parsed;
 use text_write::Written;
 ghost use mathlib.Core.Path.{_≡_};
-ghost use Rattle.shelfegret.specs.Reply.{refusedReply, saying, numbered, sizeReply, makeReply, addReply, findReply, deleteReply, recordReply, checkReply, readReply, writeReply};
+ghost use Rattle.table.specs.Answer.{wordNumber};
+ghost use Rattle.shelfegret.specs.Reply.{refusedReply, saying, numbered, sizeReply, makeReply, answerReply, recordReply, checkReply, readReply, writeReply};
 
 // The words' numbers; 0 is no word.
 const NO_WORD: u32 = 0;
@@ -34,7 +33,7 @@ const UNSOUND: u32 = 7;
 const NO_KEY: Key = Key { high: 0, low: 0 };
 
 // A refusal: its number, and all else 0.
-pub(crate) fn refused(why: Refusal) -> Answer
+fn refused(why: Refusal) -> Answer
     ensures { λ r. ⌜ r ≡ refusedReply why ⌝ }
 {
     Answer {
@@ -93,33 +92,29 @@ pub(crate) fn made(a: MakeAnswer) -> Answer
     }
 }
 
-pub(crate) fn added(key: Key, a: AddAnswer) -> Answer
-    ensures { λ r. ⌜ r ≡ addReply key a ⌝ }
+// A word's number.
+fn number_of(word: Word) -> u32
+    ensures { λ r. ⌜ r ≡ wordNumber word ⌝ }
 {
-    match a {
-        AddAnswer::Added { label, compared } => said(ADDED, key, label, compared),
-        AddAnswer::Held { label, compared } => said(HELD, key, label, compared),
-        AddAnswer::Refused(why) => refused(why),
+    match word {
+        Word::Added => ADDED,
+        Word::Held => HELD,
+        Word::Gone => GONE,
+        Word::None => NONE,
     }
 }
 
-pub(crate) fn found(key: Key, a: FindAnswer) -> Answer
-    ensures { λ r. ⌜ r ≡ findReply key a ⌝ }
+// What add, find and delete answer, for the key asked for.
+pub(crate) fn answered(key: Key, a: table::Answer) -> Answer
+    ensures { λ r. ⌜ r ≡ answerReply key a ⌝ }
 {
     match a {
-        FindAnswer::Held { label, compared } => said(HELD, key, label, compared),
-        FindAnswer::None { compared } => said(NONE, key, 0, compared),
-        FindAnswer::Refused(why) => refused(why),
-    }
-}
-
-pub(crate) fn deleted(key: Key, a: DeleteAnswer) -> Answer
-    ensures { λ r. ⌜ r ≡ deleteReply key a ⌝ }
-{
-    match a {
-        DeleteAnswer::Gone { label, compared } => said(GONE, key, label, compared),
-        DeleteAnswer::None { compared } => said(NONE, key, 0, compared),
-        DeleteAnswer::Refused(why) => refused(why),
+        table::Answer::Said {
+            word,
+            label,
+            compared,
+        } => said(number_of(word), key, label, compared),
+        table::Answer::Refused(why) => refused(why),
     }
 }
 

@@ -1,9 +1,7 @@
 // The calls on a table. None requires anything of its caller, and a refused one changes no lent byte.
 use crate::Answer;
-use crate::answers::added;
+use crate::answers::answered;
 use crate::answers::checked;
-use crate::answers::deleted;
-use crate::answers::found;
 use crate::answers::made;
 use crate::answers::recorded;
 use crate::answers::sized;
@@ -11,8 +9,9 @@ use keys::Key;
 use settings::Settings;
 ghost use mathlib.Core.Path.{_≡_};
 ghost use Rattle.settings.specs.Made.{sizeOf};
-ghost use Rattle.table.specs.Calls.{makeAnswer, makeBytes, addAnswer, addBytes, findAnswer, deleteAnswer, deleteBytes, recordAnswer, checkAnswer, checkMarks};
-ghost use Rattle.shelfegret.specs.Reply.{sizeReply, makeReply, addReply, findReply, deleteReply, recordReply, checkReply};
+ghost use Rattle.settings.specs.Reply.{answering, Gives};
+ghost use Rattle.table.specs.Calls.{find, add, delete, makeCall, keyCall, recordCall, checkCall};
+ghost use Rattle.shelfegret.specs.Reply.{sizeReply, makeReply, answerReply, recordReply, checkReply};
 
 // The number of bytes that the table needs.
 #[no_mangle]
@@ -25,7 +24,7 @@ pub extern "C" fn shelfegret_size(s: Settings) -> Answer
 // The table in the lent bytes becomes a new one; the answer has no word.
 #[no_mangle]
 pub extern "C" fn shelfegret_make(s: Settings, t: &mut [u8]) -> Answer
-    ensures { λ r. ⌜ (r ≡ makeReply (makeAnswer s (now (t .entry)))) × (now (t .exit) ≡ makeBytes s (now (t .entry))) ⌝ }
+    ensures { λ r. ⌜ Gives (answering makeReply (makeCall s (now (t .entry)))) r (now (t .exit)) ⌝ }
 {
     made(table_make::make(s, t))
 }
@@ -33,31 +32,31 @@ pub extern "C" fn shelfegret_make(s: Settings, t: &mut [u8]) -> Answer
 // "added" with the label, or "held" with the old one.
 #[no_mangle]
 pub extern "C" fn shelfegret_add(s: Settings, t: &mut [u8], key: Key, label: u64) -> Answer
-    ensures { λ r. ⌜ (r ≡ addReply key (addAnswer s (now (t .entry)) key label)) × (now (t .exit) ≡ addBytes s (now (t .entry)) key label) ⌝ }
+    ensures { λ r. ⌜ Gives (answering (answerReply key) (keyCall s (now (t .entry)) (add label) key)) r (now (t .exit)) ⌝ }
 {
-    added(key, table_add::add(s, t, key, label))
+    answered(key, table_add::add(s, t, key, label))
 }
 
 // "held" with the label, or "none".
 #[no_mangle]
 pub extern "C" fn shelfegret_find(s: Settings, t: &[u8], key: Key) -> Answer
-    ensures { λ r. ⌜ r ≡ findReply key (findAnswer s (now (t .entry)) key) ⌝ }
+    ensures { λ r. ⌜ r ≡ answerReply key (keyCall s (now (t .entry)) find key .answer) ⌝ }
 {
-    found(key, table_find::find(s, t, key))
+    answered(key, table_find::find(s, t, key))
 }
 
 // "gone" with the label, or "none".
 #[no_mangle]
 pub extern "C" fn shelfegret_delete(s: Settings, t: &mut [u8], key: Key) -> Answer
-    ensures { λ r. ⌜ (r ≡ deleteReply key (deleteAnswer s (now (t .entry)) key)) × (now (t .exit) ≡ deleteBytes s (now (t .entry)) key) ⌝ }
+    ensures { λ r. ⌜ Gives (answering (answerReply key) (keyCall s (now (t .entry)) delete key)) r (now (t .exit)) ⌝ }
 {
-    deleted(key, table_delete::delete(s, t, key))
+    answered(key, table_delete::delete(s, t, key))
 }
 
 // The key and the label of the nth record, or "none".
 #[no_mangle]
 pub extern "C" fn shelfegret_record(s: Settings, t: &[u8], n: u64) -> Answer
-    ensures { λ r. ⌜ r ≡ recordReply (recordAnswer s (now (t .entry)) n) ⌝ }
+    ensures { λ r. ⌜ r ≡ recordReply (recordCall s (now (t .entry)) n) ⌝ }
 {
     recorded(table_record::record(s, t, n))
 }
@@ -65,7 +64,7 @@ pub extern "C" fn shelfegret_record(s: Settings, t: &[u8], n: u64) -> Answer
 // "sound" or "unsound".
 #[no_mangle]
 pub extern "C" fn shelfegret_check(s: Settings, t: &[u8], marks: &mut [u8]) -> Answer
-    ensures { λ r. ⌜ (r ≡ checkReply (checkAnswer s (now (t .entry)) (now (marks .entry)))) × (now (marks .exit) ≡ checkMarks s (now (t .entry)) (now (marks .entry))) ⌝ }
+    ensures { λ r. ⌜ Gives (answering checkReply (checkCall s (now (t .entry)) (now (marks .entry)))) r (now (marks .exit)) ⌝ }
 {
     checked(table_check::check(s, t, marks))
 }

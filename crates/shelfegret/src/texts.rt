@@ -1,87 +1,49 @@
-// The calls with texts. The settings are checked once and the text is read once, and its key goes into the call and into
-// the answer.
+// The calls with texts, reading and writing.
 use crate::Answer;
-use crate::answers::added;
-use crate::answers::deleted;
-use crate::answers::found;
+use crate::answers::answered;
 use crate::answers::parsed;
-use crate::answers::refused;
 use crate::answers::written;
 use keys::Key;
-use settings::Laid;
-use settings::Refusal;
 use settings::Settings;
-use text_calls::admit_to;
-use text_read::Parsed;
 ghost use mathlib.Core.Path.{_≡_};
+ghost use Rattle.settings.specs.Reply.{answering, Gives};
+ghost use Rattle.table.specs.Calls.{find, add, delete};
 ghost use Rattle.text_read.specs.Answers.{readingOf};
-ghost use Rattle.text_write.specs.Answers.{writingOf, storedOf};
-ghost use Rattle.text_calls.specs.TextCalls.{addTextBytes, deleteTextBytes};
-ghost use Rattle.shelfegret.specs.Reply.{readReply, writeReply};
-ghost use Rattle.shelfegret.specs.TextReply.{addTextReply, findTextReply, deleteTextReply};
+ghost use Rattle.text_write.specs.Answers.{writeCall};
+ghost use Rattle.text_calls.specs.TextCalls.{textCall};
+ghost use Rattle.shelfegret.specs.Reply.{readReply, writeReply, textReply};
 
 // "added" with the label, or "held" with the old one, and the key that the text spells.
 #[no_mangle]
 pub extern "C" fn shelfegret_add_text(s: Settings, t: &mut [u8], text: &[u8], label: u64) -> Answer
-    ensures { λ r. ⌜ (r ≡ addTextReply s (now (t .entry)) (now (text .entry)) label) × (now (t .exit) ≡ addTextBytes s (now (t .entry)) (now (text .entry)) label) ⌝ }
+    ensures { λ r. ⌜ Gives (answering textReply (textCall s (now (t .entry)) (add label) (now (text .entry)))) r (now (t .exit)) ⌝ }
 {
-    match s.layout() {
-        Laid::Layout(g) => match admit_to(s, g, t, text) {
-            Parsed::Key(key) => {
-                if !table_add::fits(label, s.val) {
-                    return refused(Refusal::Label);
-                }
-                let place = key.place(s);
-                let list = place.list;
-                let entry = place.entry;
-                let answer = table_find::find_in(t, g, list, entry);
-                added(
-                    key,
-                    table_add::add_found(t, g, list, answer, entry, label as u32),
-                )
-            }
-            Parsed::Refused(why) => refused(why),
-        },
-        Laid::Refused(why) => refused(why),
-    }
+    let a = text_calls::add_text(s, t, text, label);
+    let key = a.key;
+    let added = a.answer;
+    answered(key, added)
 }
 
 // "held" with the label, or "none", and the key that the text spells.
 #[no_mangle]
 pub extern "C" fn shelfegret_find_text(s: Settings, t: &[u8], text: &[u8]) -> Answer
-    ensures { λ r. ⌜ r ≡ findTextReply s (now (t .entry)) (now (text .entry)) ⌝ }
+    ensures { λ r. ⌜ r ≡ textReply (textCall s (now (t .entry)) find (now (text .entry)) .answer) ⌝ }
 {
-    match s.layout() {
-        Laid::Layout(g) => match admit_to(s, g, t, text) {
-            Parsed::Key(key) => {
-                let place = key.place(s);
-                let list = place.list;
-                found(key, table_find::find_in(t, g, list, place.entry))
-            }
-            Parsed::Refused(why) => refused(why),
-        },
-        Laid::Refused(why) => refused(why),
-    }
+    let a = text_calls::find_text(s, t, text);
+    let key = a.key;
+    let found = a.answer;
+    answered(key, found)
 }
 
 // "gone" with the label, or "none", and the key that the text spells.
 #[no_mangle]
 pub extern "C" fn shelfegret_delete_text(s: Settings, t: &mut [u8], text: &[u8]) -> Answer
-    ensures { λ r. ⌜ (r ≡ deleteTextReply s (now (t .entry)) (now (text .entry))) × (now (t .exit) ≡ deleteTextBytes s (now (t .entry)) (now (text .entry))) ⌝ }
+    ensures { λ r. ⌜ Gives (answering textReply (textCall s (now (t .entry)) delete (now (text .entry)))) r (now (t .exit)) ⌝ }
 {
-    match s.layout() {
-        Laid::Layout(g) => match admit_to(s, g, t, text) {
-            Parsed::Key(key) => {
-                let place = key.place(s);
-                let list = place.list;
-                let entry = place.entry;
-                let answer = table_find::find_in(t, g, list, entry);
-                deleted(key, table_delete::delete_found(t, g, list, answer, entry))
-            }
-            Parsed::Refused(why) => refused(why),
-        },
-        Laid::Refused(why) => refused(why),
-    }
+    let a = text_calls::delete_text(s, t, text);
+    let key = a.key;
+    let deleted = a.answer;
+    answered(key, deleted)
 }
 
 // The key that the text spells.
@@ -95,7 +57,7 @@ pub extern "C" fn shelfegret_read_text(text: &[u8]) -> Answer
 // The length of the key's text, which is then the front of the lent bytes.
 #[no_mangle]
 pub extern "C" fn shelfegret_write_text(key: Key, out: &mut [u8]) -> Answer
-    ensures { λ r. ⌜ (r ≡ writeReply (writingOf key (now (out .entry)))) × (now (out .exit) ≡ storedOf key (now (out .entry))) ⌝ }
+    ensures { λ r. ⌜ Gives (answering writeReply (writeCall key (now (out .entry)))) r (now (out .exit)) ⌝ }
 {
     written(text_write::write(key, out))
 }

@@ -9,12 +9,12 @@ use Rattle.keys.specs.theory.Examples.{remainder-of-7, hash-of-7}
 use Rattle.settings.specs.declared.settings.Settings.{Settings}
 use Rattle.keys.specs.declared.Key.{Key}
 use Rattle.settings.specs.declared.refusal.Refusal.the-variants as refusal
-use Rattle.table.specs.Calls.{makeBytes, addBytes, addAnswer, deleteBytes, findAnswer}
+use Rattle.table.specs.Calls.{Verb, find, add, delete, makeCall, keyCall}
 use Rattle.table.specs.theory.Computing as tables
-use Rattle.table.specs.declared.answers.AddAnswer.{AddAnswer}
-use Rattle.table.specs.declared.answers.AddAnswer.the-variants as adding
-use Rattle.table.specs.declared.answers.FindAnswer.{FindAnswer}
-use Rattle.table.specs.declared.answers.FindAnswer.the-variants as finding
+use Rattle.table.specs.declared.answers.Answer.{Answer}
+use Rattle.table.specs.Answer.{said}
+use Rattle.table.specs.declared.answers.Answer.the-variants as answer
+use Rattle.table.specs.declared.answers.Word.the-variants as word
 use Rattle.text_read.specs.Answers.{readingOf}
 use Rattle.text_read.specs.declared.Parsed.the-variants as parsed
 use Rattle.text_calls.specs.Ascii.{ascii}
@@ -27,12 +27,10 @@ pub data Claim : Type 0 where
   makes : List ℕ → Claim
   -- adding the keys in turn to the table gives that table
   adds : List ℕ → List ℕ → List ℕ → Claim
-  -- adding the key to the table is answered so
-  answersAdd : List ℕ → ℕ → AddAnswer → Claim
+  -- the call with the key on the table is answered so
+  answers : List ℕ → Verb → ℕ → Answer → Claim
   -- deleting the key from the table gives that table
   deletes : List ℕ → ℕ → List ℕ → Claim
-  -- finding the key in the table is answered so
-  answersFind : List ℕ → ℕ → FindAnswer → Claim
   -- under the settings, the entry's remainder modulo p is this, and its low bii bits are that
   remainderIs : Settings → ℕ → ℕ → ℕ → Claim
   -- the text is legal, and is read as this key
@@ -52,14 +50,13 @@ key n = record { high = 0; low = n }
 -- the keys added in turn, each with label 0
 abbrev pub addAll : List ℕ → List ℕ → List ℕ
 addAll t [] = t
-addAll t (k ∷ ks) = addAll (addBytes T t (key k) 0) ks
+addAll t (k ∷ ks) = addAll (keyCall T t (add 0) (key k) .bytes) ks
 
 abbrev pub Holds : Claim → Type 0
-Holds (makes u) = makeBytes T (0xff ∷ 0xff ∷ 0xff ∷ 0xff ∷ 0xff ∷ []) ≡ u
+Holds (makes u) = makeCall T (0xff ∷ 0xff ∷ 0xff ∷ 0xff ∷ 0xff ∷ []) .bytes ≡ u
 Holds (adds t ks u) = addAll t ks ≡ u
-Holds (answersAdd t k r) = addAnswer T t (key k) 0 ≡ r
-Holds (deletes t k u) = deleteBytes T t (key k) ≡ u
-Holds (answersFind t k r) = findAnswer T t (key k) ≡ r
+Holds (answers t v k r) = keyCall T t v (key k) .answer ≡ r
+Holds (deletes t k u) = keyCall T t delete (key k) .bytes ≡ u
 Holds (remainderIs s e r h) = ((s .a * e + s .b) % primeAbove (s .bii) ≡ r) × (hash s e ≡ h)
 Holds (legal x k) = readingOf (ascii x) ≡ parsed.Key k
 Holds (notLegal x) = readingOf (ascii x) ≡ parsed.Refused refusal.Text
@@ -92,10 +89,10 @@ ofTables =
     makes new
     ∷ adds new (1 ∷ 2 ∷ 4 ∷ []) three
     ∷ adds three (5 ∷ []) four
-    ∷ answersAdd four 32 (adding.Refused refusal.NoBlock)
-    ∷ answersAdd four 0 (adding.Added 0 0)
+    ∷ answers four (add 0) 32 (answer.Refused refusal.NoBlock)
+    ∷ answers four (add 0) 0 (said word.Added 0 0)
     ∷ deletes four 1 afterDelete
-    ∷ answersFind afterDelete 4 (finding.Held 0 3)
+    ∷ answers afterDelete find 4 (said word.Held 0 3)
     ∷ []
 
 abbrev pub ofTexts : List Claim

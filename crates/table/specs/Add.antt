@@ -13,8 +13,9 @@ use Rattle.table.specs.Follow.{Content, lastOf, content}
 use Rattle.table.specs.Find.{isHeld, labelAt, comparedIn}
 use Rattle.table.specs.Done.{Done, done, Answered, unchanged, answered}
 use Rattle.table.specs.Take.{nextFree, taking, taken}
-use Rattle.table.specs.declared.answers.AddAnswer.{AddAnswer}
-use Rattle.table.specs.declared.answers.AddAnswer.the-variants as answer
+use Rattle.table.specs.Answer.{said}
+use Rattle.table.specs.declared.answers.Answer.the-variants as answer
+use Rattle.table.specs.declared.answers.Word.the-variants as word
 
 -- the slot x more in an overflow block. "Counter c below sio means c + 1 entries"
 abbrev pub oneMore : ℕ → Overflow → Overflow
@@ -43,13 +44,13 @@ module _ (g : Layout) where
       cond (ltb (suc (o .counter)) (g .sio)) (done (overOverflow l (oneMore x) st))
       (extended st (c ∷ cs) (o .link) x (λ f. overOverflow l (withFront (g .sio) f)))
 
-  unfoldable pub addFollowed : State → ℕ → ℕ → ℕ → Option Content → Answered AddAnswer
-  addFollowed st i e label none = unchanged st (answer.Refused refusal.Damage)
+  unfoldable pub addFollowed : State → ℕ → ℕ → ℕ → Option Content → Answered
+  addFollowed st i e label none = unchanged (answer.Refused refusal.Damage)
   addFollowed st i e label (some v) =
-      let n = comparedIn g e (v .slots) in
-      cond (isHeld g e (v .slots)) (unchanged st (answer.Held (labelAt g e (v .slots)) n))
-      (answered answer.Refused st (answer.Added label n) (append st i (v .blocks) (slotOf g e label)))
+      let es = v .slots in
+      cond (isHeld g e es) (unchanged (said word.Held (labelAt g e es) (comparedIn g e es)))
+      (answered (said word.Added label (comparedIn g e es)) (append st i (v .blocks) (slotOf g e label)))
 
   -- add of the entry e with a label to list i
-  unfoldable pub addIn : State → ℕ → ℕ → ℕ → Answered AddAnswer
+  unfoldable pub addIn : State → ℕ → ℕ → ℕ → Answered
   addIn st i e label = addFollowed st i e label (content g st i)

@@ -17,8 +17,9 @@ use Rattle.table.specs.Take.{freed}
 use Rattle.table.specs.Store.{storeAt}
 use Rattle.table.specs.declared.step.Before.{Before}
 use Rattle.table.specs.declared.step.Before.the-variants as prior
-use Rattle.table.specs.declared.answers.DeleteAnswer.{DeleteAnswer}
-use Rattle.table.specs.declared.answers.DeleteAnswer.the-variants as answer
+use Rattle.table.specs.Answer.{said}
+use Rattle.table.specs.declared.answers.Answer.the-variants as answer
+use Rattle.table.specs.declared.answers.Word.the-variants as word
 
 -- the last slot of an overflow block off, and zeroed
 abbrev pub lastSlotOff : Overflow → Overflow
@@ -61,14 +62,13 @@ module _ (g : Layout) where
       let es = v .slots in
       shrink (storeAt g st i (v .blocks) p (getD es (length es - 1) 0)) i (v .blocks)
 
-  unfoldable pub deleteFollowed : State → ℕ → ℕ → Option Content → Answered DeleteAnswer
-  deleteFollowed st i e none = unchanged st (answer.Refused refusal.Damage)
+  unfoldable pub deleteFollowed : State → ℕ → ℕ → Option Content → Answered
+  deleteFollowed st i e none = unchanged (answer.Refused refusal.Damage)
   deleteFollowed st i e (some v) =
       let es = v .slots in
-      let n = comparedIn g e es in
-      cond (isHeld g e es) (answered answer.Refused st (answer.Gone (labelAt g e es) n) (takeOut st i v (position g e es)))
-      (unchanged st (answer.None n))
+      cond (isHeld g e es) (answered (said word.Gone (labelAt g e es) (comparedIn g e es)) (takeOut st i v (position g e es)))
+      (unchanged (said word.None 0 (comparedIn g e es)))
 
   -- delete of the entry e from list i
-  unfoldable pub deleteIn : State → ℕ → ℕ → Answered DeleteAnswer
+  unfoldable pub deleteIn : State → ℕ → ℕ → Answered
   deleteIn st i e = deleteFollowed st i e (content g st i)

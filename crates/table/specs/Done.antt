@@ -1,24 +1,40 @@
 -- How a change of the table ends, and what the call answers then.
-use Rattle.settings.specs.declared.refusal.Refusal.{Refusal}
+use mathlib.Core.List.{List}
+use mathlib.Core.Option.{Option, none, some}
+use Prim.Native.Nat.{ℕ}
 use Rattle.settings.specs.declared.refusal.Refusal.the-variants as refusal
+use Rattle.settings.specs.declared.layout.Layout.{Layout}
+use Rattle.settings.specs.Reply.{Reply, reply}
 use Rattle.table.specs.State.{State}
+use Rattle.table.specs.Decode.{written}
+use Rattle.table.specs.declared.answers.Answer.{Answer}
+use Rattle.table.specs.declared.answers.Answer.the-variants as answer
 
 pub data Done : Type 0 where
   damage : Done
   noBlock : Done
   done : State → Done
 
--- an answer, and the state after it
-pub record Answered (A : Type 0) : Type 0 where
-  pub answer : A
-  pub after : State
+-- an answer, and the state after it; none if nothing is changed
+pub record Answered : Type 0 where
+  pub answer : Answer
+  pub after : Option State
 
 -- the answer a, nothing changed
-abbrev pub unchanged : {A : Type 0} → State → A → Answered A
-unchanged st a = record { answer = a; after = st }
+abbrev pub unchanged : Answer → Answered
+unchanged a = record { answer = a; after = none }
 
--- the answer a to a change of st, if it was done
-abbrev pub answered : {A : Type 0} → (Refusal → A) → State → A → Done → Answered A
-answered refuse st a damage = unchanged st (refuse refusal.Damage)
-answered refuse st a noBlock = unchanged st (refuse refusal.NoBlock)
-answered refuse st a (done u) = record { answer = a; after = u }
+-- the answer a to a change, if it was done
+abbrev pub answered : Answer → Done → Answered
+answered a damage = unchanged (answer.Refused refusal.Damage)
+answered a noBlock = unchanged (answer.Refused refusal.NoBlock)
+answered a (done st) = record { answer = a; after = some st }
+
+-- the bytes t with a state in them, if it is another
+abbrev pub bytesWith : Layout → List ℕ → Option State → List ℕ
+bytesWith g t none = t
+bytesWith g t (some st) = written g t st
+
+-- an answer on the lent bytes t
+abbrev pub replied : Layout → List ℕ → Answered → Reply Answer
+replied g t a = reply (a .answer) (bytesWith g t (a .after))

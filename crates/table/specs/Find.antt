@@ -9,8 +9,10 @@ use Rattle.settings.specs.declared.layout.Layout.{Layout}
 use Rattle.settings.specs.declared.refusal.Refusal.the-variants as refusal
 use Rattle.table.specs.State.{State, entryOf, labelOf}
 use Rattle.table.specs.Follow.{Content, content}
-use Rattle.table.specs.declared.answers.FindAnswer.{FindAnswer}
-use Rattle.table.specs.declared.answers.FindAnswer.the-variants as found
+use Rattle.table.specs.declared.answers.Answer.{Answer}
+use Rattle.table.specs.Answer.{said}
+use Rattle.table.specs.declared.answers.Answer.the-variants as answer
+use Rattle.table.specs.declared.answers.Word.the-variants as word
 
 module _ (g : Layout) where
   -- where the entry e stands first, from 0; the list's length if it does not. "If an entry stands twice, the first counts"
@@ -29,12 +31,13 @@ module _ (g : Layout) where
   abbrev pub comparedIn : ℕ → List ℕ → ℕ
   comparedIn e es = cond (isHeld e es) (suc (position e es)) (length es)
 
-  -- "Find: "held" with label, or "none""
-  unfoldable pub findFollowed : ℕ → Option Content → FindAnswer
-  findFollowed e none = found.Refused refusal.Damage
+  -- "Find: "held" with label, or "none" (label 0)"
+  unfoldable pub findFollowed : ℕ → Option Content → Answer
+  findFollowed e none = answer.Refused refusal.Damage
   findFollowed e (some v) =
-      cond (isHeld e (v .slots)) (found.Held (labelAt e (v .slots)) (comparedIn e (v .slots))) (found.None (comparedIn e (v .slots)))
+      let es = v .slots in
+      cond (isHeld e es) (said word.Held (labelAt e es) (comparedIn e es)) (said word.None 0 (comparedIn e es))
 
   -- find of the entry e in list i
-  unfoldable pub findIn : State → ℕ → ℕ → FindAnswer
+  unfoldable pub findIn : State → ℕ → ℕ → Answer
   findIn st i e = findFollowed e (content g st i)

@@ -4,6 +4,7 @@ pub mod State
 pub mod Updates
 pub mod Decode
 pub mod Follow
+pub mod Answer
 pub mod Find
 pub mod Done
 pub mod Take

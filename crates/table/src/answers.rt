@@ -7,21 +7,22 @@ pub enum MakeAnswer {
     Refused(Refusal),
 }
 
-pub enum FindAnswer {
-    Held { label: u32, compared: u32 },
-    None { compared: u32 },
-    Refused(Refusal),
+// The four words.
+pub enum Word {
+    Added,
+    Held,
+    Gone,
+    None,
 }
 
-pub enum AddAnswer {
-    Added { label: u32, compared: u32 },
-    Held { label: u32, compared: u32 },
-    Refused(Refusal),
-}
-
-pub enum DeleteAnswer {
-    Gone { label: u32, compared: u32 },
-    None { compared: u32 },
+// What add, find and delete answer. The word stands between the two numbers, so that nobody copies both at once: such a
+// load would wait until both have reached the cache.
+pub enum Answer {
+    Said {
+        label: u32,
+        word: Word,
+        compared: u32,
+    },
     Refused(Refusal),
 }
 

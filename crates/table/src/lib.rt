@@ -2,11 +2,10 @@
 mod answers;
 mod step;
 
-pub use answers::AddAnswer;
+pub use answers::Answer;
 pub use answers::CheckAnswer;
-pub use answers::DeleteAnswer;
-pub use answers::FindAnswer;
 pub use answers::MakeAnswer;
 pub use answers::RecordAnswer;
+pub use answers::Word;
 pub use step::Before;
 pub use step::Step;

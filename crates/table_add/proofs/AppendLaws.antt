@@ -16,7 +16,7 @@ use Rattle.settings.specs.declared.refusal.Refusal.the-variants as refusal
 use Rattle.table.specs.State.{Basic, Overflow, State, basicAt, overflowAt, emptyBlock, ownSlots, basicOf}
 use Rattle.table.specs.Updates.{overBasic, overOverflow, withFree, withFront, withSlot, withCounter, withBasicCounter, withBasicFront}
 use Rattle.bits.specs.theory.Fields.{field-fits}
-use Rattle.table.specs.Decode.{blockAt, readOverflow, decode, written}
+use Rattle.table.specs.Decode.{blockAt, readOverflow, decode}
 use Rattle.table.specs.theory.Changes.{at-over}
 use Rattle.table.specs.Table.{Table}
 use Rattle.table.specs.Take.{occurs, taken}
@@ -27,10 +27,11 @@ use Rattle.table.specs.Store.{slotIn}
 use Rattle.table_read.specs.BlockSlots.{hasBlock}
 use Rattle.table_read.specs.theory.Walks.{followed, content-short, content-long}
 use Rattle.table.specs.theory.Formed.{basics, overflows}
-use Rattle.table.specs.theory.Written.{written-own}
 use Rattle.table_read.specs.theory.BlockSlots.{has-as}
-use Rattle.table.specs.declared.answers.AddAnswer.{AddAnswer}
-use Rattle.table.specs.declared.answers.AddAnswer.the-variants as answer
+use Rattle.table.specs.declared.answers.Answer.{Answer}
+use Rattle.table.specs.Answer.{said}
+use Rattle.table.specs.declared.answers.Answer.the-variants as answer
+use Rattle.table.specs.declared.answers.Word.the-variants as word
 use Rattle.table_store.specs.Stores.{freePut, basicCounterPut, overflowCounterPut, slotPut, Stored}
 use Rattle.table_store.specs.theory.StoreLaws.{stored-then, stored-as, stored-written, basic-twice, overflow-twice, stored-free, stored-basic-counter, stored-overflow-counter, stored-basic-slot, stored-overflow-slot}
 use Rattle.table_add.specs.Adds.{slotFor, freeOf, appendTo, appending, Appended, EndsIn}
@@ -67,21 +68,17 @@ module _ (g : Layout) (t : List ℕ) (T : Table g t) (y : Bytes t) (i : ℕ) (v 
   abbrev b : Basic
   b = basicAt (decode g t .basic) i
 
-  abbrev added : AddAnswer
-  added = answer.Added (v .label) (v .compared)
+  abbrev added : Answer
+  added = said word.Added (v .label) (v .compared)
 
-  abbrev told : Done → Answered AddAnswer
-  told = answered answer.Refused (decode g t) (answer.Added (v .label) (v .compared))
+  abbrev told : Done → Answered
+  told = answered added
 
-  done-as : (u : List ℕ) (su : State) (r : AddAnswer) → appendTo g (decode g t) i v ≡ done su → Stored g t u su → r ≡ added → Appended g t u i v r
+  done-as : (u : List ℕ) (su : State) (r : Answer) → appendTo g (decode g t) i v ≡ done su → Stored g t u su → r ≡ added → Appended g t u i v r
   done-as u su r e s er = record { answer = rw e er; bytes = rw e (stored-written T y s) }
 
-  refused-as : (why : Refusal) → appending g (decode g t) i v ≡ unchanged (decode g t) (answer.Refused why) → Appended g t t i v (answer.Refused why)
-  refused-as why e =
-      record {
-        answer = ap (λ (a : Answered AddAnswer). a .answer) (sym e);
-        bytes = sym (written-own g (T .proper) t) ∙ ap (λ (a : Answered AddAnswer). written g t (a .after)) (sym e);
-      }
+  refused-as : (why : Refusal) → appending g (decode g t) i v ≡ unchanged (answer.Refused why) → Appended g t t i v (answer.Refused why)
+  refused-as why e = rw e (record { answer = refl; bytes = refl })
 
   module _ (hi : i < g .lists) (hx : slotFor g v < 2 ^ g .slot) where
     -- room in the basic block
@@ -91,7 +88,7 @@ module _ (g : Layout) (t : List ℕ) (T : Table g t) (y : Bytes t) (i : ℕ) (v 
     room-is c hc ec =
         rw (content-short g st i (omega arith), lt-ltb (b .counter) (g .sib) (omega arith), ← ec)
 
-    pub append-room : (c : ℕ) → c < g .sib → c ≡ b .counter → (a u : List ℕ) (at : ℕ) (r : AddAnswer)
+    pub append-room : (c : ℕ) → c < g .sib → c ≡ b .counter → (a u : List ℕ) (at : ℕ) (r : Answer)
         → at ≡ basicSlot g i c → a ≡ slotPut g t at (slotFor g v) → u ≡ basicCounterPut g a i (c + 1) → r ≡ added → Appended g t u i v r
     append-room c hc ec a u at r ep ea eu er =
         let F = T .proper in
@@ -116,7 +113,7 @@ module _ (g : Layout) (t : List ℕ) (T : Table g t) (y : Bytes t) (i : ℕ) (v 
       pub first-refused : (why : Refusal) → freeOf g st ≡ free.Refused why → Appended g t t i v (answer.Refused why)
       first-refused why e = refused-as why (ap told full-is ∙ no-take g st [] _ added why e)
 
-      pub append-first : (f l next : ℕ) (k : Takes g st f next) → l ≡ b .head → (a u : List ℕ) (r : AddAnswer)
+      pub append-first : (f l next : ℕ) (k : Takes g st f next) → l ≡ b .head → (a u : List ℕ) (r : Answer)
           → Stored g t a (overBasic i (withBasicFront (g .sib + 1) f) st) → Stored g a u (taken g f next l (slotFor g v) (decode g a)) → r ≡ added
           → Appended g t u i v r
       append-first f l next k el a u r A B er =
@@ -162,7 +159,7 @@ module _ (g : Layout) (t : List ℕ) (T : Table g t) (y : Bytes t) (i : ℕ) (v 
       unfolding appendTo
       over-is = rw (content-long g st i (W .full) followed-is) (over-of (followed-is .blocks) last-is)
 
-      pub append-last : (n : ℕ) → n ≡ suc (o .counter) → n < g .sio → (a u : List ℕ) (at : ℕ) (r : AddAnswer)
+      pub append-last : (n : ℕ) → n ≡ suc (o .counter) → n < g .sio → (a u : List ℕ) (at : ℕ) (r : Answer)
           → at ≡ overflowSlot g j n → a ≡ slotPut g t at (slotFor g v) → u ≡ overflowCounterPut g a j n → r ≡ added → Appended g t u i v r
       append-last n en hn a u at r ep ea eu er =
           let F = T .proper in
@@ -189,7 +186,7 @@ module _ (g : Layout) (t : List ℕ) (T : Table g t) (y : Bytes t) (i : ℕ) (v 
         pub more-met : (f next : ℕ) → Takes g st f next → true ≡ hasBlock g (g .nob) (st .overflow) h f → Appended g t t i v (answer.Refused refusal.Damage)
         more-met f next k m = refused-as refusal.Damage (ap told (more-is ∙ k .met (followed-is .blocks) _ (sym (m ∙ has-is f))))
 
-        pub append-more : (f l next : ℕ) → Takes g st f next → false ≡ hasBlock g (g .nob) (st .overflow) h f → l ≡ o .link → (a u : List ℕ) (r : AddAnswer)
+        pub append-more : (f l next : ℕ) → Takes g st f next → false ≡ hasBlock g (g .nob) (st .overflow) h f → l ≡ o .link → (a u : List ℕ) (r : Answer)
             → Stored g t a (goOn f st) → Stored g a u (taken g f next l (slotFor g v) (decode g a)) → r ≡ added
             → Appended g t u i v r
         append-more f l next k m el a u r A B er =

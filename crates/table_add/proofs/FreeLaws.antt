@@ -23,8 +23,8 @@ use Rattle.table_read.specs.theory.Walks.{last-low, content-short}
 use Rattle.table_read.specs.theory.BlockSlots.{Chained, gather-some, last-block-slot, long-full, long-ends, long-blocks, long-length}
 use Rattle.table_read.specs.theory.Reads.{unpack-length}
 use Rattle.table_read.specs.declared.lists.BlockSlot.{BlockSlot}
-use Rattle.table.specs.declared.answers.AddAnswer.{AddAnswer}
-use Rattle.table.specs.declared.answers.AddAnswer.the-variants as answer
+use Rattle.table.specs.declared.answers.Answer.{Answer}
+use Rattle.table.specs.declared.answers.Answer.the-variants as answer
 use Rattle.keys.specs.declared.BlockNumber.{BlockNumber}
 use Rattle.keys.specs.declared.FreeStart.{FreeStart}
 use Rattle.table_add.specs.Adds.{freeBlock, freeOf, EndsIn, Readable}
@@ -118,11 +118,11 @@ module _ (g : Layout) (st : State) where
   same-why why was e = cc
 
   -- where there is no free block, the answer is that refusal, whatever list asks
-  pub no-take : (bs : List ℕ) (y : Done) (a : AddAnswer) (why : Refusal) → freeOf g st ≡ free.Refused why
-      → answered answer.Refused st a (taking g st bs y) ≡ unchanged st (answer.Refused why)
+  pub no-take : (bs : List ℕ) (y : Done) (a : Answer) (why : Refusal) → freeOf g st ≡ free.Refused why
+      → answered a (taking g st bs y) ≡ unchanged (answer.Refused why)
   unfolding freeOf
   no-take bs y a why =
-      let say : Refusal → Answered AddAnswer = λ w. unchanged st (answer.Refused w) in
+      let say : Refusal → Answered = λ w. unchanged (answer.Refused w) in
       cases (ltb (g .nob) (st .free))
       (λ p. rw p (λ e. ap say (same-why why refusal.Damage e)))
       (λ p. cases (eqb (st .free) (g .nob))

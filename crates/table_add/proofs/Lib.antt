@@ -1,3 +1,4 @@
 -- Laws that only the proofs of this crate use.
 mod FreeLaws
 mod AppendLaws
+mod AddLaws

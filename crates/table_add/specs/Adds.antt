@@ -1,4 +1,4 @@
--- What the functions below add are asked and answer. Only their contracts cite these; the call's own cites `Call`.
+-- What the functions below add are asked and answer. Only their contracts cite these; the call's own does not.
 use Prim.Native.Nat.{ℕ, suc, _<_}
 use mathlib.Core.Path.{_≡_}
 use mathlib.Core.Bool.{cond}
@@ -10,16 +10,18 @@ use Rattle.keys.specs.Key.{keyNumber}
 use Rattle.settings.specs.declared.layout.Layout.{Layout}
 use Rattle.settings.specs.declared.refusal.Refusal.the-variants as refusal
 use Rattle.table.specs.State.{State, basicAt, overflowAt, slotOf}
-use Rattle.table.specs.Decode.{decode, written}
+use Rattle.table.specs.Decode.{decode}
 use Rattle.table.specs.Table.{Table}
 use Rattle.table.specs.Follow.{Content, content}
 use Rattle.table.specs.Take.{nextFree}
 use Rattle.table.specs.Add.{append}
 use Rattle.table_read.specs.Steps.{lastFrom}
-use Rattle.table.specs.Done.{Done, Answered, answered}
+use Rattle.table.specs.Done.{Done, Answered, answered, replied}
 use Rattle.table.specs.Check.{blocksOf}
-use Rattle.table.specs.declared.answers.AddAnswer.{AddAnswer}
-use Rattle.table.specs.declared.answers.AddAnswer.the-variants as answer
+use Rattle.settings.specs.Reply.{Gives}
+use Rattle.table.specs.declared.answers.Answer.{Answer}
+use Rattle.table.specs.Answer.{said}
+use Rattle.table.specs.declared.answers.Word.the-variants as word
 use Rattle.table_store.specs.Stores.{Slotted}
 use Rattle.table_add.specs.declared.append.Item.{Item}
 use Rattle.table_add.specs.declared.append.Free.{Free}
@@ -46,8 +48,8 @@ module _ (g : Layout) where
   unfoldable pub appendTo : State → ℕ → Item → Done
   appendTo st i v = append g st i (blocksOf (content g st i)) (slotFor g v)
 
-  abbrev pub appending : State → ℕ → Item → Answered AddAnswer
-  appending st i v = answered answer.Refused st (answer.Added (v .label) (v .compared)) (appendTo st i v)
+  abbrev pub appending : State → ℕ → Item → Answered
+  appending st i v = answered (said word.Added (v .label) (v .compared)) (appendTo st i v)
 
 pub record Appendable (g : Layout) (t : List ℕ) (i : ℕ) (v : Item) : Type 0 where
   pub table : Table g t
@@ -55,9 +57,8 @@ pub record Appendable (g : Layout) (t : List ℕ) (i : ℕ) (v : Item) : Type 0 
   pub slotted : Slotted g (keyNumber (v .entry)) (v .label)
 
 -- u and r are what appending v to list i of t comes to
-pub record Appended (g : Layout) (t u : List ℕ) (i : ℕ) (v : Item) (r : AddAnswer) : Type 0 where
-  pub answer : r ≡ appending g (decode g t) i v .answer
-  pub bytes : u ≡ written g t (appending g (decode g t) i v .after)
+abbrev pub Appended : Layout → List ℕ → List ℕ → ℕ → Item → Answer → Type 0
+Appended g t u i v r = Gives (replied g t (appending g (decode g t) i v)) r u
 
 -- list i overflows into the blocks from h on, of which j is the last
 pub record EndsIn (g : Layout) (st : State) (i h j : ℕ) : Type 0 where

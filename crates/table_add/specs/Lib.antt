@@ -1,6 +1,4 @@
--- What the call's contract cites.
-pub mod Call
 -- Words of private contracts.
 pub mod Adds
--- What is proved of them.
+-- What other crates use.
 pub mod theory

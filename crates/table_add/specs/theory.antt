@@ -1,1 +1,1 @@
-pub mod AddLaws
+pub mod Labels

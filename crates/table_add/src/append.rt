@@ -6,7 +6,8 @@ use keys::ListNumber;
 use keys::SlotNumber;
 use settings::Layout;
 use settings::Refusal;
-use table::AddAnswer;
+use table::Answer;
+use table::Word;
 use table_read::blocks::basic_head;
 use table_read::blocks::free_start;
 use table_read::blocks::overflow_link;
@@ -28,7 +29,8 @@ ghost use Rattle.table.specs.State.{basicAt, overflowAt};
 ghost use Rattle.table.specs.Decode.{decode};
 ghost use Rattle.table.specs.Table.{Table};
 ghost use Rattle.table.specs.Take.{taken};
-ghost use Rattle.table.specs.declared.answers.AddAnswer.the-variants as answer;
+ghost use Rattle.table.specs.Answer.{said};
+ghost use Rattle.table.specs.declared.answers.Word.the-variants as word;
 ghost use Rattle.table_store.specs.Stores.{Slotted, Stored};
 ghost use Rattle.table_add.specs.Adds.{slotFor, freeOf, Appendable, Appended, EndsIn, Readable};
 
@@ -40,10 +42,11 @@ pub struct Item {
 }
 
 impl Item {
-    fn added(self) -> AddAnswer
-        ensures { λ r. ⌜ r ≡ answer.Added (self .label) (self .compared) ⌝ }
+    fn added(self) -> Answer
+        ensures { λ r. ⌜ r ≡ said word.Added (self .label) (self .compared) ⌝ }
     {
-        AddAnswer::Added {
+        Answer::Said {
+            word: Word::Added,
             label: self.label,
             compared: self.compared,
         }
@@ -108,7 +111,7 @@ fn take(t: &mut [u8], g: Layout, f: BlockNumber, displaced: usize, next: FreeSta
 }
 
 // The basic block has room.
-fn append_room(t: &mut [u8], g: Layout, i: ListNumber, c: usize, v: Item) -> AddAnswer
+fn append_room(t: &mut [u8], g: Layout, i: ListNumber, c: usize, v: Item) -> Answer
     requires { ⌜ Appendable g (now t) (i .0) v × (c < g .sib) × (c ≡ basicAt (decode g (now t) .basic) (i .0) .counter) ⌝ }
     ensures { λ r. ⌜ Appended g (now (t .entry)) (now (t .exit)) (i .0) v r ⌝ }
 {
@@ -127,7 +130,7 @@ fn append_room(t: &mut [u8], g: Layout, i: ListNumber, c: usize, v: Item) -> Add
 }
 
 // The basic block is full, and gets its first overflow block.
-fn append_first(t: &mut [u8], g: Layout, i: ListNumber, v: Item) -> AddAnswer
+fn append_first(t: &mut [u8], g: Layout, i: ListNumber, v: Item) -> Answer
     requires { ⌜ Appendable g (now t) (i .0) v × (basicAt (decode g (now t) .basic) (i .0) .counter ≡ g .sib) ⌝ }
     ensures { λ r. ⌜ Appended g (now (t .entry)) (now (t .exit)) (i .0) v r ⌝ }
 {
@@ -138,7 +141,7 @@ fn append_first(t: &mut [u8], g: Layout, i: ListNumber, v: Item) -> AddAnswer
             take(t, g, number, displaced, next, v);
             v.added()
         }
-        Free::Refused(why) => AddAnswer::Refused(why),
+        Free::Refused(why) => Answer::Refused(why),
     }
 }
 
@@ -150,21 +153,21 @@ fn append_more(
     h: BlockNumber,
     j: BlockNumber,
     v: Item,
-) -> AddAnswer
+) -> Answer
     requires { ⌜ Appendable g (now t) (i .0) v × EndsIn g (decode g (now t)) (i .0) (h .0) (j .0) × (g .sio ≤ suc (overflowAt (decode g (now t) .overflow) (j .0) .counter)) ⌝ }
     ensures { λ r. ⌜ Appended g (now (t .entry)) (now (t .exit)) (i .0) v r ⌝ }
 {
     match first_free(t, g) {
         Free::Block { number, next } => {
             if list_has_block(t, g, h, number) {
-                return AddAnswer::Refused(Refusal::Damage);
+                return Answer::Refused(Refusal::Damage);
             }
             let displaced = overflow_link(t, g, j);
             put_overflow_front(t, g, j, g.sio, number.0);
             take(t, g, number, displaced, next, v);
             v.added()
         }
-        Free::Refused(why) => AddAnswer::Refused(why),
+        Free::Refused(why) => Answer::Refused(why),
     }
 }
 
@@ -177,7 +180,7 @@ fn append_overflow(
     j: BlockNumber,
     n: usize,
     v: Item,
-) -> AddAnswer
+) -> Answer
     requires { ⌜ Appendable g (now t) (i .0) v × EndsIn g (decode g (now t)) (i .0) (h .0) (j .0) × (n ≡ suc (overflowAt (decode g (now t) .overflow) (j .0) .counter)) ⌝ }
     ensures { λ r. ⌜ Appended g (now (t .entry)) (now (t .exit)) (i .0) v r ⌝ }
 {
@@ -200,7 +203,7 @@ fn append_overflow(
 
 // At the end of list i, which can be followed there. All its entries were compared, so that their number says
 // whether it overflows, and where its last entry stands.
-pub(crate) fn append(t: &mut [u8], g: Layout, i: ListNumber, v: Item) -> AddAnswer
+pub(crate) fn append(t: &mut [u8], g: Layout, i: ListNumber, v: Item) -> Answer
     requires { ⌜ Appendable g (now t) (i .0) v × Readable g (decode g (now t)) (i .0) (v .compared) ⌝ }
     ensures { λ r. ⌜ Appended g (now (t .entry)) (now (t .exit)) (i .0) v r ⌝ }
 {

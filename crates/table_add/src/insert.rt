@@ -2,63 +2,55 @@
 use crate::append::Item;
 use crate::append::append;
 use keys::Key;
-use keys::ListNumber;
 use settings::Laid;
 use settings::Layout;
 use settings::Refusal;
 use settings::Settings;
-use table::AddAnswer;
-use table::FindAnswer;
+use table::Answer;
+use table::Word;
+use table_find::Admission;
+use table_find::Sought;
+use table_find::admit;
 use table_find::find_in;
 ghost use mathlib.Core.Path.{_≡_};
-ghost use Prim.Native.Nat.{ℕ, _^_, _≤_, _<_};
+ghost use Prim.Native.Nat.{_^_, _≤_, _<_};
 ghost use lib.Dec.{ltb};
-ghost use Rattle.keys.specs.Key.{keyNumber};
-ghost use Rattle.table.specs.Decode.{decode};
-ghost use Rattle.table.specs.Find.{findIn};
-ghost use Rattle.table.specs.Table.{Table};
-ghost use Rattle.table.specs.declared.answers.AddAnswer.the-variants as answer;
-ghost use Rattle.table_store.specs.Stores.{Slotted};
-ghost use Rattle.table_add.specs.Call.{Added, AddCall};
+ghost use lib.ListN.{length};
+ghost use Rattle.settings.specs.Reply.{Gives};
+ghost use Rattle.settings.specs.declared.layout.Laid.the-variants as laid;
+ghost use Rattle.table.specs.Calls.{add, keyCall};
+ghost use Rattle.table_find.specs.Seek.{openOf, soughtOf};
 
-fn held(label: u32, compared: u32) -> AddAnswer
-    ensures { λ r. ⌜ r ≡ answer.Held label compared ⌝ }
+// The key with its label, once it was sought. The settings and the key are named by the contract alone.
+pub fn add_sought(t: &mut [u8], s: Settings, g: Layout, key: Key, v: Sought, label: u32) -> Answer
+    requires { ⌜ (openOf s (length (now t)) key ≡ laid.Layout g) × (v ≡ soughtOf s (now t) key) × (label < 2 ^ s .val) ⌝ }
+    ensures { λ r. ⌜ Gives (keyCall s (now (t .entry)) (add label) key) r (now (t .exit)) ⌝ }
 {
-    let answer = AddAnswer::Held {
-        label: label,
-        compared: compared,
-    };
-    answer
-}
-
-// An entry with its label, to list i, once it is known what find answers.
-pub fn add_found(
-    t: &mut [u8],
-    g: Layout,
-    i: ListNumber,
-    found: FindAnswer,
-    entry: Key,
-    label: u32,
-) -> AddAnswer
-    requires { ⌜ Table g (now t) × (i .0 < g .lists) × Slotted g (keyNumber entry) label × (found ≡ findIn g (decode g (now t)) (i .0) (keyNumber entry)) ⌝ }
-    ensures { λ r. ⌜ Added g (now (t .entry)) (now (t .exit)) (i .0) (keyNumber entry) label r ⌝ }
-{
+    let place = v.place;
+    let found = v.found;
     match found {
-        FindAnswer::Held {
-            label: old,
+        Answer::Said {
+            word,
+            label: _,
             compared,
-        } => held(old, compared),
-        FindAnswer::None { compared } => append(
-            t,
-            g,
-            i,
-            Item {
-                entry: entry,
-                label: label,
-                compared: compared,
-            },
-        ),
-        FindAnswer::Refused(why) => AddAnswer::Refused(why),
+        } => match word {
+            Word::None => {
+                let list = place.list;
+                let entry = place.entry;
+                append(
+                    t,
+                    g,
+                    list,
+                    Item {
+                        entry: entry,
+                        label: label,
+                        compared: compared,
+                    },
+                )
+            }
+            _ => found,
+        },
+        _ => found,
     }
 }
 
@@ -70,44 +62,24 @@ pub fn fits(label: u64, val: u32) -> bool
     label >> val == 0
 }
 
-// The same answer, with the label that was handed over: read back together with the number that was stored beside it, it
-// would wait until both have reached the cache.
-fn with_label(said: AddAnswer, label: u32) -> AddAnswer
-    requires { ⌜ ((l n : ℕ) → said ≡ answer.Added l n → l ≡ label) ⌝ }
-    ensures { λ r. ⌜ r ≡ said ⌝ }
-{
-    match said {
-        AddAnswer::Added { label: _, compared } => AddAnswer::Added { label, compared },
-        AddAnswer::Held {
-            label: old,
-            compared,
-        } => held(old, compared),
-        AddAnswer::Refused(why) => AddAnswer::Refused(why),
-    }
-}
-
 // A refusal, and "held", leave every byte.
-pub fn add(s: Settings, t: &mut [u8], key: Key, label: u64) -> AddAnswer
-    ensures { λ r. ⌜ AddCall s (now (t .entry)) (now (t .exit)) key label r ⌝ }
+pub fn add(s: Settings, t: &mut [u8], key: Key, label: u64) -> Answer
+    ensures { λ r. ⌜ Gives (keyCall s (now (t .entry)) (add label) key) r (now (t .exit)) ⌝ }
 {
     match s.layout() {
-        Laid::Layout(g) => {
-            if t.len() < g.bytes {
-                return AddAnswer::Refused(Refusal::Short);
+        Laid::Layout(g) => match admit(s, g, t, key) {
+            Admission::Granted => {
+                if !fits(label, s.val) {
+                    return Answer::Refused(Refusal::Label);
+                }
+                let place = key.place(s);
+                let list = place.list;
+                let found = find_in(t, g, list, place.entry);
+                let v = Sought { place, found };
+                add_sought(t, s, g, key, v, label as u32)
             }
-            if !key.within(s.w) {
-                return AddAnswer::Refused(Refusal::Key);
-            }
-            if !fits(label, s.val) {
-                return AddAnswer::Refused(Refusal::Label);
-            }
-            let place = key.place(s);
-            let list = place.list;
-            let entry = place.entry;
-            let found = find_in(t, g, list, entry);
-            let said = add_found(t, g, list, found, entry, label as u32);
-            with_label(said, label as u32)
-        }
-        Laid::Refused(why) => AddAnswer::Refused(why),
+            Admission::Refused(why) => Answer::Refused(why),
+        },
+        Laid::Refused(why) => Answer::Refused(why),
     }
 }

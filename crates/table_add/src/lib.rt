@@ -3,5 +3,5 @@ mod append;
 mod insert;
 
 pub use insert::add;
-pub use insert::add_found;
+pub use insert::add_sought;
 pub use insert::fits;

@@ -14,8 +14,9 @@ ghost use Prim.Native.Nat.{_*_, _≤_};
 ghost use lib.ListN.{length};
 ghost use Rattle.settings.specs.Proper.{Proper};
 ghost use Rattle.table.specs.Check.{tableSound};
-ghost use Rattle.table.specs.Calls.{checkAnswer, checkMarks};
-ghost use Rattle.table_check.specs.Answers.{Clear, Audited, checkedAnswer, checkedMarks};
+ghost use Rattle.settings.specs.Reply.{Gives};
+ghost use Rattle.table.specs.Calls.{checkCall};
+ghost use Rattle.table_check.specs.Answers.{Clear, Audited, checkedCall};
 
 // Whether the table is sound; the marks are zero before.
 fn sound(t: &[u8], g: Layout, marks: &mut [u8]) -> bool
@@ -48,7 +49,7 @@ fn audited(t: &[u8], g: Layout, marks: &mut [u8]) -> bool
 
 fn checked(t: &[u8], g: Layout, marks: &mut [u8]) -> CheckAnswer
     requires { ⌜ Proper g ⌝ }
-    ensures { λ r. ⌜ (r ≡ checkedAnswer g (now (t .entry)) (now (marks .entry))) × (now (marks .exit) ≡ checkedMarks g (now (t .entry)) (now (marks .entry))) ⌝ }
+    ensures { λ r. ⌜ Gives (checkedCall g (now (t .entry)) (now (marks .entry))) r (now (marks .exit)) ⌝ }
 {
     if t.len() < g.bytes {
         return CheckAnswer::Refused(Refusal::Short);
@@ -66,7 +67,7 @@ fn checked(t: &[u8], g: Layout, marks: &mut [u8]) -> CheckAnswer
 // Whether the table is sound. "Its lent marks, ⌈nob / 8⌉ bytes, are zero afterwards; lent bytes beyond
 // them are untouched."
 pub fn check(s: Settings, t: &[u8], marks: &mut [u8]) -> CheckAnswer
-    ensures { λ r. ⌜ (r ≡ checkAnswer s (now (t .entry)) (now (marks .entry))) × (now (marks .exit) ≡ checkMarks s (now (t .entry)) (now (marks .entry))) ⌝ }
+    ensures { λ r. ⌜ Gives (checkCall s (now (t .entry)) (now (marks .entry))) r (now (marks .exit)) ⌝ }
 {
     match s.layout() {
         Laid::Layout(g) => checked(t, g, marks),

@@ -1,4 +1,4 @@
--- What the functions below delete are asked and answer. Only their contracts cite these; the call's own cites `Call`.
+-- What the functions below delete are asked and answer. Only their contracts cite these; the call's own does not.
 use Prim.Native.Nat.{ℕ, _<_}
 use mathlib.Core.Path.{_≡_}
 use mathlib.Core.Bool.{Bool, false, cond}

@@ -1,6 +1,2 @@
--- What the call's contract cites.
-pub mod Call
 -- Words of private contracts.
 pub mod DeleteSteps
--- What is proved of them.
-pub mod theory

@@ -3,4 +3,4 @@ mod remove;
 mod shrink;
 
 pub use remove::delete;
-pub use remove::delete_found;
+pub use remove::delete_sought;

@@ -11,8 +11,11 @@ use settings::Laid;
 use settings::Layout;
 use settings::Refusal;
 use settings::Settings;
-use table::DeleteAnswer;
-use table::FindAnswer;
+use table::Answer;
+use table::Word;
+use table_find::Admission;
+use table_find::Sought;
+use table_find::admit;
 use table_find::find_in;
 use table_read::blocks::basic_counter;
 use table_read::blocks::basic_head;
@@ -25,14 +28,16 @@ use table_store::get_slot;
 use table_store::put_basic_counter;
 use table_store::store_at_place;
 ghost use mathlib.Core.Path.{_≡_};
-ghost use Prim.Native.Nat.{_^_, _≤_, _<_};
-ghost use Rattle.keys.specs.Key.{keyNumber};
+ghost use Prim.Native.Nat.{_≤_, _<_};
+ghost use lib.ListN.{length};
+ghost use Rattle.settings.specs.Reply.{Gives};
+ghost use Rattle.settings.specs.declared.layout.Laid.the-variants as laid;
 ghost use Rattle.table.specs.State.{basicAt};
 ghost use Rattle.table.specs.Decode.{decode};
-ghost use Rattle.table.specs.Find.{findIn};
 ghost use Rattle.table.specs.Table.{Table};
 ghost use Rattle.table_delete.specs.DeleteSteps.{Placed, Removed};
-ghost use Rattle.table_delete.specs.Call.{Deleted, DeleteCall};
+ghost use Rattle.table.specs.Calls.{delete, keyCall};
+ghost use Rattle.table_find.specs.Seek.{openOf, soughtOf};
 
 // Place p of list i, which has c slots in use and no overflow blocks.
 fn remove_short(t: &mut [u8], g: Layout, i: ListNumber, c: usize, p: usize) -> bool
@@ -82,51 +87,52 @@ fn remove(t: &mut [u8], g: Layout, i: ListNumber, p: usize) -> bool
     remove_long(t, g, i, p)
 }
 
-// An entry from list i, once it is known what find answers. What find compared is the place of the entry, counted
-// from 1. Only the contract names the entry itself.
-pub fn delete_found(
-    t: &mut [u8],
-    g: Layout,
-    i: ListNumber,
-    found: FindAnswer,
-    entry: Key,
-) -> DeleteAnswer
-    requires { ⌜ Table g (now t) × (i .0 < g .lists) × (keyNumber entry < 2 ^ g .bie) × (found ≡ findIn g (decode g (now t)) (i .0) (keyNumber entry)) ⌝ }
-    ensures { λ r. ⌜ Deleted g (now (t .entry)) (now (t .exit)) (i .0) (keyNumber entry) r ⌝ }
+// The key, once it was sought. What find compared is the place of the entry, counted from 1. The settings and the key are
+// named by the contract alone.
+pub fn delete_sought(t: &mut [u8], s: Settings, g: Layout, key: Key, v: Sought) -> Answer
+    requires { ⌜ (openOf s (length (now t)) key ≡ laid.Layout g) × (v ≡ soughtOf s (now t) key) ⌝ }
+    ensures { λ r. ⌜ Gives (keyCall s (now (t .entry)) delete key) r (now (t .exit)) ⌝ }
 {
+    let place = v.place;
+    let found = v.found;
     match found {
-        FindAnswer::Held { label, compared } => {
-            if remove(t, g, i, compared as usize - 1) {
-                return DeleteAnswer::Gone {
-                    label: label,
-                    compared: compared,
-                };
+        Answer::Said {
+            word,
+            label,
+            compared,
+        } => match word {
+            Word::Held => {
+                let list = place.list;
+                if remove(t, g, list, compared as usize - 1) {
+                    return Answer::Said {
+                        word: Word::Gone,
+                        label: label,
+                        compared: compared,
+                    };
+                }
+                Answer::Refused(Refusal::Damage)
             }
-            DeleteAnswer::Refused(Refusal::Damage)
-        }
-        FindAnswer::None { compared } => DeleteAnswer::None { compared: compared },
-        FindAnswer::Refused(why) => DeleteAnswer::Refused(why),
+            _ => found,
+        },
+        _ => found,
     }
 }
 
 // A refusal, and "none", leave every byte.
-pub fn delete(s: Settings, t: &mut [u8], key: Key) -> DeleteAnswer
-    ensures { λ r. ⌜ DeleteCall s (now (t .entry)) (now (t .exit)) key r ⌝ }
+pub fn delete(s: Settings, t: &mut [u8], key: Key) -> Answer
+    ensures { λ r. ⌜ Gives (keyCall s (now (t .entry)) delete key) r (now (t .exit)) ⌝ }
 {
     match s.layout() {
-        Laid::Layout(g) => {
-            if t.len() < g.bytes {
-                return DeleteAnswer::Refused(Refusal::Short);
+        Laid::Layout(g) => match admit(s, g, t, key) {
+            Admission::Granted => {
+                let place = key.place(s);
+                let list = place.list;
+                let found = find_in(t, g, list, place.entry);
+                let v = Sought { place, found };
+                delete_sought(t, s, g, key, v)
             }
-            if !key.within(s.w) {
-                return DeleteAnswer::Refused(Refusal::Key);
-            }
-            let place = key.place(s);
-            let list = place.list;
-            let entry = place.entry;
-            let found = find_in(t, g, list, entry);
-            delete_found(t, g, list, found, entry)
-        }
-        Laid::Refused(why) => DeleteAnswer::Refused(why),
+            Admission::Refused(why) => Answer::Refused(why),
+        },
+        Laid::Refused(why) => Answer::Refused(why),
     }
 }

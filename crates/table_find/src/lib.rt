@@ -1,153 +1,73 @@
-// Find: the label of a key, if the table holds it.
-use keys::BlockNumber;
+// Find: the label of a key, if the table holds it. Add and delete seek their key by the same way.
+mod search;
+
 use keys::Key;
-use keys::ListNumber;
-use keys::SlotNumber;
+use keys::Place;
+pub use search::find_in;
 use settings::Laid;
 use settings::Layout;
 use settings::Refusal;
 use settings::Settings;
-use table::FindAnswer;
-use table::Step;
-use table_read::blocks::basic_front;
-use table_read::blocks::overflow_front;
-use table_read::blocks::overflow_link;
-use table_read::blocks::step_of;
-use table_read::lists::Last;
-use table_read::lists::basic_run;
-use table_read::lists::displaced_run;
-use table_read::lists::follow;
-use table_read::lists::overflow_run;
-use table_read::slots::confirm;
-use table_read::slots::label_at;
-use table_read::slots::looked_at;
-use table_read::slots::scan;
-use table_read::slots::scan_displaced;
-use table_read::windows::candidate;
+use table::Answer;
 ghost use mathlib.Core.Path.{_≡_};
-ghost use Prim.Native.Nat.{_+_, _*_, _^_, _≤_, _<_};
 ghost use lib.ListN.{length};
-ghost use Rattle.bits.specs.Field.{field};
-ghost use Rattle.keys.specs.Key.{keyNumber};
-ghost use Rattle.table.specs.Decode.{decode};
-ghost use Rattle.table.specs.Table.{Table};
-ghost use Rattle.table.specs.Find.{findIn};
-ghost use Rattle.table.specs.Calls.{findAnswer};
-ghost use Rattle.table_read.specs.Steps.{slotsIn, basicRun, Followed, Overflows, gatherFrom, findFrom};
-ghost use Rattle.table.specs.declared.answers.FindAnswer.the-variants as found;
+ghost use Rattle.settings.specs.declared.layout.Laid.the-variants as laid;
+ghost use Rattle.table.specs.Calls.{find, keyCall};
+ghost use Rattle.settings.specs.Made.{laidOf};
+ghost use Rattle.table_find.specs.Seek.{openOf, laidIf, soughtOf};
 
-// Held, with the label of val bits from bit `at` on; n entries were compared.
-fn held(t: &[u8], at: usize, val: usize, n: usize) -> FindAnswer
-    requires { ⌜ (at + val ≤ 8 * length (now t)) × (val ≤ 32) × (n ≤ 2 ^ 21) ⌝ }
-    ensures { λ r. ⌜ r ≡ found.Held (field (now (t .entry)) at val) n ⌝ }
-{
-    FindAnswer::Held {
-        label: bits::get(t, at, val) as u32,
-        compared: n as u32,
-    }
+// A key in its list: where it belongs, and what find answers.
+pub struct Sought {
+    pub place: Place,
+    pub found: Answer,
 }
 
-// The entry in the overflow blocks from `first` on, where following them met no damage and k slots
-// stand before them.
-fn find_blocks(t: &[u8], g: Layout, first: BlockNumber, entry: Key, k: usize) -> FindAnswer
-    requires { ⌜ Table g (now t) × Followed g (g .nob) (decode g (now t) .overflow) (first .0) × (keyNumber entry < 2 ^ g .bie) × (k ≤ 255) ⌝ }
-    ensures { λ r. ⌜ r ≡ findFrom g (keyNumber entry) (gatherFrom g (g .nob) (decode g (now (t .entry)) .overflow) (first .0)) k ⌝ }
-{
-    let mut b = first;
-    let mut n = k;
-    let mut q: usize = 0;
-    while q < g.nob {
-        let front = overflow_front(t, g, b);
-        let run = overflow_run(g, b, front.counter);
-        let j = scan(&t[..], run, g.sio, g.slot, g.bie, entry);
-        if j.0 < run.count {
-            return held(t, run.start + j.0 * g.slot + g.bie, g.val, n + (j.0 + 1));
-        }
-        n += run.count;
-        let Step::Further(next) = step_of(front, g.sio) else {
-            return FindAnswer::None { compared: n as u32 };
-        };
-        b = next;
-        q += 1;
-    }
-    FindAnswer::None { compared: n as u32 }
+// Whether a call goes on to the table.
+pub enum Admission {
+    Granted,
+    Refused(Refusal),
 }
 
-// The entry in the first slots of a basic block, which are all of the list. Its steps are those of `scan`, taken apart:
-// a miss ends before anything is kept that only a hit needs.
-fn find_short(t: &[u8], g: Layout, i: ListNumber, count: usize, entry: Key) -> FindAnswer
-    requires { ⌜ Table g (now t) × (i .0 < g .lists) × (count ≤ g .sib) × (keyNumber entry < 2 ^ g .bie) ⌝ }
-    ensures { λ r. ⌜ r ≡ findFrom g (keyNumber entry) (slotsIn g (now (t .entry)) (basicRun g (i .0) count)) 0 ⌝ }
+// The first of refusals 2 and 5 that is due, once the layout is known. The layout is not handed back: it would be copied
+// at every call.
+pub fn admit(s: Settings, g: Layout, t: &[u8], key: Key) -> Admission
+    requires { ⌜ laidOf s ≡ laid.Layout g ⌝ }
+    ensures { λ r. ⌜ laidIf g r ≡ openOf s (length (now (t .entry))) key ⌝ }
 {
-    let run = basic_run(g, i, count);
-    let n = looked_at(count, g.sib);
-    let from = SlotNumber(candidate(&t[..], run.start, n, g.slot, g.bie, entry.high, entry.low));
-    if from.0 >= count {
-        return FindAnswer::None {
-            compared: count as u32,
-        };
+    if t.len() < g.bytes {
+        return Admission::Refused(Refusal::Short);
     }
-    let j = confirm(&t[..], run, from, g.slot, g.bie, entry);
-    if j.0 < count {
-        return held(t, run.start + j.0 * g.slot + g.bie, g.val, j.0 + 1);
+    if !key.within(s.w) {
+        return Admission::Refused(Refusal::Key);
     }
-    FindAnswer::None {
-        compared: j.0 as u32,
-    }
+    Admission::Granted
 }
 
-// The entry in list i, whose overflow blocks start at `first`. They are followed to the last before
-// anything is compared: its link has the first bits of the basic block's slots.
-fn find_long(t: &[u8], g: Layout, i: ListNumber, first: BlockNumber, entry: Key) -> FindAnswer
-    requires { ⌜ Table g (now t) × (i .0 < g .lists) × Overflows g (decode g (now t)) (i .0) (first .0) × (keyNumber entry < 2 ^ g .bie) ⌝ }
-    ensures { λ r. ⌜ r ≡ findIn g (decode g (now (t .entry))) (i .0) (keyNumber entry) ⌝ }
+// The key in a table that was opened for it. Calls that are made from several places write these lines out: a function that
+// stays one hands its struct back through memory.
+pub fn seek(s: Settings, g: Layout, t: &[u8], key: Key) -> Sought
+    requires { ⌜ openOf s (length (now t)) key ≡ laid.Layout g ⌝ }
+    ensures { λ r. ⌜ r ≡ soughtOf s (now (t .entry)) key ⌝ }
 {
-    let Last::Block(last) = follow(t, g, first) else {
-        return FindAnswer::Refused(Refusal::Damage);
-    };
-    let displaced = overflow_link(t, g, last);
-    let run = displaced_run(g, i, displaced);
-    let j = scan_displaced(&t[..], run, g.slot, g.bie, entry.high, entry.low);
-    if j.0 < g.sib {
-        return FindAnswer::Held {
-            label: label_at(t, run, run.start + j.0 * g.slot + g.bie, g.val),
-            compared: (j.0 + 1) as u32,
-        };
-    }
-    find_blocks(t, g, first, entry, g.sib)
-}
-
-// The entry in list i. "Counter 0 to sib counts entries; sib + 1 means overflow."
-pub fn find_in(t: &[u8], g: Layout, i: ListNumber, entry: Key) -> FindAnswer
-    requires { ⌜ Table g (now t) × (i .0 < g .lists) × (keyNumber entry < 2 ^ g .bie) ⌝ }
-    ensures { λ r. ⌜ r ≡ findIn g (decode g (now (t .entry))) (i .0) (keyNumber entry) ⌝ }
-{
-    let front = basic_front(t, g, i);
-    if front.counter <= g.sib {
-        return find_short(t, g, i, front.counter, entry);
-    }
-    if front.counter > g.sib + 1 {
-        return FindAnswer::Refused(Refusal::Damage);
-    }
-    find_long(t, g, i, BlockNumber(front.link), entry)
+    let place = key.place(s);
+    let list = place.list;
+    let found = find_in(t, g, list, place.entry);
+    Sought { place, found }
 }
 
 // "Find: "held" with label, or "none"".
-pub fn find(s: Settings, t: &[u8], key: Key) -> FindAnswer
-    ensures { λ r. ⌜ r ≡ findAnswer s (now (t .entry)) key ⌝ }
+pub fn find(s: Settings, t: &[u8], key: Key) -> Answer
+    ensures { λ r. ⌜ r ≡ keyCall s (now (t .entry)) find key .answer ⌝ }
 {
     match s.layout() {
-        Laid::Layout(g) => {
-            if t.len() < g.bytes {
-                return FindAnswer::Refused(Refusal::Short);
+        Laid::Layout(g) => match admit(s, g, t, key) {
+            Admission::Granted => {
+                let place = key.place(s);
+                let list = place.list;
+                find_in(t, g, list, place.entry)
             }
-            if !key.within(s.w) {
-                return FindAnswer::Refused(Refusal::Key);
-            }
-            let place = key.place(s);
-            let list = place.list;
-            find_in(t, g, list, place.entry)
-        }
-        Laid::Refused(why) => FindAnswer::Refused(why),
+            Admission::Refused(why) => Answer::Refused(why),
+        },
+        Laid::Refused(why) => Answer::Refused(why),
     }
 }

@@ -12,11 +12,12 @@ ghost use Prim.Native.Nat.{_<_};
 ghost use Rattle.table.specs.Table.{Table};
 ghost use Rattle.table.specs.New.{newOverflow};
 ghost use Rattle.table_make.specs.NewSteps.{linked};
-ghost use Rattle.table.specs.Calls.{makeAnswer, makeBytes};
+ghost use Rattle.settings.specs.Reply.{Gives};
+ghost use Rattle.table.specs.Calls.{makeCall};
 
 // The table in the lent bytes becomes a new one; bytes beyond its size stay.
 pub fn make(s: Settings, t: &mut [u8]) -> MakeAnswer
-    ensures { λ r. ⌜ (r ≡ makeAnswer s (now (t .entry))) × (now (t .exit) ≡ makeBytes s (now (t .entry))) ⌝ }
+    ensures { λ r. ⌜ Gives (makeCall s (now (t .entry))) r (now (t .exit)) ⌝ }
 {
     match s.layout() {
         Laid::Layout(g) => {

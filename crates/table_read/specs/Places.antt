@@ -1,14 +1,15 @@
 -- Where the fields of a block stand, of either kind. Only contracts of functions cite these; the calls' own do not.
 use mathlib.Core.List.{List}
-use Prim.Native.Nat.{ℕ, _+_, _*_, _^_, _≤_, _<_}
+use Prim.Native.Nat.{ℕ, _+_, _*_, _≤_, _<_}
 use lib.ListN.{length}
+use Rattle.settings.specs.Legal.{mostBits}
 use Rattle.settings.specs.declared.layout.Blocks.{Blocks}
 use Rattle.settings.specs.declared.layout.Layout.{Layout}
 use Rattle.table.specs.Decode.{blockAt, basicSlots, overflowSlots}
 
 -- the counter of block i, and the w bits behind it, are within the block, which ends where places are small
 pub record Fields (b : Blocks) (i w : ℕ) : Type 0 where
-  pub near : blockAt b i + b .bits ≤ 2 ^ 27
+  pub near : blockAt b i + b .bits ≤ mostBits
   pub fits : b .counter + w ≤ b .bits
 
 -- the bytes t have block i, with a link of w bits

@@ -6,6 +6,7 @@ use mathlib.Core.List.{List, [], _∷_}
 use mathlib.Core.Option.{Option, none, some}
 use lib.Dec.{ltb}
 use lib.ListN.{length}
+use Rattle.settings.specs.Legal.{mostBits}
 use Rattle.bits.specs.Field.{field}
 use Rattle.bits.specs.Put.{putField}
 use Rattle.settings.specs.declared.layout.Layout.{Layout}
@@ -17,8 +18,9 @@ use Rattle.table.specs.Find.{position, isHeld, labelAt}
 use Rattle.table_read.specs.declared.slots.Slots.{Slots}
 use Rattle.table_read.specs.declared.lists.Last.{Last}
 use Rattle.table_read.specs.declared.lists.Last.the-variants as last
-use Rattle.table.specs.declared.answers.FindAnswer.{FindAnswer}
-use Rattle.table.specs.declared.answers.FindAnswer.the-variants as found
+use Rattle.table.specs.declared.answers.Answer.{Answer}
+use Rattle.table.specs.Answer.{said}
+use Rattle.table.specs.declared.answers.Word.the-variants as word
 
 -- the bytes in which the first bits of the slots b are what they count as
 unfoldable pub restoredBytes : List ℕ → Slots → List ℕ
@@ -28,7 +30,7 @@ restoredBytes t b = putField t (b .start) (b .displaced) (b .value)
 pub record FieldWithin (t : List ℕ) (b : Slots) (at n : ℕ) : Type 0 where
   pub from : b .start ≤ at
   pub ends : at + n ≤ 8 * length t
-  pub near : at + n ≤ 2 ^ 27
+  pub near : at + n ≤ mostBits
   pub block : b .start + b .displaced ≤ 8 * length t
   pub narrow : b .displaced ≤ 16
   pub fits : b .value < 2 ^ b .displaced
@@ -44,7 +46,7 @@ module _ (g : Layout) where
   -- the slots b are within the bytes
   pub record SlotsWithin (t : List ℕ) (b : Slots) : Type 0 where
     pub ends : b .start + b .count * g .slot ≤ 8 * length t
-    pub near : b .start + b .count * g .slot ≤ 2 ^ 27
+    pub near : b .start + b .count * g .slot ≤ mostBits
     pub block : b .start + b .displaced ≤ 8 * length t
     pub narrow : b .displaced ≤ 16
     pub fits : b .value < 2 ^ b .displaced
@@ -99,5 +101,5 @@ module _ (g : Layout) where
   gatherFrom n os b = gatherIn os (follow g n os b)
 
   -- what find answers of the entry e in the slots es, where k slots stand before them and do not hold it
-  unfoldable pub findFrom : ℕ → List ℕ → ℕ → FindAnswer
-  findFrom e es k = cond (isHeld g e es) (found.Held (labelAt g e es) (k + suc (position g e es))) (found.None (k + length es))
+  unfoldable pub findFrom : ℕ → List ℕ → ℕ → Answer
+  findFrom e es k = cond (isHeld g e es) (said word.Held (labelAt g e es) (k + suc (position g e es))) (said word.None 0 (k + length es))

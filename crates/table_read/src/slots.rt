@@ -10,6 +10,7 @@ ghost use mathlib.Core.Path.{_≡_};
 ghost use Prim.Native.Nat.{ℕ, _+_, _-_, _*_, _/_, _%_, _^_, _≤_, _<_, min};
 ghost use lib.ListN.{length, getD};
 ghost use lib.Dec.{eqb};
+ghost use Rattle.settings.specs.Legal.{mostBits};
 ghost use Rattle.bits.specs.Field.{field};
 ghost use Rattle.settings.specs.Proper.{Proper};
 ghost use Rattle.keys.specs.Key.{keyNumber, keyOf};
@@ -75,7 +76,7 @@ fn same_entry(t: &[u8], b: Slots, at: usize, n: usize, entry: Key) -> bool
 // Whether the n bits from bit `at` on are the number high * 2^64 + low. Of more than 64 bits the low ones are compared
 // first.
 fn holds(t: &[u8], at: usize, n: usize, high: u64, low: u64) -> bool
-    requires { ⌜ (at + n ≤ 8 * length (now t)) × (at + n ≤ 2 ^ 27) × (n ≤ 128) × (high * 2 ^ 64 + low < 2 ^ n) ⌝ }
+    requires { ⌜ (at + n ≤ 8 * length (now t)) × (at + n ≤ mostBits) × (n ≤ 128) × (high * 2 ^ 64 + low < 2 ^ n) ⌝ }
     ensures { λ r. ⌜ r ≡ eqb (field (now (t .entry)) at n) (high * 2 ^ 64 + low) ⌝ }
 {
     if n <= 64 {

@@ -35,7 +35,7 @@ ghost use Rattle.table.specs.Decode.{decode};
 ghost use Rattle.table.specs.Table.{Table};
 ghost use Rattle.table.specs.Follow.{content};
 ghost use Rattle.table.specs.Record.{recordIn};
-ghost use Rattle.table.specs.Calls.{recordAnswer};
+ghost use Rattle.table.specs.Calls.{recordCall};
 ghost use Rattle.table_read.specs.Steps.{SlotsWithin, slotsIn, Followed, Overflows, gatherFrom};
 ghost use Rattle.table_record.specs.RecordSteps.{Ready, Bounded, nthOf, nthIn};
 ghost use Rattle.table.specs.declared.answers.RecordAnswer.the-variants as answer;
@@ -50,7 +50,7 @@ pub enum Nth {
 
 // "Record n: nth record from 0 (lists by number, entries in list order), or "none"".
 pub fn record(s: Settings, t: &[u8], n: u64) -> RecordAnswer
-    ensures { λ r. ⌜ r ≡ recordAnswer s (now (t .entry)) n ⌝ }
+    ensures { λ r. ⌜ r ≡ recordCall s (now (t .entry)) n ⌝ }
 {
     match s.layout() {
         Laid::Layout(g) => {

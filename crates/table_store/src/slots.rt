@@ -4,6 +4,7 @@ use table_read::slots::Slots;
 ghost use mathlib.Core.Path.{_≡_};
 ghost use Prim.Native.Nat.{_+_, _-_, _*_, _/_, _%_, _^_, _≤_, _<_};
 ghost use lib.ListN.{length};
+ghost use Rattle.settings.specs.Legal.{mostBits};
 ghost use Rattle.bits.specs.Field.{field};
 ghost use Rattle.bits.specs.Put.{putField};
 ghost use Rattle.keys.specs.Key.{keyNumber};
@@ -17,7 +18,7 @@ pub struct Slot {
 
 // The slot at bit `at`, as it stands: its entry, of bie bits, and its label, of val bits.
 pub fn get_slot(t: &[u8], at: usize, bie: usize, val: usize) -> Slot
-    requires { ⌜ (at + (bie + val) ≤ 8 * length (now t)) × (at + (bie + val) ≤ 2 ^ 27) × (bie ≤ 128) × (val ≤ 32) ⌝ }
+    requires { ⌜ (at + (bie + val) ≤ 8 * length (now t)) × (at + (bie + val) ≤ mostBits) × (bie ≤ 128) × (val ≤ 32) ⌝ }
     ensures { λ r. ⌜ (keyNumber (r .entry) ≡ field (now (t .entry)) at bie) × (r .label ≡ field (now (t .entry)) (at + bie) val) ⌝ }
 {
     let label = bits::get(t, at + bie, val) as u32;
@@ -60,7 +61,7 @@ fn below(low: u64, val: usize, label: u32) -> u64
 
 // A slot at bit `at`: its entry, of bie bits, and its label, of val bits. A slot of up to 128 bits is one store.
 pub fn put_slot(t: &mut [u8], at: usize, bie: usize, val: usize, high: u64, low: u64, label: u32)
-    requires { ⌜ (at + (bie + val) ≤ 8 * length (now t)) × (at + (bie + val) ≤ 2 ^ 27) × (bie ≤ 128) × (val ≤ 32) × (high * 2 ^ 64 + low < 2 ^ bie) × (label < 2 ^ val) ⌝ }
+    requires { ⌜ (at + (bie + val) ≤ 8 * length (now t)) × (at + (bie + val) ≤ mostBits) × (bie ≤ 128) × (val ≤ 32) × (high * 2 ^ 64 + low < 2 ^ bie) × (label < 2 ^ val) ⌝ }
     ensures { λ _. ⌜ now (t .exit) ≡ putField (now (t .entry)) at (bie + val) ((high * 2 ^ 64 + low) * 2 ^ val + label) ⌝ }
 {
     let n = bie + val;
@@ -80,7 +81,7 @@ pub fn put_slot(t: &mut [u8], at: usize, bie: usize, val: usize, high: u64, low:
 
 // The n bits from bit `from` on stand from bit `to` on too. All are read before any is written.
 pub fn copy(t: &mut [u8], from: usize, to: usize, n: usize)
-    requires { ⌜ (1 ≤ n) × (n ≤ 160) × (from + n ≤ 8 * length (now t)) × (from + n ≤ 2 ^ 27) × (to + n ≤ 8 * length (now t)) × (to + n ≤ 2 ^ 27) ⌝ }
+    requires { ⌜ (1 ≤ n) × (n ≤ 160) × (from + n ≤ 8 * length (now t)) × (from + n ≤ mostBits) × (to + n ≤ 8 * length (now t)) × (to + n ≤ mostBits) ⌝ }
     ensures { λ _. ⌜ now (t .exit) ≡ putField (now (t .entry)) to n (field (now (t .entry)) from n) ⌝ }
 {
     if n <= 64 {
@@ -112,7 +113,7 @@ pub fn store_over_displaced(
     val: usize,
     v: Slot,
 ) -> usize
-    requires { ⌜ (at + (bie + val) ≤ 8 * length (now t)) × (at + (bie + val) ≤ 2 ^ 27) × (bie ≤ 128) × (val ≤ 32) × (keyNumber (v .entry) < 2 ^ bie) × (v .label < 2 ^ val) ⌝ }
+    requires { ⌜ (at + (bie + val) ≤ 8 * length (now t)) × (at + (bie + val) ≤ mostBits) × (bie ≤ 128) × (val ≤ 32) × (keyNumber (v .entry) < 2 ^ bie) × (v .label < 2 ^ val) ⌝ }
     requires { ⌜ (b .start + b .displaced ≤ 8 * length (now t)) × (b .displaced ≤ 16) × (b .value < 2 ^ b .displaced) ⌝ }
     ensures { λ r. ⌜ StoredOver (b .displaced) (bie + val) (now (t .entry)) (now (t .exit)) (b .start) (b .value) at (keyNumber (v .entry) * 2 ^ val + v .label) r ⌝ }
 {

@@ -4,6 +4,7 @@ use bits::zero_bytes;
 ghost use mathlib.Core.Path.{_≡_};
 ghost use Prim.Native.Nat.{_+_, _-_, _*_, _^_, _≤_, _<_};
 ghost use lib.ListN.{length};
+ghost use Rattle.settings.specs.Legal.{mostBits};
 ghost use Rattle.bits.specs.Put.{putField, replaced};
 ghost use Rattle.bits.specs.Within.{Within};
 
@@ -26,7 +27,7 @@ fn last_bits(b: u8, k: usize) -> u8
 
 // The n bits from bit off on become zero: the last bits of a byte, whole bytes, the first bits of a byte.
 pub fn clear(t: &mut [u8], off: usize, n: usize)
-    requires { ⌜ (off + n ≤ 8 * length (now t)) × (off + n ≤ 2 ^ 27) ⌝ }
+    requires { ⌜ (off + n ≤ 8 * length (now t)) × (off + n ≤ mostBits) ⌝ }
     ensures { λ _. ⌜ now (t .exit) ≡ putField (now (t .entry)) off n 0 ⌝ }
 {
     if n < 16 {
@@ -47,7 +48,7 @@ pub fn clear(t: &mut [u8], off: usize, n: usize)
 // The n bits from bit `off` on become zero, and then the k bits from bit `at` on v: a block is emptied but for its link, a
 // slot goes and the counter says so. It is told plain numbers: a layout that is handed on would have to be copied whole.
 pub fn clear_and_put(t: &mut [u8], off: usize, n: usize, at: usize, k: usize, v: usize)
-    requires { ⌜ (off + n ≤ 8 * length (now t)) × (off + n ≤ 2 ^ 27) × Within (now t) at k × (v < 2 ^ k) ⌝ }
+    requires { ⌜ (off + n ≤ 8 * length (now t)) × (off + n ≤ mostBits) × Within (now t) at k × (v < 2 ^ k) ⌝ }
     ensures { λ _. ⌜ now (t .exit) ≡ putField (putField (now (t .entry)) off n 0) at k v ⌝ }
 {
     clear(t, off, n);

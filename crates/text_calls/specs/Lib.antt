@@ -1,5 +1,7 @@
 -- Definitions: what a reader must believe.
 pub mod TextCalls
 pub mod Ascii
+-- Words of private contracts.
+pub mod Admits
 -- What is proved of them.
 pub mod theory

@@ -1,48 +1,42 @@
--- The calls with texts: "The text layer knows the table only through these calls' stated answers." Codes 3 "a text goes to a table with w other
--- than 128" and 4 "not a legal address" come behind 1 and 2 and before what the call with the key answers.
+-- The calls with texts: "The text layer knows the table only through these calls' stated answers." Codes 3 and 4 come behind 1 and 2, and before
+-- what the call with the key answers.
 use Prim.Native.Nat.{ℕ}
-use mathlib.Core.Bool.{cond}
-use mathlib.Core.List.{List}
-use lib.Dec.{eqb}
+use mathlib.Core.Bool.{Bool, true, false}
+use mathlib.Core.List.{List, [], _∷_}
+use lib.ListN.{length}
 use Rattle.settings.specs.declared.settings.Settings.{Settings}
 use Rattle.keys.specs.declared.Key.{Key}
-use Rattle.settings.specs.declared.refusal.Refusal.{Refusal}
 use Rattle.settings.specs.declared.refusal.Refusal.the-variants as refusal
-use Rattle.table.specs.Calls.{opened, findAnswer, addAnswer, addBytes, deleteAnswer, deleteBytes}
-use Rattle.table.specs.declared.answers.FindAnswer.{FindAnswer}
-use Rattle.table.specs.declared.answers.FindAnswer.the-variants as finding
-use Rattle.table.specs.declared.answers.AddAnswer.{AddAnswer}
-use Rattle.table.specs.declared.answers.AddAnswer.the-variants as adding
-use Rattle.table.specs.declared.answers.DeleteAnswer.{DeleteAnswer}
-use Rattle.table.specs.declared.answers.DeleteAnswer.the-variants as deleting
+use Rattle.settings.specs.Due.{Due, due, settingsDue, shortDue, widthDue}
+use Rattle.settings.specs.Reply.{Reply, answering, called}
+use Rattle.table.specs.Answer.{noKey}
+use Rattle.table.specs.Calls.{Verb, keyCall}
+use Rattle.table.specs.declared.answers.Answer.{Answer}
+use Rattle.table.specs.declared.answers.Answer.the-variants as answer
 use Rattle.text_read.specs.Answers.{readingOf}
 use Rattle.text_read.specs.declared.Parsed.{Parsed}
 use Rattle.text_read.specs.declared.Parsed.the-variants as parsed
+use Rattle.text_calls.specs.declared.calls.TextAnswer.{TextAnswer}
 
--- what a call comes to, given what was read
-abbrev pub byReading : {A : Type 0} → (Refusal → A) → Parsed → (Key → A) → A
-byReading refuse (parsed.Key k) on = on k
-byReading refuse (parsed.Refused why) on = refuse why
+-- the key that was read; 0 if the text is not legal, and refused
+abbrev pub keyRead : Parsed → Key
+keyRead (parsed.Key k) = k
+keyRead (parsed.Refused why) = noKey
 
-abbrev pub withText : {A : Type 0} → (Refusal → A) → Settings → List ℕ → List ℕ → (Key → A) → A
-withText refuse s t x on = opened refuse s t (cond (eqb (s .w) 128) (byReading refuse (readingOf x) on) (refuse refusal.Width))
+abbrev pub notRead : Parsed → Bool
+notRead (parsed.Key k) = false
+notRead (parsed.Refused why) = true
 
--- the key of the text x for the lent table t, or the first of codes 1 to 4 that is due
-unfoldable pub admittedOf : Settings → List ℕ → List ℕ → Parsed
-admittedOf s t x = opened parsed.Refused s t (cond (eqb (s .w) 128) (readingOf x) (parsed.Refused refusal.Width))
+-- 4 "not a legal address"
+abbrev pub textDue : List ℕ → Due
+textDue x = due (notRead (readingOf x)) refusal.Text
 
-module _ (s : Settings) (t x : List ℕ) where
-  unfoldable pub findTextAnswer : FindAnswer
-  findTextAnswer = withText finding.Refused s t x (findAnswer s t)
+-- the call's answer, for the key k that the text is read as
+abbrev pub forKey : Key → Answer → TextAnswer
+forKey k a = record { key = k; answer = a }
 
-  unfoldable pub addTextAnswer : ℕ → AddAnswer
-  addTextAnswer label = withText adding.Refused s t x (λ k. addAnswer s t k label)
-
-  unfoldable pub addTextBytes : ℕ → List ℕ
-  addTextBytes label = withText (λ why. t) s t x (λ k. addBytes s t k label)
-
-  unfoldable pub deleteTextAnswer : DeleteAnswer
-  deleteTextAnswer = withText deleting.Refused s t x (deleteAnswer s t)
-
-  unfoldable pub deleteTextBytes : List ℕ
-  deleteTextBytes = withText (λ why. t) s t x (deleteBytes s t)
+-- add, find and delete with the text x
+unfoldable pub textCall : Settings → List ℕ → Verb → List ℕ → Reply TextAnswer
+textCall s t v x =
+    called (λ why. forKey noKey (answer.Refused why)) t (settingsDue s ∷ shortDue s (length t) ∷ widthDue s ∷ textDue x ∷ [])
+    (answering (forKey (keyRead (readingOf x))) (keyCall s t v (keyRead (readingOf x))))

@@ -1,26 +1,38 @@
-// The calls on a table with texts. They know the table only by what its own calls answer.
+// The calls on a table with texts. The settings are checked once and the text is read once; behind the checks a call is the
+// table's own, with the key that the text spells.
+use keys::Key;
 use settings::Laid;
 use settings::Layout;
 use settings::Refusal;
 use settings::Settings;
-use table::AddAnswer;
-use table::DeleteAnswer;
-use table::FindAnswer;
+use table::Answer;
+use table_add::add_sought;
+use table_add::fits;
+use table_delete::delete_sought;
+use table_find::Sought;
+use table_find::find_in;
 use text_read::Parsed;
 use text_read::read;
 ghost use mathlib.Core.Path.{_≡_};
-ghost use Prim.Native.Nat.{_≤_};
-ghost use lib.ListN.{length};
-ghost use Rattle.keys.specs.declared.Key.{Key};
-ghost use Rattle.text_read.specs.declared.Parsed.the-variants as parsed;
 ghost use Rattle.settings.specs.Made.{laidOf};
+ghost use Rattle.settings.specs.Reply.{Gives};
 ghost use Rattle.settings.specs.declared.layout.Laid.the-variants as laid;
-ghost use Rattle.text_calls.specs.TextCalls.{admittedOf, findTextAnswer, addTextAnswer, addTextBytes, deleteTextAnswer, deleteTextBytes};
+ghost use Rattle.table.specs.Answer.{noKey};
+ghost use Rattle.table.specs.Calls.{find, add, delete};
+ghost use Rattle.table.specs.declared.answers.Answer.the-variants as answer;
+ghost use Rattle.text_calls.specs.TextCalls.{forKey, textCall};
+ghost use Rattle.text_calls.specs.Admits.{admittedOf};
+
+// The answer to a call with a text, and the key that the text spells; key 0 if a refusal comes before it is read.
+pub struct TextAnswer {
+    pub key: Key,
+    pub answer: Answer,
+}
 
 // The key of a text that goes to the lent table, or the first of refusals 2 to 4 that is due; the layout is known.
-pub fn admit_to(s: Settings, g: Layout, t: &[u8], text: &[u8]) -> Parsed
+fn admit(s: Settings, g: Layout, t: &[u8], text: &[u8]) -> Parsed
     requires { ⌜ laidOf s ≡ laid.Layout g ⌝ }
-    ensures { λ r. ⌜ (r ≡ admittedOf s (now (t .entry)) (now (text .entry))) × ((k : Key) → r ≡ parsed.Key k → (g .bytes ≤ length (now (t .entry))) × (s .w ≡ 128)) ⌝ }
+    ensures { λ r. ⌜ r ≡ admittedOf s (now (t .entry)) (now (text .entry)) ⌝ }
 {
     if t.len() < g.bytes {
         return Parsed::Refused(Refusal::Short);
@@ -31,42 +43,76 @@ pub fn admit_to(s: Settings, g: Layout, t: &[u8], text: &[u8]) -> Parsed
     read(text)
 }
 
-// The same, or refusal 1.
-fn admit(s: Settings, t: &[u8], text: &[u8]) -> Parsed
-    ensures { λ r. ⌜ r ≡ admittedOf s (now (t .entry)) (now (text .entry)) ⌝ }
+// Refused before the text was read.
+fn refused(why: Refusal) -> TextAnswer
+    ensures { λ r. ⌜ r ≡ forKey noKey (answer.Refused why) ⌝ }
 {
-    match s.layout() {
-        Laid::Layout(g) => admit_to(s, g, t, text),
-        Laid::Refused(why) => Parsed::Refused(why),
+    TextAnswer {
+        key: Key { high: 0, low: 0 },
+        answer: Answer::Refused(why),
     }
 }
 
 // Find of the address that the text spells.
-pub fn find_text(s: Settings, t: &[u8], text: &[u8]) -> FindAnswer
-    ensures { λ r. ⌜ r ≡ findTextAnswer s (now (t .entry)) (now (text .entry)) ⌝ }
+pub fn find_text(s: Settings, t: &[u8], text: &[u8]) -> TextAnswer
+    ensures { λ r. ⌜ r ≡ textCall s (now (t .entry)) find (now (text .entry)) .answer ⌝ }
 {
-    match admit(s, t, text) {
-        Parsed::Key(key) => table_find::find(s, t, key),
-        Parsed::Refused(why) => FindAnswer::Refused(why),
+    match s.layout() {
+        Laid::Layout(g) => match admit(s, g, t, text) {
+            Parsed::Key(key) => {
+                let place = key.place(s);
+                let list = place.list;
+                let answer = find_in(t, g, list, place.entry);
+                TextAnswer { key, answer }
+            }
+            Parsed::Refused(why) => refused(why),
+        },
+        Laid::Refused(why) => refused(why),
     }
 }
 
 // Add of the address that the text spells.
-pub fn add_text(s: Settings, t: &mut [u8], text: &[u8], label: u64) -> AddAnswer
-    ensures { λ r. ⌜ (r ≡ addTextAnswer s (now (t .entry)) (now (text .entry)) label) × (now (t .exit) ≡ addTextBytes s (now (t .entry)) (now (text .entry)) label) ⌝ }
+pub fn add_text(s: Settings, t: &mut [u8], text: &[u8], label: u64) -> TextAnswer
+    ensures { λ r. ⌜ Gives (textCall s (now (t .entry)) (add label) (now (text .entry))) r (now (t .exit)) ⌝ }
 {
-    match admit(s, t, text) {
-        Parsed::Key(key) => table_add::add(s, t, key, label),
-        Parsed::Refused(why) => AddAnswer::Refused(why),
+    match s.layout() {
+        Laid::Layout(g) => match admit(s, g, t, text) {
+            Parsed::Key(key) => {
+                if !fits(label, s.val) {
+                    return TextAnswer {
+                        key,
+                        answer: Answer::Refused(Refusal::Label),
+                    };
+                }
+                let place = key.place(s);
+                let list = place.list;
+                let found = find_in(t, g, list, place.entry);
+                let v = Sought { place, found };
+                let answer = add_sought(t, s, g, key, v, label as u32);
+                TextAnswer { key, answer }
+            }
+            Parsed::Refused(why) => refused(why),
+        },
+        Laid::Refused(why) => refused(why),
     }
 }
 
 // Delete of the address that the text spells.
-pub fn delete_text(s: Settings, t: &mut [u8], text: &[u8]) -> DeleteAnswer
-    ensures { λ r. ⌜ (r ≡ deleteTextAnswer s (now (t .entry)) (now (text .entry))) × (now (t .exit) ≡ deleteTextBytes s (now (t .entry)) (now (text .entry))) ⌝ }
+pub fn delete_text(s: Settings, t: &mut [u8], text: &[u8]) -> TextAnswer
+    ensures { λ r. ⌜ Gives (textCall s (now (t .entry)) delete (now (text .entry))) r (now (t .exit)) ⌝ }
 {
-    match admit(s, t, text) {
-        Parsed::Key(key) => table_delete::delete(s, t, key),
-        Parsed::Refused(why) => DeleteAnswer::Refused(why),
+    match s.layout() {
+        Laid::Layout(g) => match admit(s, g, t, text) {
+            Parsed::Key(key) => {
+                let place = key.place(s);
+                let list = place.list;
+                let found = find_in(t, g, list, place.entry);
+                let v = Sought { place, found };
+                let answer = delete_sought(t, s, g, key, v);
+                TextAnswer { key, answer }
+            }
+            Parsed::Refused(why) => refused(why),
+        },
+        Laid::Refused(why) => refused(why),
     }
 }

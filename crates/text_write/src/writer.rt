@@ -9,7 +9,8 @@ ghost use lib.ListN.{length, take, drop, getD};
 ghost use lib.Dec.{eqb};
 ghost use Rattle.text_write.specs.Writing.{hexDigit, groupText, partText, textOf};
 ghost use Rattle.text_write.specs.WriterSteps.{Gap, keyGroups, packed, unpacked, closedText, runMarks};
-ghost use Rattle.text_write.specs.Answers.{writingOf, storedOf};
+ghost use Rattle.settings.specs.Reply.{Gives};
+ghost use Rattle.text_write.specs.Answers.{writeCall};
 use crate::Written;
 use keys::Key;
 use settings::Refusal;
@@ -195,7 +196,7 @@ fn copy(text: &[u8], n: usize, out: &mut [u8])
 
 // Writes the text of a key, if it fits.
 pub fn write(key: Key, out: &mut [u8]) -> Written
-    ensures { λ r. ⌜ (r ≡ writingOf key (now (out .entry))) × (now (out .exit) ≡ storedOf key (now (out .entry))) ⌝ }
+    ensures { λ r. ⌜ Gives (writeCall key (now (out .entry))) r (now (out .exit)) ⌝ }
 {
     // At most 39 bytes, and the colon that is left out again.
     let mut text = [0u8; 40];

@@ -1,128 +1,105 @@
--- The calls with a key, whatever it is: the table answers as the set does, and afterwards bytes and set agree again.
-use mathlib.Core.Path.{_≡_, refl, _∙_}
-use mathlib.Core.Bool.{true}
-use mathlib.Core.List.{List}
-use Prim.Native.Nat.{ℕ, _-_, _^_, _<_}
-use lib.ListN.{length}
-use lib.Dec.{leb, ltb}
-use borrow.Author.Tests.{ltb-true, ltb-false, le-leb}
+-- A call with legal inputs on bytes that agree with a set: it answers as the set does, afterwards bytes and set agree again, and of the lists only
+-- the key's own is changed, by what it holds.
+use mathlib.Core.Path.{_≡_, sym, ap, _∙_}
+use mathlib.Core.Bool.{Bool, cond}
+use mathlib.Core.List.{List, []}
+use mathlib.Core.Option.{Option, none, some}
+use Prim.Native.Nat.{ℕ, _^_, _<_}
+use native.Mathlib.Omega.{arith}
+use lib.ListN.{length, getD}
+use lib.Seq.{getD-set-same, getD-set-other}
+use lib.Dec.{eqb}
+use borrow.Author.Tests.{eqb-true, eqb-false}
 use Rattle.laws.specs.Cases.{cases}
 use Rattle.settings.specs.declared.settings.Settings.{Settings}
-use Rattle.keys.specs.declared.Key.{Key}
-use Rattle.settings.specs.declared.refusal.Refusal.{Refusal}
-use Rattle.settings.specs.declared.refusal.Refusal.the-variants as refusal
-use Rattle.settings.specs.Sizes.{tableBytes}
-use Rattle.settings.specs.Legal.{legal, Legal}
+use Rattle.settings.specs.Sizes.{lists}
+use Rattle.settings.specs.Legal.{Legal}
 use Rattle.settings.specs.Layout.{layoutOf}
-use Rattle.keys.specs.Key.{keyNumber, entry, listNumber}
-use Rattle.keys.specs.theory.Keys.{entry-below}
-use Rattle.settings.specs.theory.Legal.{legal-if}
+use Rattle.settings.specs.Reply.{Reply}
 use Rattle.settings.specs.theory.Proper.{layout-proper}
-use Rattle.table.specs.Decode.{decode}
-use Rattle.table.specs.Calls.{findAnswer, adds, addAnswer, addBytes, deletes, deleteAnswer, deleteBytes}
+use Rattle.keys.specs.Key.{entry, listNumber}
+use Rattle.keys.specs.theory.Keys.{entry-below}
+use Rattle.table.specs.State.{State}
+use Rattle.table.specs.Done.{bytesWith, replied}
+use Rattle.table.specs.Calls.{Verb, find, add, delete, listCall, verbDue, held}
 use Rattle.table.specs.Rebuilt.{Pair}
-use Rattle.plain_set.specs.Set.{Answer, refused, Step, step, setStep}
+use Rattle.table.specs.declared.answers.Answer as table
 use Rattle.table.specs.theory.Formed.{Formed, decode-formed}
-use Rattle.table.specs.theory.FormedCalls.{add-formed, delete-formed}
-use Rattle.demand3.specs.Claim.{find, add, delete, tableAnswer, tableBytesAfter, given}
+use Rattle.table.specs.theory.FormedCalls.{Holds, holds-none, holds-some, add-formed, delete-formed}
+use Rattle.plain_set.specs.Set.{Step, keyStep}
+use Rattle.plain_set.specs.Plain.{plain}
 use Rattle.plain_set.specs.theory.Rep.{Stores}
 use Rattle.plain_set.specs.theory.Keys.{in-table}
-use Rattle.plain_set.specs.theory.Lists.{findKey, addKey, deleteKey, Stands, step-ok}
-use Rattle.plain_set.specs.theory.Refusals.{refused-key, refused-label}
-use Rattle.plain_set.specs.theory.StateSteps.{find-acts, add-acts, delete-acts}
+use Rattle.settings.specs.theory.Dues.{NoneDue}
+use Rattle.plain_set.specs.theory.Refusals.{label-below}
+use Rattle.plain_set.specs.theory.OneList.{Told, told, rowTold, rowAfter}
+use Rattle.plain_set.specs.theory.Lists.{rowOf, isFull, listsTold, listsAfter, Stands, call-agrees}
+use Rattle.plain_set.specs.theory.StateSteps.{stateAfter, call-acts}
 use Rattle.plain_set.specs.theory.Agree.{Agree}
 use Rattle.plain_set.specs.theory.Stored.{agree-written}
 
--- an answer and the bytes after it, beside a step of the set
-pub record Follows (s : Settings) (a : Answer) (u : List ℕ) (b : Step) : Type 0 where
-  pub answers : a ≡ b .answer
-  pub agree : Agree s u (b .after)
+-- What a call makes of each list -------------------------------------------------------------------------------------------
 
--- an answer, bytes and a step are as others that they equal
-pub follows-as : {s : Settings} {a a′ : Answer} {u u′ : List ℕ} {b b′ : Step} → a ≡ a′ → u ≡ u′ → b ≡ b′ → Follows s a′ u′ b′ → Follows s a u b
-follows-as p q r w = rw (p, q, r) w
+-- the key of a call, if it is one of list i
+abbrev pub onList : Settings → ℕ → Option ℕ → Option ℕ
+onList s i none = none
+onList s i (some k) = cond (eqb (listNumber s k) i) (some k) none
 
--- a refusal on both sides, which leaves bytes and set
-pub follows-refused : {s : Settings} {t : List ℕ} {ps : List Pair} (why : Refusal) {a : Answer} {u : List ℕ} {b : Step} → Agree s t ps
-    → a ≡ refused why → u ≡ t → b ≡ step (refused why) ps → Follows s a u b
-follows-refused why w p q r = rw (p, q, r) record { answers = refl; agree = w }
+-- a call that is told x, on a list with the slots es, and fs after it. With a key of the list, the slots say both; none: any other call leaves them
+abbrev pub OwnStep : Settings → Verb → Option ℕ → List ℕ → List ℕ → Told → Type 0
+OwnStep s v none es fs x = fs ≡ es
+OwnStep s v (some k) es fs x = (full : Bool) × (x ≡ rowTold s v k es full) × (fs ≡ rowAfter s v k es full)
 
-module _ {s : Settings} (right : Legal s) {t : List ℕ} {ps : List Pair} (a : Agree s t ps) where
-  -- neither of codes 1 and 2 is due
-  lawful : legal s ≡ true
-  lawful = legal-if s right
+-- the key's list is changed, and no other
+own-step : (s : Settings) (T : List (List ℕ)) (v : Verb) (k : ℕ) (x : Told) → x ≡ listsTold s T k v → (i : ℕ) → i < length T
+    → OwnStep s v (onList s i (some k)) (getD T i []) (getD (listsAfter s T k v) i []) x
+own-step s T v k x e i h =
+    cases (eqb (listNumber s k) i)
+    (λ q.
+    let z : i ≡ listNumber s k = sym (eqb-true (listNumber s k) i q) in
+    rw (q, z) (isFull s T k, e, getD-set-same T (listNumber s k) (rowAfter s v k (rowOf s T k) (isFull s T k)) [] (rw z at h)))
+    (λ q. rw q (getD-set-other T (listNumber s k) i (rowAfter s v k (rowOf s T k) (isFull s T k)) [] (λ z. eqb-false (listNumber s k) i q (sym z))))
 
-  long : leb (tableBytes s) (length t) ≡ true
-  long = le-leb (tableBytes s) (length t) (a .room)
+-- the reply r to a call on bytes that hold the lists T, beside a step b of the set; o is the call's key, if its inputs are legal
+pub record Follows (s : Settings) (T : List (List ℕ)) (v : Verb) (o : Option ℕ) (r : Reply table.Answer) (b : Step) : Type 0 where
+  pub answers : plain (r .answer) ≡ b .answer
+  pub after : List (List ℕ)
+  pub agree : Agree s (r .bytes) after (b .after)
+  -- each list's slots are changed by that list's calls alone
+  pub own : (i : ℕ) → i < lists s → OwnStep s v (onList s i o) (getD T i []) (getD after i []) (told (r .answer))
 
-  -- the same bytes, read as other lists that stand for another set
-  agree-read : {T : List (List ℕ)} {qs : List Pair} → Stores (layoutOf s) (decode (layoutOf s) t) T → Stands s T qs → Agree s t qs
-  agree-read {T} o w =
-      record { bytes = a .bytes; room = a .room; T = T; B = o .B; fs = o .fs; rep = o .rep; stands = w; fill = a .fill }
+-- The call -----------------------------------------------------------------------------------------------------------------
 
-  -- what the calls write is formed
-  add-forms : (k : Key) (l : ℕ) → keyNumber k < 2 ^ s .w → l < 2 ^ s .val → Formed (layoutOf s) (adds s t k l .after)
-  add-forms k l ok high =
-      add-formed (layoutOf s) (layout-proper s right) (listNumber s (keyNumber k)) (entry s (keyNumber k)) l (decode-formed (layoutOf s) t)
-      (in-table s right (keyNumber k) ok) (unfold layoutOf in (entry-below s (keyNumber k))) (unfold layoutOf in high)
+-- what a call comes to whose inputs are legal
+abbrev pub legalCall : Settings → List ℕ → Verb → ℕ → Reply table.Answer
+legalCall s t v k = replied (layoutOf s) t (listCall (layoutOf s) (held s t) (listNumber s k) (entry s k) v)
 
-  delete-forms : (k : Key) → keyNumber k < 2 ^ s .w → Formed (layoutOf s) (deletes s t k .after)
-  delete-forms k ok =
-      delete-formed (layoutOf s) (layout-proper s right) (listNumber s (keyNumber k)) (entry s (keyNumber k)) (decode-formed (layoutOf s) t)
-      (in-table s right (keyNumber k) ok)
+module _ {s : Settings} (right : Legal s) {t : List ℕ} {T : List (List ℕ)} {ps : List Pair} (a : Agree s t T ps) where
+  -- the bytes with the state in them that a call leaves
+  agree-after : {o : Option State} {U : List (List ℕ)} {qs : List Pair} → Holds (Formed (layoutOf s)) o
+      → Stores (layoutOf s) (stateAfter (held s t) o) U → Stands s U qs → Agree s (bytesWith (layoutOf s) t o) U qs
+  agree-after holds-none c w = record { bytes = a .bytes; room = a .room; stores = c; stands = w; fill = a .fill }
+  agree-after (holds-some f) c w = agree-written t right (a .bytes) (a .room) (a .fill) f c w
 
-  -- The calls ---------------------------------------------------------------------------------------------------------------
+  module _ (k : ℕ) (ok : k < 2 ^ s .w) where
+    -- what the call writes is formed
+    call-formed : (v : Verb) → NoneDue (verbDue s v)
+        → Holds (Formed (layoutOf s)) (listCall (layoutOf s) (held s t) (listNumber s k) (entry s k) v .after)
+    unfolding listCall
+    call-formed find d = holds-none
+    call-formed (add l) d =
+        add-formed (layoutOf s) (layout-proper s right) (listNumber s k) (entry s k) l (decode-formed (layoutOf s) t) (in-table s right k ok)
+        (unfold layoutOf in (entry-below s k)) (unfold layoutOf in (label-below s l d))
+    call-formed delete d =
+        delete-formed (layoutOf s) (layout-proper s right) (listNumber s k) (entry s k) (decode-formed (layoutOf s) t) (in-table s right k ok)
 
-  pub find-follows : (k : Key) → Follows s (tableAnswer s t (find k)) (tableBytesAfter s t (find k)) (setStep s (length t) ps (given (find k)))
-  unfolding tableAnswer tableBytesAfter findAnswer
-  find-follows k =
-      cases (ltb (keyNumber k) (2 ^ s .w))
-      (λ e.
-      let ok = ltb-true (keyNumber k) (2 ^ s .w) e in
-      let w = find-acts s right (a .rep) (keyNumber k) ok in
-      let v = step-ok s right (a .T) ps (a .stands) (length t) (a .room) (findKey (keyNumber k)) ok in
-      record { answers = rw (lawful, long, e) (w .answers ∙ v .answers); agree = agree-read (w .stores) (v .stands) })
-      (λ e.
-      follows-refused refusal.Key a (rw (lawful, long, e)) refl
-      (refused-key s right (length t) ps (a .room) (keyNumber k) (ltb-false (keyNumber k) (2 ^ s .w) e) (given (find k))))
-
-  pub add-follows : (k : Key) (l : ℕ)
-      → Follows s (tableAnswer s t (add k l)) (tableBytesAfter s t (add k l)) (setStep s (length t) ps (given (add k l)))
-  unfolding tableAnswer tableBytesAfter addAnswer addBytes
-  add-follows k l =
-      cases (ltb (keyNumber k) (2 ^ s .w))
-      (λ e.
-      let ok = ltb-true (keyNumber k) (2 ^ s .w) e in
-      cases (ltb l (2 ^ s .val))
-      (λ d.
-      let high = ltb-true l (2 ^ s .val) d in
-      let w = add-acts s right (a .rep) (keyNumber k) ok l high in
-      let v = step-ok s right (a .T) ps (a .stands) (length t) (a .room) (addKey (keyNumber k) l) (ok, high) in
-      rw (lawful, long, e, d)
-      record { answers = w .answers ∙ v .answers; agree = agree-written t right (a .bytes) (a .room) (a .fill) (add-forms k l ok high) (w .stores) (v .stands) })
-      (λ d.
-      follows-refused refusal.Label a
-      (rw (lawful, long, e, d))
-      (rw (lawful, long, e, d))
-      (refused-label s right (length t) ps (a .room) (keyNumber k) l ok (ltb-false l (2 ^ s .val) d))))
-      (λ e.
-      follows-refused refusal.Key a
-      (rw (lawful, long, e))
-      (rw (lawful, long, e))
-      (refused-key s right (length t) ps (a .room) (keyNumber k) (ltb-false (keyNumber k) (2 ^ s .w) e) (given (add k l))))
-
-  pub delete-follows : (k : Key) → Follows s (tableAnswer s t (delete k)) (tableBytesAfter s t (delete k)) (setStep s (length t) ps (given (delete k)))
-  unfolding tableAnswer tableBytesAfter deleteAnswer deleteBytes
-  delete-follows k =
-      cases (ltb (keyNumber k) (2 ^ s .w))
-      (λ e.
-      let ok = ltb-true (keyNumber k) (2 ^ s .w) e in
-      let w = delete-acts s right (a .rep) (keyNumber k) ok in
-      let v = step-ok s right (a .T) ps (a .stands) (length t) (a .room) (deleteKey (keyNumber k)) ok in
-      rw (lawful, long, e)
-      record { answers = w .answers ∙ v .answers; agree = agree-written t right (a .bytes) (a .room) (a .fill) (delete-forms k ok) (w .stores) (v .stands) })
-      (λ e.
-      follows-refused refusal.Key a
-      (rw (lawful, long, e))
-      (rw (lawful, long, e))
-      (refused-key s right (length t) ps (a .room) (keyNumber k) (ltb-false (keyNumber k) (2 ^ s .w) e) (given (delete k))))
+    pub legal-follows : (v : Verb) → NoneDue (verbDue s v) → Follows s T v (some k) (legalCall s t v k) (keyStep s ps v k)
+    legal-follows v d =
+        let c = call-acts s right (a .stores) k ok v d in
+        let w = call-agrees s right T ps (a .stands) k ok v d in
+        record {
+          answers = ap (λ (x : Told). x .answer) (c .tells) ∙ w .answers;
+          after = listsAfter s T k v;
+          agree = agree-after (call-formed v d) (c .stores) (w .stands);
+          own = λ i h. own-step s T v k _ (c .tells) i (omega (arith, a .stands .long));
+        }

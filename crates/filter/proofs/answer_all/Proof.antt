@@ -6,13 +6,14 @@ use Prim.Native.Nat.{ℕ, suc, _+_, _-_, _≤_, _<_}
 use native.Mathlib.Omega.{arith}
 use lib.ListN.{length}
 use borrow.Author.Needs.{needs}
+use Rattle.program_commands.specs.Command.{longestLine}
 use Rattle.filter.specs.declared.Left.{Left}
 use Rattle.filter.proofs.answer_all.Statement.{statement}
 use Rattle.filter.proofs.answer_all.Tie as tie
 
 record Inv (input t₀ out₀ t out : List ℕ) (r : Left) : Type 0 where
   within : r .at ≤ length input
-  short : r .more ≡ false → length input ≤ r .at + 64
+  short : r .more ≡ false → length input ≤ r .at + longestLine
   table : length t ≡ length t₀
   room : length out ≡ length out₀
 

@@ -1,4 +1,4 @@
--- At most 64 bytes are left over.
+-- No more than a line is left over.
 use native.Mathlib.Omega.{arith}
 use lib.ListN.{length-take}
 use borrow.Author.Tests.{not-false}

@@ -1,4 +1,4 @@
--- At most 64 bytes are left over, and what is read fits behind them.
+-- No more than a line is left over, and what is read fits behind them.
 use native.Mathlib.Omega.{arith}
 use lib.ListN.{length-take}
 use borrow.Author.Needs.{needs}

@@ -1,4 +1,4 @@
--- At each read at most 64 bytes are left over, so that the read has room. The measure is the turns that are left.
+-- At each read no more than a line is left over, so that the read has room. The measure is the turns that are left.
 use mathlib.Core.Path.{_≡_, refl, _∙_}
 use mathlib.Core.Bool.{and-eq-true-iff}
 use mathlib.Core.List.{List}
@@ -8,12 +8,13 @@ use lib.ListN.{length}
 use lib.Dec.{ltb}
 use borrow.Author.Needs.{needs}
 use borrow.Author.Tests.{ltb-true}
+use Rattle.program_commands.specs.Command.{longestLine}
 use Rattle.filter.specs.declared.Next.{Next}
 use Rattle.filter.proofs.run.Statement.{statement}
 use Rattle.filter.proofs.run.Tie as tie
 
 record Inv (buf₀ t₀ out₀ buf t out : List ℕ) (s : Next) : Type 0 where
-  left : s .have ≤ 64
+  left : s .have ≤ longestLine
   input : length buf ≡ length buf₀
   table : length t ≡ length t₀
   room : length out ≡ length out₀

@@ -28,7 +28,7 @@ use Rattle.table.specs.Check.{fillZero, tableSound}
 use Rattle.table.specs.theory.Positions.{isEntry}
 use Rattle.plain_set.specs.Holds.{Holds}
 use Rattle.plain_set.specs.theory.Count.{count-ext, count-none}
-use Rattle.plain_set.specs.theory.Rep.{Rep, Single}
+use Rattle.plain_set.specs.theory.Rep.{Rep, Stores, Single}
 use Rattle.plain_set.specs.theory.Change.{rep-content}
 use Rattle.plain_set.specs.theory.Tests.{allSlots, getD-each, length-each}
 use Rattle.plain_set.specs.theory.Check.{sound-check}
@@ -36,14 +36,11 @@ use Rattle.plain_set.specs.theory.Keys.{layout-lists, entry-fits, number
 use Rattle.plain_set.specs.theory.Rows.{pairsFrom, RowsFit, count-key, count-above}
 use Rattle.plain_set.specs.theory.Lists.{Stands}
 
--- the bytes t hold the lists T, in the blocks B and with the free chain fs; the lists stand for the set ps; and "zero bits to the end of the byte"
-pub record Agree (s : Settings) (t : List ℕ) (ps : List Pair) : Type 0 where
+-- the bytes t hold the lists T; the lists stand for the set ps; and "zero bits to the end of the byte"
+pub record Agree (s : Settings) (t : List ℕ) (T : List (List ℕ)) (ps : List Pair) : Type 0 where
   pub bytes : Bytes t
   pub room : tableBytes s ≤ length t
-  pub T : List (List ℕ)
-  pub B : List (List ℕ)
-  pub fs : List ℕ
-  pub rep : Rep (layoutOf s) (decode (layoutOf s) t) T B fs
+  pub stores : Stores (layoutOf s) (decode (layoutOf s) t) T
   pub stands : Stands s T ps
   pub fill : fillZero (layoutOf s) t ≡ true
 
@@ -100,24 +97,24 @@ module _ (s : Settings) (legal : Legal s) (T : List (List ℕ)) (long : length T
 
 -- What the claim says of bytes and set ----------------------------------------------------------------------------------------
 
-module _ (s : Settings) (legal : Legal s) (t : List ℕ) (ps : List Pair) where
+module _ (s : Settings) (legal : Legal s) {t : List ℕ} {T : List (List ℕ)} {ps : List Pair} where
   -- where they agree, the pairs rebuilt from the bits are the set, and the table is sound
-  pub agree-holds : Agree s t ps → Holds s t ps
+  pub agree-holds : Agree s t T ps → Holds s t ps
   unfolding tableSound
   agree-holds a = record {
-    pairs = λ f. ap (count f) (rep-rebuilt s (a .rep)) ∙ a .stands .pairs f;
+    pairs = λ f. ap (count f) (rep-rebuilt s (a .stores .rep)) ∙ a .stands .pairs f;
     once = a .stands .once;
     sound =
         true-both
         (sound-check (layoutOf s) (decode (layoutOf s) t) (record {
-          T = a .T;
-          B = a .B;
-          fs = a .fs;
-          rep = a .rep;
-          single = λ i h. keys-single s legal (a .T) (a .stands .long) (a .stands .fit) once i (rw (layout-lists s) at h);
+          T = T;
+          B = a .stores .B;
+          fs = a .stores .fs;
+          rep = a .stores .rep;
+          single = λ i h. keys-single s legal T (a .stands .long) (a .stands .fit) once i (rw (layout-lists s) at h);
         }))
         (a .fill);
   }
     where
-      once : NoKeyTwice (pairsFrom s 0 (a .T))
+      once : NoKeyTwice (pairsFrom s 0 T)
       once k = omega (arith, a .stands .pairs (hasKey k), a .stands .once k)

@@ -1,96 +1,60 @@
 -- The table as its lists of slots, without block numbers: the level between the plain set and the table's fields.
-use mathlib.Core.Path.{_≡_, refl, sym, ap, _∙_}
-use mathlib.Core.Bool.{Bool, true, false, cond, _&&_}
+use mathlib.Core.Path.{_≡_, refl, sym, ap, _∙_, subst}
+use mathlib.Core.Bool.{Bool, true, false, _&&_}
 use mathlib.Core.List.{List, [], _∷_, _++_}
 use mathlib.Core.Option.{none, some}
-use Prim.Native.Nat.{ℕ, _^_, _≤_, _<_}
+use Prim.Native.Nat.{ℕ, _^_, _<_}
 use native.Mathlib.Omega.{arith}
 use lib.ListN.{length, getD, set, length-set}
+use lib.Seq.{set-getD}
 use lib.Dec.{eqb}
-use borrow.Author.Tests.{eq-eqb, eqb-true, ltb-true, ltb-false, lt-ltb}
+use borrow.Author.Tests.{eq-eqb, eqb-true, ltb-true, ltb-false}
 use Rattle.laws.specs.Folds.{count}
 use Rattle.laws.specs.Cases.{cases}
 use Rattle.laws.specs.Sums.{sum-ext}
 use Rattle.settings.specs.declared.settings.Settings.{Settings}
-use Rattle.settings.specs.declared.refusal.Refusal.the-variants as refusal
-use Rattle.settings.specs.Sizes.{lists, tableBytes}
+use Rattle.settings.specs.Sizes.{lists}
 use Rattle.settings.specs.Legal.{Legal}
 use Rattle.settings.specs.Layout.{layoutOf}
 use Rattle.keys.specs.Key.{entry, listNumber}
-use Rattle.table.specs.State.{entryOf, labelOf, slotOf}
-use Rattle.table.specs.Find.{position, isHeld, labelAt}
+use Rattle.table.specs.State.{entryOf, labelOf}
 use Rattle.table.specs.Rebuilt.{Pair, pair, pairOf}
-use Rattle.plain_set.specs.Set.{key, Call, find, add, delete, Answer, held, nothing, added, gone, refused, hasKey, lookup, erase, Step, blocksUsed, listLength, noVacantSlot, blocksNeeded, allBlocksUsed, setStep}
+use Rattle.table.specs.Calls.{Verb, find, add, delete, verbDue}
+use Rattle.plain_set.specs.Set.{hasKey, lookup, erase, Step, blocksUsed, listLength, noVacantSlot, blocksNeeded, allBlocksUsed, keyStep}
 use Rattle.table.specs.theory.Formed.{all-nil, all-cons, all-append}
 use Rattle.plain_set.specs.theory.Count.{one, count-append, count-at}
 use Rattle.plain_set.specs.theory.Use.{blocksFor, usedBy, noRoom}
 use Rattle.plain_set.specs.theory.Keys.{slot-fits, slot-entry, slot-label, number-below, key-of-entry}
 use Rattle.plain_set.specs.Same.{SamePairs, NoKeyTwice}
 use Rattle.table.specs.theory.Positions.{position-held, position-none}
-use Rattle.plain_set.specs.theory.SetLaws.{isPair, lookup-none, lookup-some, count-erase, goes-on}
+use Rattle.plain_set.specs.theory.SetLaws.{isPair, lookup-none, lookup-some, count-erase}
 use Rattle.plain_set.specs.theory.Swap.{swapOut, count-swap, all-swap}
 use Rattle.plain_set.specs.theory.Rows.{pairsFrom, RowsFit, count-at-row, count-put, fit-put, count-key, count-list}
+use Rattle.plain_set.specs.theory.OneList.{Told, inRow, placeIn, labelIn, slotFor, rowTold, rowAfter}
+use Rattle.settings.specs.theory.Dues.{NoneDue}
+use Rattle.plain_set.specs.theory.Refusals.{label-below}
 
--- Calls with a key -------------------------------------------------------------------------------------------------------
+-- A call on the lists ----------------------------------------------------------------------------------------------------
 
-pub data KeyCall : Type 0 where
-  findKey : ℕ → KeyCall
-  addKey : ℕ → ℕ → KeyCall
-  deleteKey : ℕ → KeyCall
+module _ (s : Settings) (T : List (List ℕ)) (k : ℕ) where
+  -- the slots of the key's list
+  abbrev pub rowOf : List ℕ
+  rowOf = getD T (listNumber s k) []
 
--- the same call, as the plain set takes it
-abbrev pub callOf : KeyCall → Call
-callOf (findKey k) = find (key k)
-callOf (addKey k l) = add (key k) l
-callOf (deleteKey k) = delete (key k)
-
--- neither of codes 5 and 6 is due
-abbrev pub LegalCall : Settings → KeyCall → Type 0
-LegalCall s (findKey k) = k < 2 ^ s .w
-LegalCall s (addKey k l) = (k < 2 ^ s .w) × (l < 2 ^ s .val)
-LegalCall s (deleteKey k) = k < 2 ^ s .w
-
--- The steps on lists -----------------------------------------------------------------------------------------------------
-
--- an answer, and the lists after it
-pub record ListsStep : Type 0 where
-  pub answer : Answer
-  pub after : List (List ℕ)
-
-abbrev pub listsTo : Answer → List (List ℕ) → ListsStep
-listsTo a T = record { answer = a; after = T }
-
-module _ (s : Settings) where
-  -- the slots of a key's list
-  abbrev pub rowOf : List (List ℕ) → ℕ → List ℕ
-  rowOf T k = getD T (listNumber s k) []
-
-  -- is the key in the lists, and with which label
-  abbrev pub holdsKey : List (List ℕ) → ℕ → Bool
-  holdsKey T k = isHeld (layoutOf s) (entry s k) (rowOf T k)
-
-  abbrev pub labelIn : List (List ℕ) → ℕ → ℕ
-  labelIn T k = labelAt (layoutOf s) (entry s k) (rowOf T k)
+  -- is the key in the lists
+  abbrev pub holdsKey : Bool
+  holdsKey = inRow s k rowOf
 
   -- the key's list has no vacant slot, and no block is free
-  abbrev pub isFull : List (List ℕ) → ℕ → Bool
-  isFull T k = noRoom (layoutOf s) T (listNumber s k)
+  abbrev pub isFull : Bool
+  isFull = noRoom (layoutOf s) T (listNumber s k)
 
-  -- a new pair at the end of its key's list
-  abbrev pub addTo : List (List ℕ) → ℕ → ℕ → List (List ℕ)
-  addTo T k l = set T (listNumber s k) (rowOf T k ++ slotOf (layoutOf s) (entry s k) l ∷ [])
+  -- what the call with the key is told, and the lists after it: its own list's slots say both
+  abbrev pub listsTold : Verb → Told
+  listsTold v = rowTold s v k rowOf isFull
 
-  -- the key's pair out of its list
-  abbrev pub takeFrom : List (List ℕ) → ℕ → List (List ℕ)
-  takeFrom T k = set T (listNumber s k) (swapOut (rowOf T k) (position (layoutOf s) (entry s k) (rowOf T k)))
-
-  -- what each call answers, and the lists after it
-  unfoldable pub listsStep : List (List ℕ) → KeyCall → ListsStep
-  listsStep T (findKey k) = cond (holdsKey T k) (listsTo (held (labelIn T k)) T) (listsTo nothing T)
-  listsStep T (addKey k l) =
-      cond (holdsKey T k) (listsTo (held (labelIn T k)) T)
-      (cond (isFull T k) (listsTo (refused refusal.NoBlock) T) (listsTo (added l) (addTo T k l)))
-  listsStep T (deleteKey k) = cond (holdsKey T k) (listsTo (gone (labelIn T k)) (takeFrom T k)) (listsTo nothing T)
+  abbrev pub listsAfter : Verb → List (List ℕ)
+  listsAfter v = set T (listNumber s k) (rowAfter s v k rowOf isFull)
 
 -- The lists stand for a set ----------------------------------------------------------------------------------------------
 
@@ -101,10 +65,10 @@ pub record Stands (s : Settings) (T : List (List ℕ)) (ps : List Pair) : Type 0
   pub pairs : SamePairs (pairsFrom s 0 T) ps
   pub once : NoKeyTwice ps
 
--- a step on lists agrees with a step of the set: the same answer, and the lists after it stand for the set after it
-pub record Agrees (s : Settings) (a : ListsStep) (b : Step) : Type 0 where
-  pub answers : a .answer ≡ b .answer
-  pub stands : Stands s (a .after) (b .after)
+-- what is told, and the lists after it, beside a step of the set: the same answer, and the lists after it stand for the set after it
+pub record Agrees (s : Settings) (x : Told) (U : List (List ℕ)) (b : Step) : Type 0 where
+  pub answers : x .answer ≡ b .answer
+  pub stands : Stands s U (b .after)
 
 module _ (s : Settings) (legal : Legal s) (T : List (List ℕ)) (ps : List Pair) (w : Stands s T ps) where
   -- the length rule: set and lists count the same slots and the same blocks
@@ -128,19 +92,19 @@ module _ (s : Settings) (legal : Legal s) (T : List (List ℕ)) (ps : List Pair)
 
     -- the pair at the place of the key's entry
     pair-held : holdsKey s T k ≡ true
-        → pairOf s (listNumber s k) (getD (rowOf s T k) (position (layoutOf s) (entry s k) (rowOf s T k)) 0) ≡ pair k (labelIn s T k)
+        → pairOf s (listNumber s k) (getD (rowOf s T k) (placeIn s k (rowOf s T k)) 0) ≡ pair k (labelIn s k (rowOf s T k))
     pair-held e =
-        pair-there (getD (rowOf s T k) (position (layoutOf s) (entry s k) (rowOf s T k)) 0)
+        pair-there (getD (rowOf s T k) (placeIn s k (rowOf s T k)) 0)
         (eqb-true _ _ (position-held (layoutOf s) (entry s k) (rowOf s T k) 0 (ltb-true _ _ e)))
 
-    lookup-held : holdsKey s T k ≡ true → lookup k ps ≡ some (labelIn s T k)
+    lookup-held : holdsKey s T k ≡ true → lookup k ps ≡ some (labelIn s k (rowOf s T k))
     lookup-held e =
-        let q : Pair = pair k (labelIn s T k) in
-        let p : ℕ = position (layoutOf s) (entry s k) (rowOf s T k) in
-        let self : isPair q q ≡ true = rw (eq-eqb k k refl, eq-eqb (labelIn s T k) (labelIn s T k) refl) in
+        let q : Pair = pair k (labelIn s k (rowOf s T k)) in
+        let p : ℕ = placeIn s k (rowOf s T k) in
+        let self : isPair q q ≡ true = rw (eq-eqb k k refl, eq-eqb (labelIn s k (rowOf s T k)) (labelIn s k (rowOf s T k)) refl) in
         let at : isPair q (pairOf s (listNumber s k) (getD (rowOf s T k) p 0)) ≡ true = ap (isPair q) (pair-held e) ∙ self in
         let found = count-at (λ x. isPair q (pairOf s (listNumber s k) x)) (rowOf s T k) p 0 (ltb-true _ _ e) at in
-        lookup-some k (labelIn s T k) ps (w .once k)
+        lookup-some k (labelIn s k (rowOf s T k)) ps (w .once k)
         (omega (arith, w .pairs (isPair q), count-at-row s (isPair q) T (listNumber s k) in-lists))
 
     none-there : holdsKey s T k ≡ false → count (hasKey k) ps ≡ 0
@@ -156,7 +120,7 @@ module _ (s : Settings) (legal : Legal s) (T : List (List ℕ)) (ps : List Pair)
     unfolding blocksUsed blocksFor layoutOf
     full-same = rw (length-same (listNumber s k) (number-below s legal k ok), used-same)
 
-    stands-add : (l : ℕ) → l < 2 ^ s .val → holdsKey s T k ≡ false → Stands s (addTo s T k l) (pair k l ∷ ps)
+    stands-add : (l : ℕ) → l < 2 ^ s .val → holdsKey s T k ≡ false → Stands s (set T (listNumber s k) (rowOf s T k ++ slotFor s k l ∷ [])) (pair k l ∷ ps)
     stands-add l high e =
         record {
           long = simp length-set (w .long);
@@ -177,12 +141,12 @@ module _ (s : Settings) (legal : Legal s) (T : List (List ℕ)) (ps : List Pair)
         }
       where
         x : ℕ
-        x = slotOf (layoutOf s) (entry s k) l
+        x = slotFor s k l
 
         new : pairOf s (listNumber s k) x ≡ pair k l
         new = pair-there x (slot-entry s k l high) ∙ ap (pair k) (slot-label s k l high)
 
-    stands-delete : holdsKey s T k ≡ true → Stands s (takeFrom s T k) (erase k ps)
+    stands-delete : holdsKey s T k ≡ true → Stands s (set T (listNumber s k) (swapOut (rowOf s T k) (placeIn s k (rowOf s T k)))) (erase k ps)
     stands-delete e =
         record {
           long = simp length-set (w .long);
@@ -193,40 +157,39 @@ module _ (s : Settings) (legal : Legal s) (T : List (List ℕ)) (ps : List Pair)
                 arith,
                 count-put s f T (listNumber s k) (swapOut es p) in-lists,
                 count-swap (λ y. f (pairOf s (listNumber s k) y)) es p (ltb-true _ _ e),
-                count-erase f k (labelIn s T k) ps (lookup-held e),
+                count-erase f k (labelIn s k (rowOf s T k)) ps (lookup-held e),
                 ap (λ (q : Pair). one (f q)) (pair-held e),
                 w .pairs f,
               );
-          once = λ j. omega (arith, count-erase (hasKey j) k (labelIn s T k) ps (lookup-held e), w .once j);
+          once = λ j. omega (arith, count-erase (hasKey j) k (labelIn s k (rowOf s T k)) ps (lookup-held e), w .once j);
         }
       where
         es : List ℕ
         es = rowOf s T k
 
         p : ℕ
-        p = position (layoutOf s) (entry s k) es
+        p = placeIn s k es
 
-  -- One call with legal inputs: the same answer, and the lists still stand for the set -------------------------------------
+    -- the lists as they are
+    stands-kept : Stands s (set T (listNumber s k) (rowOf s T k)) ps
+    stands-kept = subst (λ (U : List (List ℕ)). Stands s U ps) (sym (set-getD T (listNumber s k) [])) w
 
-  -- n is the lent table's length
-  pub step-ok : (n : ℕ) → tableBytes s ≤ n → (c : KeyCall) → LegalCall s c → Agrees s (listsStep s T c) (setStep s n ps (callOf c))
-  unfolding listsStep setStep
-  step-ok n h (findKey k) ok =
-      rw (goes-on s legal n h, lt-ltb k (2 ^ s .w) ok)
-      (cases (holdsKey s T k)
-      (λ e. rw (e, lookup-held k ok e) record { answers = refl; stands = w })
-      (λ e. rw (e, lookup-free k ok e) record { answers = refl; stands = w }))
-  step-ok n h (addKey k l) ok =
-      rw (goes-on s legal n h, lt-ltb k (2 ^ s .w) (ok .0), lt-ltb l (2 ^ s .val) (ok .1))
-      (cases (holdsKey s T k)
-      (λ e. rw (e, lookup-held k (ok .0) e) record { answers = refl; stands = w })
-      (λ e.
-      rw (e, lookup-free k (ok .0) e, full-same k (ok .0))
-      (cases (isFull s T k)
-      (λ q. rw q record { answers = refl; stands = w })
-      (λ q. rw q record { answers = refl; stands = stands-add k (ok .0) l (ok .1) e }))))
-  step-ok n h (deleteKey k) ok =
-      rw (goes-on s legal n h, lt-ltb k (2 ^ s .w) ok)
-      (cases (holdsKey s T k)
-      (λ e. rw (e, lookup-held k ok e) record { answers = refl; stands = stands-delete k ok e })
-      (λ e. rw (e, lookup-free k ok e) record { answers = refl; stands = w }))
+    -- the call with a legal key: the key's list tells what the set answers, and the lists still stand for the set
+    pub call-agrees : (v : Verb) → NoneDue (verbDue s v) → Agrees s (listsTold s T k v) (listsAfter s T k v) (keyStep s ps v k)
+    unfolding rowTold rowAfter
+    call-agrees find d =
+        cases (holdsKey s T k)
+        (λ e. rw (e, lookup-held e) record { answers = refl; stands = stands-kept })
+        (λ e. rw (e, lookup-free e) record { answers = refl; stands = stands-kept })
+    call-agrees (add l) d =
+        cases (holdsKey s T k)
+        (λ e. rw (e, lookup-held e) record { answers = refl; stands = stands-kept })
+        (λ e.
+        rw (e, lookup-free e, full-same)
+        (cases (isFull s T k)
+        (λ q. rw q record { answers = refl; stands = stands-kept })
+        (λ q. rw q record { answers = refl; stands = stands-add l (label-below s l d) e })))
+    call-agrees delete d =
+        cases (holdsKey s T k)
+        (λ e. rw (e, lookup-held e) record { answers = refl; stands = stands-delete e })
+        (λ e. rw (e, lookup-free e) record { answers = refl; stands = stands-kept })

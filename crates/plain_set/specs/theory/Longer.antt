@@ -62,29 +62,23 @@ fill-append s u v h = ap (λ (n : ℕ). eqb n 0) (field-append u v (layoutOf s .
 
 -- Agreement, with more bytes and with fewer -------------------------------------------------------------------------------------
 
-module _ {s : Settings} (right : Legal s) (u v : List ℕ) {ps : List Pair} where
-  pub agree-append : Agree s u ps → Bytes v → Agree s (u ++ v) ps
+module _ {s : Settings} (right : Legal s) (u v : List ℕ) {T : List (List ℕ)} {ps : List Pair} where
+  pub agree-append : Agree s u T ps → Bytes v → Agree s (u ++ v) T ps
   agree-append a b =
       record {
         bytes = bytes-append u v (a .bytes) b;
         room = omega (arith, a .room, length-append u v);
-        T = a .T;
-        B = a .B;
-        fs = a .fs;
-        rep = rw (decode-append (layoutOf s) (layout-proper s right) u v (bits-room s u (a .room))) (a .rep);
+        stores = rw (decode-append (layoutOf s) (layout-proper s right) u v (bits-room s u (a .room))) (a .stores);
         stands = a .stands;
         fill = fill-append s u v (a .room) ∙ a .fill;
       }
 
-  pub agree-front : Agree s (u ++ v) ps → Bytes u → tableBytes s ≤ length u → Agree s u ps
+  pub agree-front : Agree s (u ++ v) T ps → Bytes u → tableBytes s ≤ length u → Agree s u T ps
   agree-front a b room =
       record {
         bytes = b;
         room = room;
-        T = a .T;
-        B = a .B;
-        fs = a .fs;
-        rep = rw (decode-append (layoutOf s) (layout-proper s right) u v (bits-room s u room)) at (a .rep);
+        stores = rw (decode-append (layoutOf s) (layout-proper s right) u v (bits-room s u room)) at (a .stores);
         stands = a .stands;
         fill = sym (fill-append s u v room) ∙ a .fill;
       }

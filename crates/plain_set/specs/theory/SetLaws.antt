@@ -1,20 +1,16 @@
--- Laws of the plain set: lookup and erase, said by counting; and where a call is not refused for its settings or length.
+-- Laws of the plain set: lookup and erase, said by counting.
 use mathlib.Core.Path.{_≡_, refl, ap}
-use mathlib.Core.Bool.{Bool, true, cond, _&&_}
+use mathlib.Core.Bool.{Bool, true, _&&_}
 use mathlib.Core.List.{List, [], _∷_}
 use mathlib.Core.Option.{none, some}
 use Prim.Native.Nat.{ℕ, _+_, _≤_, _<_}
 use native.Mathlib.Omega.{arith}
-use lib.Dec.{eqb, leb}
-use borrow.Author.Tests.{eqb-true, le-leb}
+use lib.Dec.{eqb}
+use borrow.Author.Tests.{eqb-true}
 use Rattle.laws.specs.Folds.{count}
 use Rattle.laws.specs.Cases.{cases, both-true}
-use Rattle.settings.specs.declared.settings.Settings.{Settings}
-use Rattle.settings.specs.Sizes.{tableBytes}
-use Rattle.settings.specs.Legal.{legal, Legal}
-use Rattle.settings.specs.theory.Legal.{legal-if}
 use Rattle.table.specs.Rebuilt.{Pair, pair}
-use Rattle.plain_set.specs.Set.{hasKey, lookup, erase, Step}
+use Rattle.plain_set.specs.Set.{hasKey, lookup, erase}
 use Rattle.plain_set.specs.theory.Count.{one, count-mono}
 
 -- the test for one pair
@@ -58,8 +54,3 @@ count-erase f k l (p ∷ ps) h =
     let found : some (p .label) ≡ some l = rw e at h in
     rw e (omega (arith, ap (λ (q : Pair). one (f q)) (pair-is k l p (eqb-true (p .key) k e) (cc)))))
     (λ e. rw e (omega (arith, count-erase f k l ps (rw e at h))))
-
--- where neither of codes 1 and 2 is due, a call goes on
-pub goes-on : (s : Settings) → Legal s → (n : ℕ) → tableBytes s ≤ n → (a short wrong : Step)
-    → cond (legal s) (cond (leb (tableBytes s) n) a short) wrong ≡ a
-goes-on s right n long a short wrong = rw (legal-if s right, le-leb (tableBytes s) n long)

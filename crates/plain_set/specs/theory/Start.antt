@@ -19,12 +19,11 @@ use Rattle.settings.specs.theory.Legal.{legal-if}
 use Rattle.settings.specs.theory.Proper.{layout-proper}
 use Rattle.table.specs.Decode.{decode}
 use Rattle.table.specs.New.{newBytes}
-use Rattle.table.specs.Calls.{makeBytes}
+use Rattle.table.specs.Calls.{makeCall}
 use Rattle.table.specs.Rebuilt.{rebuiltPairs}
 use Rattle.table.specs.Check.{stateSound, fillZero, tableSound}
 use Rattle.table.specs.theory.Formed.{all-nil, decode-formed}
 use Rattle.table.specs.theory.FormedCalls.{new-formed}
-use Rattle.plain_set.specs.theory.Rep.{Sound}
 use Rattle.plain_set.specs.theory.New.{upFrom, new-rep}
 use Rattle.plain_set.specs.theory.Checked.{check-sound}
 use Rattle.plain_set.specs.theory.Keys.{layout-lists}
@@ -38,32 +37,28 @@ use Rattle.plain_set.specs.theory.Longer.{bytes-append, bytes-drop, fill
 
 -- "beside one that check finds sound, it starts as the pairs rebuilt from the bits"
 pub sound-agree : (s : Settings) → Legal s → (t : List ℕ) → Bytes t → tableBytes s ≤ length t → tableSound (layoutOf s) t ≡ true
-    → Agree s t (rebuiltPairs s (decode (layoutOf s) t))
+    → (T : List (List ℕ)) × Agree s t T (rebuiltPairs s (decode (layoutOf s) t))
 unfolding tableSound
 sound-agree s legal t bytes room h =
     let both = both-true (stateSound (layoutOf s) (decode (layoutOf s) t)) (fillZero (layoutOf s) t) h in
-    go (check-sound (layout-proper s legal) (decode (layoutOf s) t) (decode-formed (layoutOf s) t) (both .0)) (both .1)
-  where
-    go : Sound (layoutOf s) (decode (layoutOf s) t) → fillZero (layoutOf s) t ≡ true → Agree s t (rebuiltPairs s (decode (layoutOf s) t))
-    go o fill =
-        let long : length (o .T) ≡ lists s = o .rep .lists ∙ layout-lists s in
-        let fit : RowsFit s (o .T) = λ i l. o .rep .fits i (rw (layout-lists s) l) in
-        let e = rep-rebuilt s (o .rep) in
-        record {
-          bytes = bytes;
-          room = room;
-          T = o .T;
-          B = o .B;
-          fs = o .fs;
-          rep = o .rep;
-          stands = record {
-            long = long;
-            fit = fit;
-            pairs = λ f. ap (count f) (sym e);
-            once = rw e (single-keys s legal (o .T) long fit (λ i l. o .single i (rw (layout-lists s) l)));
-          };
-          fill = fill;
-        }
+    let o = check-sound (layout-proper s legal) (decode (layoutOf s) t) (decode-formed (layoutOf s) t) (both .0) in
+    let long : length (o .T) ≡ lists s = o .rep .lists ∙ layout-lists s in
+    let fit : RowsFit s (o .T) = λ i l. o .rep .fits i (rw (layout-lists s) l) in
+    let e = rep-rebuilt s (o .rep) in (
+      o .T,
+      record {
+        bytes = bytes;
+        room = room;
+        stores = record { B = o .B; fs = o .fs; rep = o .rep };
+        stands = record {
+          long = long;
+          fit = fit;
+          pairs = λ f. ap (count f) (sym e);
+          once = rw e (single-keys s legal (o .T) long fit (λ i l. o .single i (rw (layout-lists s) l)));
+        };
+        fill = both .1;
+      },
+    )
 
 -- A new table -----------------------------------------------------------------------------------------------------------------
 
@@ -82,8 +77,9 @@ stands-new s =
     }
 
 -- "Beside a new table it starts empty", whatever the bytes were
-pub new-agree : (s : Settings) → Legal s → (t : List ℕ) → Bytes t → tableBytes s ≤ length t → Agree s (makeBytes s t) []
-unfolding makeBytes newBytes
+pub new-agree : (s : Settings) → Legal s → (t : List ℕ) → Bytes t → tableBytes s ≤ length t
+    → Agree s (makeCall s t .bytes) (replicate (layoutOf s .lists) []) []
+unfolding makeCall newBytes
 new-agree s right t bytes room =
     rw (legal-if s right, le-leb (tableBytes s) (length t) room)
     (agree-written (zeros ++ rest) right (bytes-append zeros rest zero-bytes (bytes-drop n t bytes)) long

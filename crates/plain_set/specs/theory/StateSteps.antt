@@ -1,9 +1,10 @@
--- The calls on a state that holds lists of slots are the steps on these lists: the same answer, and the state after it holds the lists after it.
-use mathlib.Core.Path.{_≡_, refl}
-use mathlib.Core.Bool.{false}
-use mathlib.Core.List.{List}
+-- The calls on a state that holds lists of slots: the key's list tells the answer, and the state after it holds the lists after it.
+use mathlib.Core.Path.{_≡_, refl, sym, subst}
+use mathlib.Core.List.{List, []}
+use mathlib.Core.Option.{Option, none, some}
 use Prim.Native.Nat.{ℕ, _^_, _<_}
-use lib.ListN.{length}
+use lib.ListN.{length, set}
+use lib.Seq.{set-getD}
 use borrow.Author.Tests.{ltb-true}
 use Rattle.laws.specs.Cases.{cases}
 use Rattle.settings.specs.declared.settings.Settings.{Settings}
@@ -11,73 +12,62 @@ use Rattle.settings.specs.Legal.{Legal}
 use Rattle.settings.specs.Layout.{layoutOf}
 use Rattle.keys.specs.Key.{entry, listNumber}
 use Rattle.settings.specs.theory.Proper.{layout-proper}
-use Rattle.table.specs.State.{State, slotOf}
-use Rattle.table.specs.Find.{position, findFollowed, findIn}
+use Rattle.table.specs.State.{State}
+use Rattle.table.specs.Done.{Answered}
+use Rattle.table.specs.Find.{findFollowed, findIn}
 use Rattle.table.specs.Add.{addFollowed, addIn}
 use Rattle.table.specs.Delete.{deleteFollowed, deleteIn}
-use Rattle.plain_set.specs.Plain.{plainFind, plainAdd, plainDelete}
-use Rattle.plain_set.specs.Set.{Answer}
-use Rattle.plain_set.specs.theory.Rep.{Rep, Stores}
+use Rattle.table.specs.Calls.{Verb, find, add, delete, listCall, verbDue}
+use Rattle.plain_set.specs.theory.Rep.{Stores}
 use Rattle.plain_set.specs.theory.Change.{rep-content, append-refused, append-done, delete-done}
 use Rattle.plain_set.specs.theory.Keys.{slot-fits, in-table}
-use Rattle.plain_set.specs.theory.Lists.{findKey, addKey, deleteKey, ListsStep, holdsKey, rowOf, isFull, listsStep}
+use Rattle.settings.specs.theory.Dues.{NoneDue}
+use Rattle.plain_set.specs.theory.Refusals.{label-below}
+use Rattle.plain_set.specs.theory.OneList.{Told, told, placeIn, slotFor, rowTold, rowAfter}
+use Rattle.plain_set.specs.theory.Lists.{rowOf, holdsKey, isFull, listsTold, listsAfter}
 
--- an answer and the state after it, beside a step on lists
-pub record Acts (s : Settings) (a : Answer) (st : State) (b : ListsStep) : Type 0 where
-  pub answers : a ≡ b .answer
-  pub stores : Stores (layoutOf s) st (b .after)
+-- the state after a call on st
+abbrev pub stateAfter : State → Option State → State
+stateAfter st none = st
+stateAfter st (some u) = u
 
-module _ (s : Settings) (legal : Legal s) {st : State} {T B : List (List ℕ)} {fs : List ℕ} (r : Rep (layoutOf s) st T B fs) where
+-- the answer a to a call on st, beside what the lists tell and the lists after it
+pub record Acts (s : Settings) (st : State) (a : Answered) (x : Told) (U : List (List ℕ)) : Type 0 where
+  pub tells : told (a .answer) ≡ x
+  pub stores : Stores (layoutOf s) (stateAfter st (a .after)) U
+
+module _ (s : Settings) (legal : Legal s) {st : State} {T : List (List ℕ)} (o : Stores (layoutOf s) st T) (k : ℕ) (ok : k < 2 ^ s .w) where
+  below : listNumber s k < layoutOf s .lists
+  below = in-table s legal k ok
+
   -- the lists as they are
-  kept : Stores (layoutOf s) st T
-  kept = record { B = B; fs = fs; rep = r }
+  kept : Stores (layoutOf s) st (set T (listNumber s k) (rowOf s T k))
+  kept = subst (Stores (layoutOf s) st) (sym (set-getD T (listNumber s k) [])) o
 
-  module _ (k : ℕ) (ok : k < 2 ^ s .w) where
-    below : listNumber s k < layoutOf s .lists
-    below = in-table s legal k ok
-
-    pub find-acts : Acts s (plainFind (findIn (layoutOf s) st (listNumber s k) (entry s k))) st (listsStep s T (findKey k))
-    unfolding findIn findFollowed listsStep
-    find-acts =
-        rw (rep-content r (listNumber s k) below)
-        (cases (holdsKey s T k)
-        (λ e. rw e record { answers = refl; stores = kept })
-        (λ e. rw e record { answers = refl; stores = kept }))
-
-    pub delete-acts : Acts s (plainDelete (deleteIn (layoutOf s) st (listNumber s k) (entry s k) .answer))
-        (deleteIn (layoutOf s) st (listNumber s k) (entry s k) .after) (listsStep s T (deleteKey k))
-    unfolding deleteIn deleteFollowed listsStep
-    delete-acts =
-        rw (rep-content r (listNumber s k) below)
-        (cases (holdsKey s T k)
-        (λ e.
-        let p : ℕ = position (layoutOf s) (entry s k) (rowOf s T k) in
-        let d = delete-done (layout-proper s legal) r (listNumber s k) below p (ltb-true p (length (rowOf s T k)) e) in
-        rw (e, d .is) record { answers = refl; stores = d .stores })
-        (λ e. rw e record { answers = refl; stores = kept }))
-
-    module _ (l : ℕ) (high : l < 2 ^ s .val) where
-      -- a key that is not held
-      add-free : holdsKey s T k ≡ false
-          → Acts s (plainAdd (addIn (layoutOf s) st (listNumber s k) (entry s k) l .answer))
-          (addIn (layoutOf s) st (listNumber s k) (entry s k) l .after) (listsStep s T (addKey k l))
-      unfolding addIn addFollowed listsStep
-      add-free e =
-          cases (isFull s T k)
-          (λ q.
-          rw (
-            rep-content r (listNumber s k) below,
-            e,
-            append-refused (layout-proper s legal) r (listNumber s k) below (slotOf (layoutOf s) (entry s k) l) (slot-fits s k l high) q,
-            q,
-          )
-          record { answers = refl; stores = kept })
-          (λ q.
-          let d = append-done (layout-proper s legal) r (listNumber s k) below (slotOf (layoutOf s) (entry s k) l) (slot-fits s k l high) q in
-          rw (rep-content r (listNumber s k) below, e, d .is, q) record { answers = refl; stores = d .stores })
-
-      pub add-acts : Acts s (plainAdd (addIn (layoutOf s) st (listNumber s k) (entry s k) l .answer))
-          (addIn (layoutOf s) st (listNumber s k) (entry s k) l .after) (listsStep s T (addKey k l))
-      unfolding addIn addFollowed listsStep
-      add-acts =
-          cases (holdsKey s T k) (λ e. rw (rep-content r (listNumber s k) below, e) record { answers = refl; stores = kept }) (λ e. add-free e)
+  pub call-acts : (v : Verb) → NoneDue (verbDue s v)
+      → Acts s st (listCall (layoutOf s) st (listNumber s k) (entry s k) v) (listsTold s T k v) (listsAfter s T k v)
+  unfolding listCall findIn findFollowed addIn addFollowed deleteIn deleteFollowed rowTold rowAfter
+  call-acts find d =
+      rw (rep-content (o .rep) (listNumber s k) below)
+      (cases (holdsKey s T k) (λ e. rw e record { tells = refl; stores = kept }) (λ e. rw e record { tells = refl; stores = kept }))
+  call-acts (add l) d =
+      let fits = slot-fits s k l (label-below s l d) in
+      rw (rep-content (o .rep) (listNumber s k) below)
+      (cases (holdsKey s T k)
+      (λ e. rw e record { tells = refl; stores = kept })
+      (λ e.
+      cases (isFull s T k)
+      (λ q.
+      rw (e, append-refused (layout-proper s legal) (o .rep) (listNumber s k) below (slotFor s k l) fits q, q)
+      record { tells = refl; stores = kept })
+      (λ q.
+      let c = append-done (layout-proper s legal) (o .rep) (listNumber s k) below (slotFor s k l) fits q in
+      rw (e, c .is, q) record { tells = refl; stores = c .stores })))
+  call-acts delete d =
+      rw (rep-content (o .rep) (listNumber s k) below)
+      (cases (holdsKey s T k)
+      (λ e.
+      let p : ℕ = placeIn s k (rowOf s T k) in
+      let c = delete-done (layout-proper s legal) (o .rep) (listNumber s k) below p (ltb-true p (length (rowOf s T k)) e) in
+      rw (e, c .is) record { tells = refl; stores = c .stores })
+      (λ e. rw e record { tells = refl; stores = kept }))

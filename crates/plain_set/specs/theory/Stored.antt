@@ -29,17 +29,14 @@ bits-room s t h = omega arith
 
 -- a state that holds lists, written into bytes
 pub agree-written : {s : Settings} (t : List ℕ) {st : State} {T : List (List ℕ)} {ps : List Pair} → Legal s → Bytes t → tableBytes s ≤ length t
-    → fillZero (layoutOf s) t ≡ true → Formed (layoutOf s) st → Stores (layoutOf s) st T → Stands s T ps → Agree s (written (layoutOf s) t st) ps
+    → fillZero (layoutOf s) t ≡ true → Formed (layoutOf s) st → Stores (layoutOf s) st T → Stands s T ps → Agree s (written (layoutOf s) t st) T ps
 unfolding fillZero
-agree-written {s} t {st} {T} right bytes long fill f o w =
+agree-written {s} t {st} right bytes long fill f o w =
     let room = bits-room s t long in
     record {
       bytes = written-bytes (layoutOf s) t st bytes;
       room = rw (written-length (layoutOf s) t st) long;
-      T = T;
-      B = o .B;
-      fs = o .fs;
-      rep = rw (decode-written (layoutOf s) (layout-proper s right) t f room) (o .rep);
+      stores = rw (decode-written (layoutOf s) (layout-proper s right) t f room) o;
       stands = w;
       fill = rw (written-outside (layoutOf s) t st (layoutOf s .bits) (8 * layoutOf s .bytes - layoutOf s .bits) room (le-refl (layoutOf s .bits))) fill;
     }

@@ -1,27 +1,29 @@
 -- What a line comes to, by what was parsed and read of it.
-use mathlib.Core.Path.{_≡_, refl, sym, _∙_}
+use mathlib.Core.Path.{_≡_, ap, _∙_}
 use mathlib.Core.Bool.{true, false}
 use mathlib.Core.List.{List}
-use mathlib.Core.Option.{Option, none, some}
+use mathlib.Core.Option.{none}
 use Prim.Native.Nat.{ℕ, _≤_, _<_}
-use native.Mathlib.Omega.{arith}
 use lib.ListN.{length}
 use Rattle.laws.specs.Cases.{cases}
 use Rattle.keys.specs.declared.Key.{Key}
+use Rattle.settings.specs.Reply.{reply, answering}
 use Rattle.settings.specs.declared.refusal.Refusal.{Refusal}
 use Rattle.settings.specs.declared.refusal.Refusal.the-variants as refusal
-use Rattle.text_read.specs.Reading.{groupsOf}
-use Rattle.text_read.specs.Answers.{keyed, readingOf}
+use Rattle.text_read.specs.Answers.{readingOf}
 use Rattle.text_read.specs.declared.Parsed.the-variants as parsed
-use Rattle.program_commands.specs.Command.{Command, mkCommand, commandOf}
+use Rattle.text_calls.specs.declared.calls.TextAnswer.{TextAnswer}
+use Rattle.program_commands.specs.Command.{mkCommand, longestLine, commandOf}
 use Rattle.program_commands.specs.Steps.{spaceless, addressIn, requested, Asks, unreadFor}
 use Rattle.program_commands.specs.theory.Long.{long-none}
 use Rattle.program_commands.specs.declared.command.Request.{Request}
 use Rattle.program_commands.specs.declared.command.Asked.{Asked}
 use Rattle.program_commands.specs.declared.command.Asked.the-variants as asked
-use Rattle.program_answers.specs.Answer.{refusedText, keyText, outcomeText, answerText, answerBytes, lineText, lineTable}
-use Rattle.program_answers.specs.Steps.{Wrote, AnsweredKey, Answered}
-use Rattle.program_answers.specs.theory.Applies.{outcome-key, bytes-key, outcome-unread, bytes-unread}
+use Rattle.program_answers.specs.Program.{programBytes}
+use Rattle.program_answers.specs.Outcome.{verbOf, commandCall}
+use Rattle.program_answers.specs.Answer.{refusedText, answerText, commandReply, lineReply}
+use Rattle.program_answers.specs.Steps.{keyReply}
+use Rattle.program_answers.specs.theory.Applies.{text-key, text-unread}
 
 -- What was parsed ------------------------------------------------------------------------------------------------------------
 
@@ -44,61 +46,39 @@ asks-none l {r} a e =
 -- What is answered ------------------------------------------------------------------------------------------------------------
 
 -- a line that is no command
-pub answered-none : (l t : List ℕ) {out : List ℕ} {r : ℕ} → commandOf l ≡ none → Wrote (refusedText refusal.Line) out r → Answered l t t out r
-unfolding lineText lineTable answerText answerBytes
-answered-none l t e p = record { text = rw e p; table = rw e }
+pub line-none : (t l : List ℕ) → commandOf l ≡ none → lineReply t l ≡ reply (refusedText refusal.Line) t
+unfolding lineReply commandReply
+line-none t l e = rw e
 
--- a command: its text is not read otherwise than by the address
-answered-some : (l t u : List ℕ) {out : List ℕ} {r : ℕ} (c : Command) → commandOf l ≡ some c → Wrote (answerText t (some c)) out r → u ≡ answerBytes t (some c) → Answered l t u out r
-unfolding lineText lineTable
-answered-some l t u c e p b = record { text = rw e p; table = rw e b }
+-- "at most 64 bytes before the line feed"
+pub line-long : (t l : List ℕ) → longestLine < length l → lineReply t l ≡ reply (refusedText refusal.Line) t
+line-long t l h = line-none t l (long-none l h)
 
--- a text is refused for no other reason than that it is no address
-refused-text : (g : Option (List ℕ)) (why : Refusal) → keyed g ≡ parsed.Refused why → keyed g ≡ parsed.Refused refusal.Text
-unfolding keyed
-refused-text none why f = refl
-refused-text (some gs) why f = let z : _≡_ {A = ℕ} 0 1 = cc in absurd (omega arith)
-
-only-text : (x : List ℕ) (why : Refusal) → readingOf x ≡ parsed.Refused why → readingOf x ≡ parsed.Refused refusal.Text
-unfolding readingOf
-only-text x why f = refused-text (groupsOf x) why f
-
-module _ (l t : List ℕ) (q : Request) (e : commandOf l ≡ requested l (asked.Request q)) (h : 19617 ≤ length t) where
+module _ (t l : List ℕ) (q : Request) (e : commandOf l ≡ requested l (asked.Request q)) (h : programBytes ≤ length t) where
   abbrev address : List ℕ
   address = addressIn l (q .end)
 
-  spelled : spaceless address ≡ true → commandOf l ≡ some (mkCommand (q .op) address (q .label))
-  unfolding requested
-  spelled s = e ∙ rw s
+  -- a command's text, of what its call answers
+  abbrev said : TextAnswer → List ℕ
+  said a = answerText (a .key) (a .answer)
+
+  spelled : spaceless address ≡ true → lineReply t l ≡ answering said (commandCall t (mkCommand (q .op) address (q .label)))
+  unfolding requested lineReply commandReply
+  spelled s = rw (e, s)
 
   broken : spaceless address ≡ false → commandOf l ≡ none
   unfolding requested
   broken s = e ∙ rw s
 
   -- the address is read
-  pub answered-key : {u out : List ℕ} {r : ℕ} (k : Key) → readingOf address ≡ parsed.Key k → spaceless address ≡ true → AnsweredKey q k t u out r → Answered l t u out r
-  unfolding answerText answerBytes keyText
-  answered-key {u} {out} {r} k ek s a =
-      answered-some l t u (mkCommand (q .op) address (q .label)) (spelled s)
-      (rw (outcome-key t address (q .label) h (q .op) k ek, ek) (a .text))
-      (a .bytes ∙ sym (bytes-key t address (q .label) h (q .op) k ek))
+  pub line-key : (k : Key) → readingOf address ≡ parsed.Key k → spaceless address ≡ true → lineReply t l ≡ keyReply t q k
+  unfolding commandCall
+  line-key k r s = spelled s ∙ ap (answering said) (text-key t h (verbOf (q .op) (q .label)) address k r)
 
-  -- the address is not read
-  pub answered-unread : {out : List ℕ} {r : ℕ} (why : Refusal) → readingOf address ≡ parsed.Refused why → Wrote (refusedText (unreadFor address)) out r → Answered l t t out r
-  unfolding answerText answerBytes outcomeText unreadFor
-  answered-unread why ew p =
-      let et = only-text address why ew in
+  -- the address is not read; with a space in it, it is none
+  pub line-unread : (why : Refusal) → readingOf address ≡ parsed.Refused why → lineReply t l ≡ reply (refusedText (unreadFor address)) t
+  unfolding commandCall answerText unreadFor
+  line-unread why r =
       cases (spaceless address)
-      (λ s. answered-some l t t (mkCommand (q .op) address (q .label)) (spelled s)
-      (rw (outcome-unread t address (q .label) h (q .op) refusal.Text et) (rw s at p))
-      (sym (bytes-unread t address (q .label) h (q .op) refusal.Text et)))
-      (λ s. answered-none l t (broken s) (rw s at p))
-
--- "at most 64 bytes before the line feed": a longer line is refused with 11, and leaves the table
-pub long-text : (t l : List ℕ) → 64 < length l → lineText t l ≡ refusedText refusal.Line
-unfolding lineText answerText
-long-text t l h = rw (long-none l h)
-
-pub long-table : (t l : List ℕ) → 64 < length l → lineTable t l ≡ t
-unfolding lineTable answerBytes
-long-table t l h = rw (long-none l h)
+      (λ s. rw s (spelled s ∙ ap (answering said) (text-unread t h (verbOf (q .op) (q .label)) address why r)))
+      (λ s. rw s (line-none t l (broken s)))

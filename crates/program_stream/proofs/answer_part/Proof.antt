@@ -51,7 +51,7 @@ returns c =
     let p = l .answer-line in
     let room : p .result ≤ length (p .last .1 .1 .1 .0) = omega (arith, p .ensures .text .room, simp (length-take, length-drop) at (p .kept .1 .1 .1 .0), s) in (
       omega (arith, p .ensures .text .room),
-      (p .ensures .table, part-written (a .out .now) (p .last .1 .1 .1 .0) _ _ (a .made) (p .result) (omega (arith, s)) room (p .ensures .text .is)),
+      (p .ensures .bytes, part-written (a .out .now) (p .last .1 .1 .1 .0) _ _ (a .made) (p .result) (omega (arith, s)) room (p .ensures .text .is)),
     )
 
 pub answer-part-spec : {M : Type 1} → statement M

@@ -39,7 +39,7 @@ enum-known-n c = search needs
 within : (c : tie.After-known-told4) → c .before .n .given .0 .0 ≤ length (c .before .before .before .before .write .last .1 .0)
 within c =
     let k = c .before .before .before .before in
-    let h = length-fits _ _ _ (sym (k .write .ensures .0) ∙ c .before .n .given .1) in
+    let h = length-fits _ _ _ (sym (k .write .ensures .answer) ∙ c .before .n .given .1) in
     omega (arith, h, k .write .kept .1 .0)
 
 array-share-prefix-text : tie.Need-array-share-prefix-text

@@ -2,11 +2,12 @@
 use mathlib.Core.Path.{_≡_}
 use mathlib.Core.Logic.{_≢_, _⊎_, inl, inr, ⊎-elim}
 use mathlib.Core.List.{List}
-use Prim.Native.Nat.{ℕ, _+_, _*_, _^_, _≤_, _<_}
+use Prim.Native.Nat.{ℕ, _+_, _*_, _≤_, _<_}
 use native.Mathlib.Omega.{arith}
 use native.Mathlib.Nat.{mul-le-mul-right}
 use native.Mathlib.Decide.{decLe}
 use lib.ListN.{set}
+use Rattle.settings.specs.Legal.{mostBits}
 use Rattle.bits.specs.Field.{field}
 use Rattle.settings.specs.Proper.{Proper}
 use Rattle.settings.specs.declared.layout.Layout.{Layout}
@@ -49,7 +50,7 @@ module _ (g : Layout) (F : Proper g) where
   over-apart j k h = omega (arith, mul-le-mul-right (g .overflow .bits) h)
 
   -- no block ends past the largest table
-  pub bits-high : g .bits ≤ 2 ^ 27
+  pub bits-high : g .bits ≤ mostBits
   bits-high = omega (arith, F .bytes-is, F .bytes-high)
 
   -- a block is as before where nothing of it changed

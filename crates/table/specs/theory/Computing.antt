@@ -18,7 +18,7 @@ use Rattle.table.specs.Delete.{handedBack, shrinkAt, cannotFree, shrink,
 use Rattle.table.specs.New.{newState, newBytes}
 use Rattle.table.specs.Record.{recordFrom, recordIn}
 use Rattle.table.specs.Check.{stateSound, fillZero, tableSound, markBytes, marksAfter}
-use Rattle.table.specs.Calls.{makeAnswer, makeBytes, findAnswer, addAnswer, addBytes, deleteAnswer, deleteBytes, recordAnswer, checkAnswer, checkMarks}
+use Rattle.table.specs.Calls.{listCall, makeCall, keyCall, recordCall, checkCall}
 
 unfoldable pub computing : Unit {0}
 unfolding
@@ -26,5 +26,5 @@ unfolding
     overflowCounterBits overflowBlockBits overflowStart tableBits tableBytes inRanges fits belowPrime legal layoutOf keyNumber keyOf index entry hash
     listNumber rebuilt unpack headOf restOf blockAt basicSlots linkAt overflowSlots readBasic readOverflow decode image written stepOf content position findFollowed
     findIn append addFollowed addIn storeOverflow storeAt handedBack shrinkAt cannotFree shrink deleteFollowed deleteIn newState newBytes recordFrom recordIn stateSound fillZero tableSound markBytes
-    marksAfter makeAnswer makeBytes findAnswer addAnswer addBytes deleteAnswer deleteBytes recordAnswer checkAnswer checkMarks
+    marksAfter listCall makeCall keyCall recordCall checkCall
 computing = tt

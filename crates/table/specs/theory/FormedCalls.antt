@@ -12,7 +12,6 @@ use borrow.Author.Tests.{ltb-true, ltb-false, eqb-false}
 use Rattle.settings.specs.Proper.{Proper}
 use Rattle.laws.specs.Cases.{cases}
 use Rattle.settings.specs.declared.layout.Layout.{Layout}
-use Rattle.settings.specs.declared.refusal.Refusal.{Refusal}
 use Rattle.table.specs.State.{Basic, Overflow, State, absentBlock, basicAt, overflowAt, restBits, slotOf}
 use Rattle.table.specs.Updates.{withFront, withBasicFront, overBasic, overOverflow}
 use Rattle.table.specs.Follow.{lastOf, prevOf, Content, cons?, follow, gather, contentOver, content, goOn, stepAt}
@@ -25,10 +24,9 @@ use Rattle.table.specs.Done.{Done, damage, noBlock, done, Answered, answ
 use Rattle.table.specs.Store.{storeOverflow, storeAt}
 use Rattle.table.specs.theory.Formed.{All, all-nil, all-cons, all-getD, all-take, all-append, Each, each-at, each-set, each-tab, Fits, OverflowFits, Formed, basic-fits, overflow-fits}
 use Rattle.table.specs.theory.Written.{join-fits}
-use Rattle.table.specs.declared.answers.AddAnswer.{AddAnswer}
-use Rattle.table.specs.declared.answers.AddAnswer.the-variants as adding
-use Rattle.table.specs.declared.answers.DeleteAnswer.{DeleteAnswer}
-use Rattle.table.specs.declared.answers.DeleteAnswer.the-variants as deleting
+use Rattle.table.specs.declared.answers.Answer.{Answer}
+use Rattle.table.specs.Answer.{said}
+use Rattle.table.specs.declared.answers.Word.the-variants as word
 use Rattle.table.specs.theory.FormedUpdates.{unpack-each, head-fits, rest-fits, formed-free, formed-basic, formed-overflow, counter-fits, link-fits, slot-fits, empty-fits, front-fits, body-fits, own-fits, block-link, block-free}
 use Rattle.table.specs.Table.{Within}
 use Rattle.table.specs.declared.step.Before.{Before}
@@ -259,35 +257,38 @@ module _ (g : Layout) (F : Proper g) where
 
   -- ---- the calls
 
-  answered-formed : {A : Type 0} {st : State} {d : Done} (refuse : Refusal → A) (a : A) → Formed g st → Ends (Formed g) d
-      → Formed g (answered refuse st a d .after)
-  answered-formed refuse a f ends-damage = f
-  answered-formed refuse a f ends-full = f
-  answered-formed refuse a f (ends-done p) = p
+  answered-formed : {d : Done} (a : Answer) → Ends (Formed g) d → Holds (Formed g) (answered a d .after)
+  answered-formed a ends-damage = holds-none
+  answered-formed a ends-full = holds-none
+  answered-formed a (ends-done p) = holds-some p
 
   add-followed : {st : State} {o : Option Content} (i e label : ℕ) → Formed g st → i < g .lists → Fits (g .slot) (slotOf g e label) → Holds (ContentFits g) o
-      → Formed g (addFollowed g st i e label o .after)
+      → Holds (Formed g) (addFollowed g st i e label o .after)
   unfolding addFollowed
-  add-followed i e label f h p holds-none = f
+  add-followed i e label f h p holds-none = holds-none
   add-followed i e label f h p (holds-some {a = v} s) =
-      either (λ (a : Answered AddAnswer). Formed g (a .after)) (isHeld g e (v .slots)) (λ t. f)
-      (λ t. answered-formed adding.Refused (adding.Added label (comparedIn g e (v .slots))) f (append-ends i f h (s .blocks .below) p))
+      either (λ (a : Answered). Holds (Formed g) (a .after)) (isHeld g e (v .slots)) (λ t. holds-none)
+      (λ t. answered-formed (said word.Added label (comparedIn g e (v .slots))) (append-ends i f h (s .blocks .below) p))
 
-  pub add-formed : {st : State} (i e label : ℕ) → Formed g st → i < g .lists → e < 2 ^ g .bie → label < 2 ^ g .val → Formed g (addIn g st i e label .after)
+  pub add-formed : {st : State} (i e label : ℕ) → Formed g st → i < g .lists → e < 2 ^ g .bie → label < 2 ^ g .val
+      → Holds (Formed g) (addIn g st i e label .after)
   unfolding addIn
   add-formed i e label f h k l = add-followed i e label f h (rw (F .slot-is) (join-fits (g .bie) (g .val) k l)) (content-holds g f i)
 
-  delete-followed : {st : State} {o : Option Content} (i e : ℕ) → Formed g st → i < g .lists → Holds (ContentFits g) o → Formed g (deleteFollowed g st i e o .after)
+  delete-followed : {st : State} {o : Option Content} (i e : ℕ) → Formed g st → i < g .lists → Holds (ContentFits g) o
+      → Holds (Formed g) (deleteFollowed g st i e o .after)
   unfolding deleteFollowed
-  delete-followed i e f h holds-none = f
+  delete-followed i e f h holds-none = holds-none
   delete-followed i e f h (holds-some {a = v} s) =
       let bl = s .blocks .below in
       let last = all-getD (s .slots) (pow-pos (g .slot)) (length (v .slots) - 1) in
-      either (λ (a : Answered DeleteAnswer). Formed g (a .after)) (isHeld g e (v .slots))
-      (λ t. answered-formed deleting.Refused (deleting.Gone (labelAt g e (v .slots)) (comparedIn g e (v .slots))) f (shrink-ends i (store-formed i (position g e (v .slots)) f h bl last) h bl))
-      (λ t. f)
+      either (λ (a : Answered). Holds (Formed g) (a .after)) (isHeld g e (v .slots))
+      (λ t.
+      answered-formed (said word.Gone (labelAt g e (v .slots)) (comparedIn g e (v .slots)))
+      (shrink-ends i (store-formed i (position g e (v .slots)) f h bl last) h bl))
+      (λ t. holds-none)
 
-  pub delete-formed : {st : State} (i e : ℕ) → Formed g st → i < g .lists → Formed g (deleteIn g st i e .after)
+  pub delete-formed : {st : State} (i e : ℕ) → Formed g st → i < g .lists → Holds (Formed g) (deleteIn g st i e .after)
   unfolding deleteIn
   delete-formed i e f h = delete-followed i e f h (content-holds g f i)
 

@@ -1,7 +1,7 @@
 -- What every call on a table comes to by its first tests, and what holds once they are passed.
 use mathlib.Core.Path.{_≡_, ap, _∙_}
 use mathlib.Core.Bool.{true, false}
-use mathlib.Core.List.{List}
+use mathlib.Core.List.{List, _∷_}
 use Prim.Native.Nat.{ℕ, _^_, _≤_, _<_}
 use native.Mathlib.Omega.{arith}
 use lib.ListN.{length}
@@ -20,30 +20,26 @@ use Rattle.keys.specs.declared.Place.{Place}
 use Rattle.settings.specs.declared.refusal.Refusal.{Refusal}
 use Rattle.settings.specs.declared.refusal.Refusal.the-variants as refusal
 use Rattle.table.specs.Table.{Table}
-use Rattle.table.specs.Calls.{opened, keyed}
+use Rattle.settings.specs.Due.{Due, unlessDue, settingsDue, shortDue}
 
-module _ {A : Type 0} (refuse : Refusal → A) (s : Settings) (t : List ℕ) (on : A) where
-  pub opened-illegal : legal s ≡ false → opened refuse s t on ≡ refuse refusal.Settings
-  opened-illegal h = rw h
+-- a call whose first refusals are 1 and 2, and that is lent n bytes
+module _ {A : Type 0} (refuse : Refusal → A) (s : Settings) (n : ℕ) (ds : List Due) (on : A) where
+  pub due-settings : legal s ≡ false → unlessDue (settingsDue s ∷ shortDue s n ∷ ds) refuse on ≡ refuse refusal.Settings
+  due-settings h = rw h
 
-  pub opened-short : (g : Layout) → legal s ≡ true → layoutOf s ≡ g → length t < g .bytes → opened refuse s t on ≡ refuse refusal.Short
+  pub due-short : (g : Layout) → legal s ≡ true → layoutOf s ≡ g → n < g .bytes
+      → unlessDue (settingsDue s ∷ shortDue s n ∷ ds) refuse on ≡ refuse refusal.Short
   unfolding layoutOf
-  opened-short g h e l =
+  due-short g h e l =
       let b = ap (λ (x : Layout). x .bytes) e in
-      rw (h, lt-leb (tableBytes s) (length t) (omega arith))
+      rw (h, lt-leb (tableBytes s) n (omega arith))
 
-  pub opened-on : (g : Layout) → legal s ≡ true → layoutOf s ≡ g → g .bytes ≤ length t → opened refuse s t on ≡ on
+  pub due-later : (g : Layout) → legal s ≡ true → layoutOf s ≡ g → g .bytes ≤ n
+      → unlessDue (settingsDue s ∷ shortDue s n ∷ ds) refuse on ≡ unlessDue ds refuse on
   unfolding layoutOf
-  opened-on g h e l =
+  due-later g h e l =
       let b = ap (λ (x : Layout). x .bytes) e in
-      rw (h, le-leb (tableBytes s) (length t) (omega arith))
-
-module _ {A : Type 0} (refuse : Refusal → A) (s : Settings) (k : ℕ) (on : A) where
-  pub keyed-out : ltb k (2 ^ s .w) ≡ false → keyed refuse s k on ≡ refuse refusal.Key
-  keyed-out h = rw h
-
-  pub keyed-on : ltb k (2 ^ s .w) ≡ true → keyed refuse s k on ≡ on
-  keyed-on h = rw h
+      rw (h, le-leb (tableBytes s) n (omega arith))
 
 module _ (s : Settings) (g : Layout) (h : legal s ≡ true) (e : layoutOf s ≡ g) where
   -- the lent bytes hold a table

@@ -1,7 +1,7 @@
 -- The layout's answer and the length decide the call's; zeroed and linked bytes are the new table's (`new-bytes`).
-use mathlib.Core.Path.{_≡_, sym, ap, _∙_}
+use mathlib.Core.Path.{_≡_, refl, sym, ap, _∙_}
 use mathlib.Core.Bool.{true}
-use mathlib.Core.List.{_++_}
+use mathlib.Core.List.{List, [], _++_}
 use Prim.Native.Nat.{ℕ, _≤_}
 use native.Mathlib.Omega.{arith}
 use denote.Ref.{now}
@@ -12,14 +12,21 @@ use Rattle.settings.specs.Legal.{legal}
 use Rattle.settings.specs.Layout.{layoutOf}
 use Rattle.settings.specs.theory.Legal.{laid-layout, laid-refused}
 use Rattle.settings.specs.declared.layout.Layout.{Layout}
+use Rattle.settings.specs.declared.settings.Settings.{Settings}
+use Rattle.settings.specs.Reply.{Reply, reply}
 use Rattle.table.specs.New.{newBytes}
 use Rattle.table_make.specs.NewSteps.{linked}
-use Rattle.table.specs.Calls.{makeAnswer, makeBytes}
+use Rattle.table.specs.Calls.{makeCall}
 use Rattle.table_make.proofs.New.{zero-length, new-bytes}
-use Rattle.table.specs.theory.Opened.{opened-illegal, opened-short, opened-on, opened-table}
+use Rattle.table.specs.theory.Opened.{due-settings, due-short, due-later, opened-table}
+use Rattle.table.specs.declared.answers.MakeAnswer.{MakeAnswer}
 use Rattle.table.specs.declared.answers.MakeAnswer.the-variants as making
 use Rattle.table_make.proofs.make.Statement.{statement}
 use Rattle.table_make.proofs.make.Tie as tie
+
+-- what the call comes to if nothing is refused
+abbrev made : Settings → List ℕ → Reply MakeAnswer
+made s t = reply making.Made (newBytes (layoutOf s) t)
 
 -- the settings are legal, and the layout is theirs
 laid : (c : tie.After-g) → let a = c .before .before .before .before .args in (legal (a .s) ≡ true) × (layoutOf (a .s) ≡ c .g .given .0 .0)
@@ -32,15 +39,13 @@ enum-known-g : tie.Need-enum-known-g
 enum-known-g c = search needs
 
 returns : tie.Need-returns
-unfolding makeAnswer makeBytes
+unfolding makeCall
 returns c =
     let k = c .before .before .before in
     let a = k .before .before .before .before .args in
-    let g = k .g .given .0 .0 in
-    let t = now (a .t) in (
-      sym (opened-short making.Refused (a .s) t making.Made g (laid k .0) (laid k .1) (c .if1 .taken)),
-      sym (opened-short (λ r. t) (a .s) t (newBytes (layoutOf (a .s)) t) g (laid k .0) (laid k .1) (c .if1 .taken)),
-    )
+    let t = now (a .t) in
+    rw (due-short (λ why. reply (making.Refused why) t) (a .s) (length t) [] (made (a .s) t) (k .g .given .0 .0) (laid k .0) (laid k .1) (c .if1 .taken))
+    (record { answer = refl; bytes = refl })
 
 slice-relend-prefix-zero-bytes : tie.Need-slice-relend-prefix-zero-bytes
 slice-relend-prefix-zero-bytes c = search needs
@@ -77,7 +82,7 @@ same-length : tie.Need-same-length
 same-length c = search needs
 
 returns-2 : tie.Need-returns-2
-unfolding makeAnswer makeBytes
+unfolding makeCall
 returns-2 c =
     let f = c .before .before in
     let z = f .before .before .before .before in
@@ -87,25 +92,26 @@ returns-2 c =
     let a = b .before .args in
     let g = k .g .given .0 .0 in
     let t = now (a .t) in
-    let l : g .bytes ≤ length t = e .if1 .left in (
-      sym (opened-on making.Refused (a .s) t making.Made g (laid k .0) (laid k .1) l),
-      f .link-free .ensures
+    let l : g .bytes ≤ length t = e .if1 .left in
+    rw (due-later (λ why. reply (making.Refused why) t) (a .s) (length t) [] (made (a .s) t) g (laid k .0) (laid k .1) l)
+    (record {
+      answer = refl;
+      bytes =
+          f .link-free .ensures
           ∙ ap (linked g (g .nob)) (zeroed z)
           ∙ new-bytes g (opened-table (a .s) g (laid k .0) (laid k .1) t l .proper) t l (λ j. omega (arith, b .slice-known .given j))
-          ∙ ap (λ (x : Layout). newBytes x t) (sym (laid k .1))
-          ∙ sym (opened-on (λ r. t) (a .s) t (newBytes (layoutOf (a .s)) t) g (laid k .0) (laid k .1) l),
-    )
+          ∙ ap (λ (x : Layout). newBytes x t) (sym (laid k .1));
+    })
 
 returns-3 : tie.Need-returns-3
-unfolding makeAnswer makeBytes
+unfolding makeCall
 returns-3 c =
     let k = c .before in
     let a = k .before .before .before .before .args in
     let t = now (a .t) in
-    let e = laid-refused (a .s) _ (sym (k .before .before .layout .ensures) ∙ k .why .given .1) in (
-      ap making.Refused (sym (e .1)) ∙ sym (opened-illegal making.Refused (a .s) t making.Made (e .0)),
-      sym (opened-illegal (λ r. t) (a .s) t (newBytes (layoutOf (a .s)) t) (e .0)),
-    )
+    let e = laid-refused (a .s) _ (sym (k .before .before .layout .ensures) ∙ k .why .given .1) in
+    rw (due-settings (λ why. reply (making.Refused why) t) (a .s) (length t) [] (made (a .s) t) (e .0))
+    (record { answer = ap making.Refused (sym (e .1)); bytes = refl })
 
 pub make-spec : {M : Type 1} → statement M
 make-spec =

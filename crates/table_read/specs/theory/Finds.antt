@@ -24,7 +24,9 @@ use Rattle.table_read.specs.Steps.{slotsIn, basicRun, displacedRun, over
 use Rattle.table_read.specs.theory.Reads.{slots-length, basic-slots-in, displaced-slots-in, overflow-slots-in, link-lt}
 use Rattle.table_read.specs.theory.Walks.{OneStep, followed, content-short, content-high, content-bad, content-long}
 use Rattle.table_read.specs.declared.slots.Slots.{Slots}
-use Rattle.table.specs.declared.answers.FindAnswer.the-variants as found
+use Rattle.table.specs.Answer.{said}
+use Rattle.table.specs.declared.answers.Answer.the-variants as answer
+use Rattle.table.specs.declared.answers.Word.the-variants as word
 
 module _ (g : Layout) (e : ℕ) where
   pub position-le : (es : List ℕ) → position g e es ≤ length es
@@ -62,11 +64,11 @@ module _ (g : Layout) (e : ℕ) where
 
   -- ---- what is answered
 
-  pub find-held : (es : List ℕ) (k j : ℕ) → j ≡ position g e es → j < length es → findFrom g e es k ≡ found.Held (labelOf g (getD es j 0)) (k + suc j)
+  pub find-held : (es : List ℕ) (k j : ℕ) → j ≡ position g e es → j < length es → findFrom g e es k ≡ said word.Held (labelOf g (getD es j 0)) (k + suc j)
   unfolding findFrom
   find-held es k j p h = let l : position g e es < length es = omega arith in rw (lt-ltb (position g e es) (length es) l, p)
 
-  pub find-none : (es : List ℕ) (k j : ℕ) → j ≡ position g e es → length es ≤ j → findFrom g e es k ≡ found.None (k + length es)
+  pub find-none : (es : List ℕ) (k j : ℕ) → j ≡ position g e es → length es ≤ j → findFrom g e es k ≡ said word.None 0 (k + length es)
   unfolding findFrom
   find-none es k j p h = let l : length es ≤ position g e es = omega arith in rw (le-ltb (position g e es) (length es) l)
 
@@ -75,8 +77,8 @@ module _ (g : Layout) (e : ℕ) where
       let p = position-left xs ys h in
       let l = length-append xs ys in
       find-held (xs ++ ys) k (position g e (xs ++ ys)) refl (omega arith)
-      ∙ ap (λ (n : ℕ). found.Held (labelOf g (getD (xs ++ ys) n 0)) (k + suc n)) p
-      ∙ ap (λ (x : ℕ). found.Held (labelOf g x) (k + suc (position g e xs))) (List·getD-append xs ys 0 (position g e xs) h)
+      ∙ ap (λ (n : ℕ). said word.Held (labelOf g (getD (xs ++ ys) n 0)) (k + suc n)) p
+      ∙ ap (λ (x : ℕ). said word.Held (labelOf g x) (k + suc (position g e xs))) (List·getD-append xs ys 0 (position g e xs) h)
       ∙ sym (find-held xs k (position g e xs) refl h)
 
   pub find-right : (xs ys : List ℕ) (k : ℕ) → length xs ≤ position g e xs → findFrom g e (xs ++ ys) k ≡ findFrom g e ys (k + length xs)
@@ -87,14 +89,14 @@ module _ (g : Layout) (e : ℕ) where
           let p = position-right xs ys h in
           let l = length-append xs ys in
           let z : k + length (xs ++ ys) ≡ k + length xs + length ys = omega arith in
-          find-none (xs ++ ys) k (position g e (xs ++ ys)) refl (omega arith) ∙ ap found.None z ∙ sym (find-none ys (k + length xs) (position g e ys) refl m)
+          find-none (xs ++ ys) k (position g e (xs ++ ys)) refl (omega arith) ∙ ap (said word.None 0) z ∙ sym (find-none ys (k + length xs) (position g e ys) refl m)
       pick (no m) =
           let p = position-right xs ys h in
           let l = length-append xs ys in
           let z : k + suc (length xs + position g e ys) ≡ k + length xs + suc (position g e ys) = omega arith in
           find-held (xs ++ ys) k (position g e (xs ++ ys)) refl (omega arith)
-          ∙ ap (λ (n : ℕ). found.Held (labelOf g (getD (xs ++ ys) n 0)) (k + suc n)) p
-          ∙ ap₂ (λ (x n : ℕ). found.Held (labelOf g x) n) (getD-append-add xs ys (position g e ys) 0) z
+          ∙ ap (λ (n : ℕ). said word.Held (labelOf g (getD (xs ++ ys) n 0)) (k + suc n)) p
+          ∙ ap₂ (λ (x n : ℕ). said word.Held (labelOf g x) n) (getD-append-add xs ys (position g e ys) 0) z
           ∙ sym (find-held ys (k + length xs) (position g e ys) refl (omega arith))
 
   pub find-all : (v : Content) → findFollowed g e (some v) ≡ findFrom g e (v .slots) 0
@@ -121,16 +123,16 @@ module _ (g : Layout) (t : List ℕ) (T : Table g t) (f b c : ℕ) (r : Slots) (
 -- found in it, not found in the last one, and not found in one that goes on
 module _ (g : Layout) (t : List ℕ) (T : Table g t) (e n f b c j : ℕ) (r : Slots) (S : OneStep g (decode g t .overflow) f b)
     (ec : c ≡ overflowAt (decode g t .overflow) b .counter) (er : r ≡ overflowRun g b c) (ej : j ≡ position g e (slotsIn g t r)) where
-  pub block-held : j < r .count → found.Held (labelOf g (getD (slotsIn g t r) j 0)) (n + suc j) ≡ findFrom g e (gatherFrom g f (decode g t .overflow) b) n
+  pub block-held : j < r .count → said word.Held (labelOf g (getD (slotsIn g t r) j 0)) (n + suc j) ≡ findFrom g e (gatherFrom g f (decode g t .overflow) b) n
   block-held h = pick (decLe (g .sio) c)
     where
       low : j < length (slotsIn g t r)
       low = omega (arith, slots-length g t r, h)
 
-      here : found.Held (labelOf g (getD (slotsIn g t r) j 0)) (n + suc j) ≡ findFrom g e (slotsIn g t r) n
+      here : said word.Held (labelOf g (getD (slotsIn g t r) j 0)) (n + suc j) ≡ findFrom g e (slotsIn g t r) n
       here = sym (find-held g e (slotsIn g t r) n j ej low)
 
-      pick : Dec (g .sio ≤ c) → found.Held (labelOf g (getD (slotsIn g t r) j 0)) (n + suc j) ≡ findFrom g e (gatherFrom g f (decode g t .overflow) b) n
+      pick : Dec (g .sio ≤ c) → said word.Held (labelOf g (getD (slotsIn g t r) j 0)) (n + suc j) ≡ findFrom g e (gatherFrom g f (decode g t .overflow) b) n
       pick (yes l) =
           here
           ∙ sym
@@ -138,9 +140,9 @@ module _ (g : Layout) (t : List ℕ) (T : Table g t) (e n f b c j : ℕ) (r : Sl
           ∙ find-left g e (slotsIn g t r) (gatherFrom g (f - 1) (decode g t .overflow) (overflowAt (decode g t .overflow) b .link)) n (omega (arith, low, ej)))
       pick (no l) = here ∙ sym (ap (λ (xs : List ℕ). findFrom g e xs n) (block-last g t T f b c r S ec er (omega arith)))
 
-  pub block-none : r .count ≤ j → c < g .sio → found.None (n + r .count) ≡ findFrom g e (gatherFrom g f (decode g t .overflow) b) n
+  pub block-none : r .count ≤ j → c < g .sio → said word.None 0 (n + r .count) ≡ findFrom g e (gatherFrom g f (decode g t .overflow) b) n
   block-none h l =
-      ap (λ (m : ℕ). found.None (n + m)) (sym (slots-length g t r))
+      ap (λ (m : ℕ). said word.None 0 (n + m)) (sym (slots-length g t r))
       ∙ sym (find-none g e (slotsIn g t r) n j ej (omega (arith, slots-length g t r)))
       ∙ sym (ap (λ (xs : List ℕ). findFrom g e xs n) (block-last g t T f b c r S ec er l))
 
@@ -155,7 +157,7 @@ module _ (g : Layout) (t : List ℕ) (T : Table g t) (e n f b c j : ℕ) (r : Sl
 -- ---- a list, by its basic block's counter
 
 module _ (g : Layout) (st : State) (i e : ℕ) where
-  find-damaged : content g st i ≡ none → found.Refused refusal.Damage ≡ findIn g st i e
+  find-damaged : content g st i ≡ none → answer.Refused refusal.Damage ≡ findIn g st i e
   unfolding findIn findFollowed
   find-damaged q = rw q
 
@@ -172,14 +174,14 @@ module _ (g : Layout) (t : List ℕ) (T : Table g t) (i e : ℕ) (il : i < g .li
       ∙ ap (λ (xs : List ℕ). findFrom g e xs 0) (basic-slots-in g t T i (basicAt (decode g t .basic) i .counter) il k)
       ∙ sym (find-whole g (decode g t) i e _ (content-short g (decode g t) i k))
 
-  pub find-high : (c : ℕ) → c ≡ basicAt (decode g t .basic) i .counter → suc (g .sib) < c → found.Refused refusal.Damage ≡ findIn g (decode g t) i e
+  pub find-high : (c : ℕ) → c ≡ basicAt (decode g t .basic) i .counter → suc (g .sib) < c → answer.Refused refusal.Damage ≡ findIn g (decode g t) i e
   find-high c ec l = find-damaged g (decode g t) i e (content-high g (decode g t) i (omega (arith, ec)))
 
   module _ (h last : ℕ) (O : Overflows g (decode g t) i h) (el : last ≡ lastFrom g (g .nob) (decode g t .overflow) h) where
     end : last ≡ lastFrom g (g .nob) (decode g t .overflow) (basicAt (decode g t .basic) i .head)
     end = el ∙ ap (lastFrom g (g .nob) (decode g t .overflow)) (O .head)
 
-    pub find-bad : g .nob ≤ last → found.Refused refusal.Damage ≡ findIn g (decode g t) i e
+    pub find-bad : g .nob ≤ last → answer.Refused refusal.Damage ≡ findIn g (decode g t) i e
     find-bad l = find-damaged g (decode g t) i e (content-bad g (decode g t) i (O .counter) (omega (arith, l, end)))
 
     module _ (d j : ℕ) (r : Slots) (low : last < g .nob) (ed : d ≡ overflowAt (decode g t .overflow) last .link) (er : r ≡ displacedRun g i d)
@@ -200,7 +202,7 @@ module _ (g : Layout) (t : List ℕ) (T : Table g t) (i e : ℕ) (il : i < g .li
       unfolding displacedRun
       long = slots-length g t r ∙ ap (λ (s : Slots). s .count) er
 
-      pub find-first : j < g .sib → found.Held (labelOf g (getD (slotsIn g t r) j 0)) (0 + suc j) ≡ findIn g (decode g t) i e
+      pub find-first : j < g .sib → said word.Held (labelOf g (getD (slotsIn g t r) j 0)) (0 + suc j) ≡ findIn g (decode g t) i e
       find-first l =
           sym
           (whole

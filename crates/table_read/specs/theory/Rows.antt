@@ -1,10 +1,11 @@
 -- Blocks of slots: parts of them, and what their being within the bytes says of a slot.
 use mathlib.Core.Path.{_≡_, sym, ap, _∙_}
-use Prim.Native.Nat.{ℕ, zero, suc, _+_, _-_, _*_, _^_, _≤_, _<_}
+use Prim.Native.Nat.{ℕ, zero, suc, _+_, _-_, _*_, _≤_, _<_}
 use mathlib.Core.List.{List}
 use lib.ListN.{length}
 use native.Mathlib.Omega.{arith}
 use native.Mathlib.Nat.{mul-le-mul-right}
+use Rattle.settings.specs.Legal.{mostBits}
 use Rattle.bits.specs.Field.{field}
 use Rattle.table_read.specs.Steps.{First}
 use Rattle.table_read.specs.Rows.{Row}
@@ -25,7 +26,7 @@ module _ (t : List ℕ) (start slot bie room : ℕ) (r : Row t start slot bie ro
       }
 
   -- the entry of one of them is within the bytes
-  pub entry-inside : (j : ℕ) → j < room → (start + j * slot + bie ≤ 8 * length t) × (start + j * slot + bie ≤ 2 ^ 27)
+  pub entry-inside : (j : ℕ) → j < room → (start + j * slot + bie ≤ 8 * length t) × (start + j * slot + bie ≤ mostBits)
   entry-inside j h =
       let m = mul-le-mul-right slot h in
       (omega (arith, r .ends, r .fits), omega (arith, r .near, r .fits))

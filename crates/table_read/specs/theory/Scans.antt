@@ -1,11 +1,12 @@
 -- From the bits that a scan compared to the entry's place in the slots, and to its label.
 use mathlib.Core.Path.{_≡_, sym, ap, ap₂, _∙_}
 use mathlib.Core.List.{List}
-use Prim.Native.Nat.{ℕ, suc, _+_, _*_, _^_, _≤_, _<_, min}
+use Prim.Native.Nat.{ℕ, suc, _+_, _*_, _≤_, _<_, min}
 use native.Mathlib.Omega.{arith}
 use lib.ListN.{length, getD}
 use lib.Dec.{eqb}
 use borrow.Author.Tests.{eq-eqb, ne-eqb}
+use Rattle.settings.specs.Legal.{mostBits}
 use Rattle.bits.specs.Field.{field}
 use Rattle.bits.specs.Put.{putField}
 use Rattle.bits.specs.theory.Puts.{put-zero}
@@ -20,7 +21,8 @@ use Rattle.table_read.specs.Rows.{Row}
 use Rattle.table_read.specs.theory.Reads.{slots-length, entry-in, label-in, slot-inside, basic-run-within, overflow-run-within}
 use Rattle.table_read.specs.theory.Finds.{position-is}
 use Rattle.table_read.specs.declared.slots.Slots.{Slots}
-use Rattle.table.specs.declared.answers.FindAnswer.the-variants as found
+use Rattle.table.specs.Answer.{said}
+use Rattle.table.specs.declared.answers.Word.the-variants as word
 
 -- where no bits are displaced, the slots count as they stand
 pub restored-bytes-plain : (t : List ℕ) (b : Slots) → b .displaced ≡ 0 → restoredBytes t b ≡ t
@@ -41,7 +43,7 @@ module _ (g : Layout) (F : Proper g) (t : List ℕ) (b : Slots) where
         slim = omega (arith, F .bie-high, F .val-high);
       }
 
-  pub label-inside : (k : ℕ) → SlotsWithin g t b → k < b .count → (b .start + k * g .slot + g .bie + g .val ≤ 8 * length t) × (b .start + k * g .slot + g .bie + g .val ≤ 2 ^ 27)
+  pub label-inside : (k : ℕ) → SlotsWithin g t b → k < b .count → (b .start + k * g .slot + g .bie + g .val ≤ 8 * length t) × (b .start + k * g .slot + g .bie + g .val ≤ mostBits)
   label-inside k R h =
       let i = slot-inside g t b k h in
       let w = F .slot-is in
@@ -61,17 +63,17 @@ module _ (g : Layout) (F : Proper g) (t : List ℕ) (b : Slots) where
 
   -- and the label's bits are behind them; m slots were compared
   pub held-restored : (k m n : ℕ) → k < b .count → m ≡ n + suc k
-      → found.Held (field (restoredBytes t b) (b .start + k * g .slot + g .bie) (g .val)) m ≡ found.Held (labelOf g (getD (slotsIn g t b) k 0)) (n + suc k)
-  held-restored k m n h e = ap₂ found.Held (sym (label-in g t b F k h)) e
+      → said word.Held (field (restoredBytes t b) (b .start + k * g .slot + g .bie) (g .val)) m ≡ said word.Held (labelOf g (getD (slotsIn g t b) k 0)) (n + suc k)
+  held-restored k m n h e = ap₂ (said word.Held) (sym (label-in g t b F k h)) e
 
   module _ (z : b .displaced ≡ 0) where
     pub plain-position : (e r : ℕ) → First t (b .start) (g .slot) (g .bie) e (b .count) r → r ≡ position g e (slotsIn g t b)
     plain-position e r f = first-position e r (rw (restored-bytes-plain t b z) f)
 
     pub held-plain : (k m n : ℕ) → k < b .count → m ≡ n + suc k
-        → found.Held (field t (b .start + k * g .slot + g .bie) (g .val)) m ≡ found.Held (labelOf g (getD (slotsIn g t b) k 0)) (n + suc k)
+        → said word.Held (field t (b .start + k * g .slot + g .bie) (g .val)) m ≡ said word.Held (labelOf g (getD (slotsIn g t b) k 0)) (n + suc k)
     held-plain k m n h e =
-        ap (λ (s : List ℕ). found.Held (field s (b .start + k * g .slot + g .bie) (g .val)) m) (sym (restored-bytes-plain t b z)) ∙ held-restored k m n h e
+        ap (λ (s : List ℕ). said word.Held (field s (b .start + k * g .slot + g .bie) (g .val)) m) (sym (restored-bytes-plain t b z)) ∙ held-restored k m n h e
 
 -- the whole blocks
 module _ (g : Layout) (t : List ℕ) (T : Table g t) where

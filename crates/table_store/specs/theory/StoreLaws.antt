@@ -10,6 +10,7 @@ use lib.ListN.{length, getD, set}
 use lib.Seq.{getD-set-same, set-set}
 use lib.Pow.{high, low, shr-lt, shl-shr, pow-pos, pow-mono, pow-add, mod-pow-add, split}
 use lib.Arith.{digits-lt}
+use Rattle.settings.specs.Legal.{mostBits}
 use Rattle.bits.specs.Bytes.{Bytes}
 use Rattle.bits.specs.Field.{field}
 use Rattle.bits.specs.Put.{replaced, putField}
@@ -44,7 +45,7 @@ slot-lt g F e label S = rw (F .slot-is) (join-fits (g .bie) (g .val) (S .entry-f
 
 -- what put_slot asks and leaves, in a table
 pub slot-asks : (g : Layout) (t : List ℕ) → Table g t → (at e label : ℕ) → at + g .slot ≤ g .bits → Slotted g e label
-    → (at + (g .bie + g .val) ≤ 8 * length t) × (at + (g .bie + g .val) ≤ 2 ^ 27) × (g .bie ≤ 128) × (g .val ≤ 32) × (e < 2 ^ g .bie) × (label < 2 ^ g .val)
+    → (at + (g .bie + g .val) ≤ 8 * length t) × (at + (g .bie + g .val) ≤ mostBits) × (g .bie ≤ 128) × (g .val ≤ 32) × (e < 2 ^ g .bie) × (label < 2 ^ g .val)
 slot-asks g t T at e label l S =
     let F = T .proper in
     (omega (arith, F .slot-is, T .room), omega (arith, F .slot-is, bits-high g F), F .bie-high, F .val-high, S .entry-fits, S .label-fits)
@@ -55,7 +56,7 @@ slot-put g F t u at x e = e ∙ ap (λ (n : ℕ). putField t at n x) (sym (F .sl
 
 -- what copy asks, for a slot of a table
 pub copy-asks : (g : Layout) (t : List ℕ) → Table g t → (from to : ℕ) → from + g .slot ≤ g .bits → to + g .slot ≤ g .bits
-    → (1 ≤ g .slot) × (g .slot ≤ 160) × (from + g .slot ≤ 8 * length t) × (from + g .slot ≤ 2 ^ 27) × (to + g .slot ≤ 8 * length t) × (to + g .slot ≤ 2 ^ 27)
+    → (1 ≤ g .slot) × (g .slot ≤ 160) × (from + g .slot ≤ 8 * length t) × (from + g .slot ≤ mostBits) × (to + g .slot ≤ 8 * length t) × (to + g .slot ≤ mostBits)
 copy-asks g t T from to l m =
     let F = T .proper in
     let high = bits-high g F in

@@ -1,5 +1,5 @@
--- What writing answers and leaves, by whether the text fits.
-use mathlib.Core.Path.{_≡_, sym}
+-- What writing comes to, by whether the text fits.
+use mathlib.Core.Path.{_≡_, refl, ap, _∙_}
 use mathlib.Core.List.{List, _++_}
 use Prim.Native.Nat.{ℕ, _≤_, _<_}
 use lib.ListN.{length, drop}
@@ -9,29 +9,30 @@ use borrow.Author.Tests.{le-leb, lt-leb, leb-true}
 use Rattle.laws.specs.Cases.{cases}
 use Rattle.keys.specs.declared.Key.{Key}
 use Rattle.settings.specs.declared.refusal.Refusal.the-variants as refusal
+use Rattle.settings.specs.Reply.{Gives}
 use Rattle.text_write.specs.Writing.{written}
-use Rattle.text_write.specs.Answers.{writingOf, storedOf}
+use Rattle.text_write.specs.Answers.{writeCall}
 use Rattle.text_write.specs.declared.Written.the-variants as out
 
 module _ (k : Key) (b : List ℕ) where
   abbrev text : List ℕ
   text = written (k .high) (k .low)
 
-  pub too-long : length b < length text → (out.Refused refusal.Output ≡ writingOf k b) × (b ≡ storedOf k b)
-  unfolding writingOf storedOf
-  too-long h = (sym (simp (lt-leb _ _ h)), sym (simp (lt-leb _ _ h)))
+  pub too-long : length b < length text → Gives (writeCall k b) (out.Refused refusal.Output) b
+  unfolding writeCall
+  too-long h = rw (lt-leb (length text) (length b) h) (record { answer = refl; bytes = refl })
 
-  pub fits : length text ≤ length b → (out.Length (length text) ≡ writingOf k b) × (text ++ drop (length text) b ≡ storedOf k b)
-  unfolding writingOf storedOf
-  fits h = (sym (simp (le-leb _ _ h)), sym (simp (le-leb _ _ h)))
+  -- n bytes are written, before those that stay
+  pub fits : (n : ℕ) (u : List ℕ) → n ≡ length text → u ≡ text ++ drop n b → n ≤ length b → Gives (writeCall k b) (out.Length n) u
+  unfolding writeCall
+  fits n u e eu h =
+      rw (le-leb (length text) (length b) (omega arith))
+      (record { answer = ap out.Length e; bytes = eu ∙ ap (λ (m : ℕ). text ++ drop m b) e })
 
--- a text that was written fits the lent bytes
-pub length-fits : (k : Key) (b : List ℕ) (n : ℕ) → writingOf k b ≡ out.Length n → n ≤ length b
-unfolding writingOf
-length-fits k b n e =
-    cases (leb (length (written (k .high) (k .low))) (length b))
-    (λ h.
-    let q : out.Length (length (written (k .high) (k .low))) ≡ out.Length n = rw h at e in
-    let z : length (written (k .high) (k .low)) ≡ n = cc in
-    omega (arith, leb-true (length (written (k .high) (k .low))) (length b) h))
-    (λ h. let q : out.Refused refusal.Output ≡ out.Length n = rw h at e in let z : _≡_ {A = ℕ} 0 1 = cc in absurd (omega arith))
+  -- a text that was written fits the lent bytes
+  pub length-fits : (n : ℕ) → writeCall k b .answer ≡ out.Length n → n ≤ length b
+  unfolding writeCall
+  length-fits n =
+      cases (leb (length text) (length b))
+      (λ h. rw h (λ e. let z : length text ≡ n = cc in omega (arith, leb-true (length text) (length b) h)))
+      (λ h. rw h (λ e. let z : _≡_ {A = ℕ} 0 1 = cc in absurd (omega arith)))

@@ -3,7 +3,8 @@ use mathlib.Core.Path.{sym, _∙_}
 use native.Mathlib.Omega.{arith}
 use denote.Ref.{now}
 use Rattle.program_commands.specs.theory.Spaces.{read-spaceless}
-use Rattle.program_answers.specs.theory.Lines.{Parsing, asks-request, asks-none, answered-none, answered-key, answered-unread}
+use Rattle.program_answers.specs.theory.Lines.{Parsing, asks-request, asks-none, line-none, line-key, line-unread}
+use Rattle.program_answers.proofs.Puts.{answered-as, answered-refused}
 use borrow.Author.Needs.{needs}
 use Rattle.program_answers.proofs.answer.answer_line.Statement.{statement}
 use Rattle.program_answers.proofs.answer.answer_line.Tie as tie
@@ -69,7 +70,7 @@ returns c =
     let q = b .before .before .before in
     let s = start (q .before .before) in
     let e = sym (b .read-by .ensures) ∙ k .key .given .1 in
-    answered-key (now (s .args .line)) (now (s .args .t)) (q .q .given .0 .0) (parsing q .is) (omega (arith, s)) (k .key .given .0 .0) e (read-spaceless _ _ e) (x .answer-key .ensures)
+    answered-as (line-key (now (s .args .t)) (now (s .args .line)) (q .q .given .0 .0) (parsing q .is) (omega (arith, s)) (k .key .given .0 .0) e (read-spaceless _ _ e)) (x .answer-key .ensures)
 
 same-length-3 : tie.Need-same-length-3
 same-length-3 c = search needs
@@ -82,7 +83,8 @@ returns-2 c =
     let b = t .before .before in
     let q = b .before .before .before in
     let s = start (q .before .before) in
-    answered-unread (now (s .args .line)) (now (s .args .t)) (q .q .given .0 .0) (parsing q .is) (omega (arith, s)) (t .enum-told .given .0 .0) (sym (b .read-by .ensures) ∙ t .enum-told .given .1)
+    answered-refused _
+    (line-unread (now (s .args .t)) (now (s .args .line)) (q .q .given .0 .0) (parsing q .is) (omega (arith, s)) (t .enum-told .given .0 .0) (sym (b .read-by .ensures) ∙ t .enum-told .given .1))
     (rw (u .unread .ensures) at (f .refuse .ensures))
 
 same-length-4 : tie.Need-same-length-4
@@ -93,7 +95,8 @@ returns-3 c =
     let f = c .before .before in
     let t = f .before .before in
     let p = t .before .before in
-    answered-none (now (start p .args .line)) (now (start p .args .t)) (asks-none (now (start p .args .line)) (p .parse .ensures) (t .enum-told2 .given .1)) (f .refuse2 .ensures)
+    let a = start p .args in
+    answered-refused _ (line-none (now (a .t)) (now (a .line)) (asks-none (now (a .line)) (p .parse .ensures) (t .enum-told2 .given .1))) (f .refuse2 .ensures)
 
 pub answer-line-spec : {M : Type 1} → statement M
 answer-line-spec =

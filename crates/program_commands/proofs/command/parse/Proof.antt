@@ -3,6 +3,7 @@ use mathlib.Core.Path.{refl}
 use Prim.Native.Nat.{_≤_}
 use native.Mathlib.Omega.{arith}
 use lib.ListN.{length, getD}
+use Rattle.program_commands.specs.Command.{longestLine}
 use Rattle.program_commands.specs.Steps.{Begins}
 use Rattle.program_commands.proofs.Parses.{malformed, size-malformed, size-fits, unspaced-line, unknown-line, delete-asks, find-asks}
 use Rattle.program_commands.proofs.command.parse.Statement.{statement}
@@ -12,7 +13,7 @@ returns : tie.Need-returns
 returns c = size-malformed _ (c .if1 .taken)
 
 -- behind the test of the length
-sized : (c : tie.Else1) → (3 ≤ length (c .before .before .args .line .now)) × (length (c .before .before .args .line .now) ≤ 64)
+sized : (c : tie.Else1) → (3 ≤ length (c .before .before .args .line .now)) × (length (c .before .before .args .line .now) ≤ longestLine)
 sized c = size-fits (c .before .before .args .line .now) (c .if1 .left)
 
 shared-slice-read-if2 : tie.Need-shared-slice-read-if2

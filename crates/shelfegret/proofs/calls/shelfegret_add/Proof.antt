@@ -1,6 +1,6 @@
 -- The reply is that of the call's own answer; the bytes are the call's.
 use mathlib.Core.Path.{ap, _∙_}
-use Rattle.shelfegret.specs.Reply.{addReply}
+use Rattle.shelfegret.specs.Reply.{answerReply}
 use borrow.Author.Needs.{needs}
 use Rattle.shelfegret.proofs.calls.shelfegret_add.Statement.{statement}
 use Rattle.shelfegret.proofs.calls.shelfegret_add.Tie as tie
@@ -8,8 +8,8 @@ use Rattle.shelfegret.proofs.calls.shelfegret_add.Tie as tie
 add-requires : tie.Need-add-requires
 add-requires c κs = search needs
 
-added-requires : tie.Need-added-requires
-added-requires c κs = search needs
+answered-requires : tie.Need-answered-requires
+answered-requires c κs = search needs
 
 same-length : tie.Need-same-length
 same-length c = search needs
@@ -17,7 +17,7 @@ same-length c = search needs
 returns : tie.Need-returns
 returns c =
     let d = c .before .before .before in
-    (c .added .ensures ∙ ap (addReply (d .before .before .before .args .key)) (d .add .ensures .answer), d .add .ensures .bytes)
+    record { answer = c .answered .ensures ∙ ap (answerReply (d .before .before .before .args .key)) (d .add .ensures .answer); bytes = d .add .ensures .bytes }
 
 pub shelfegret-add-spec : {M : Type 1} → statement M
-shelfegret-add-spec = tie.close (tie.spec add-requires added-requires same-length returns)
+shelfegret-add-spec = tie.close (tie.spec add-requires answered-requires same-length returns)

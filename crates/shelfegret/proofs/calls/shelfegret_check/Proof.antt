@@ -17,7 +17,7 @@ same-length c = search needs
 returns : tie.Need-returns
 returns c =
     let d = c .before .before .before in
-    (c .checked .ensures ∙ ap checkReply (d .check .ensures .0), d .check .ensures .1)
+    record { answer = c .checked .ensures ∙ ap checkReply (d .check .ensures .answer); bytes = d .check .ensures .bytes }
 
 pub shelfegret-check-spec : {M : Type 1} → statement M
 shelfegret-check-spec = tie.close (tie.spec check-requires checked-requires same-length returns)

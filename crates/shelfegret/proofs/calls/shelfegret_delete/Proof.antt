@@ -1,6 +1,6 @@
 -- The reply is that of the call's own answer; the bytes are the call's.
 use mathlib.Core.Path.{ap, _∙_}
-use Rattle.shelfegret.specs.Reply.{deleteReply}
+use Rattle.shelfegret.specs.Reply.{answerReply}
 use borrow.Author.Needs.{needs}
 use Rattle.shelfegret.proofs.calls.shelfegret_delete.Statement.{statement}
 use Rattle.shelfegret.proofs.calls.shelfegret_delete.Tie as tie
@@ -8,8 +8,8 @@ use Rattle.shelfegret.proofs.calls.shelfegret_delete.Tie as tie
 delete-requires : tie.Need-delete-requires
 delete-requires c κs = search needs
 
-deleted-requires : tie.Need-deleted-requires
-deleted-requires c κs = search needs
+answered-requires : tie.Need-answered-requires
+answered-requires c κs = search needs
 
 same-length : tie.Need-same-length
 same-length c = search needs
@@ -17,7 +17,7 @@ same-length c = search needs
 returns : tie.Need-returns
 returns c =
     let d = c .before .before .before in
-    (c .deleted .ensures ∙ ap (deleteReply (d .before .before .before .args .key)) (d .delete .ensures .answer), d .delete .ensures .bytes)
+    record { answer = c .answered .ensures ∙ ap (answerReply (d .before .before .before .args .key)) (d .delete .ensures .answer); bytes = d .delete .ensures .bytes }
 
 pub shelfegret-delete-spec : {M : Type 1} → statement M
-shelfegret-delete-spec = tie.close (tie.spec delete-requires deleted-requires same-length returns)
+shelfegret-delete-spec = tie.close (tie.spec delete-requires answered-requires same-length returns)

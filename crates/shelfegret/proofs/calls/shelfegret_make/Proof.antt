@@ -17,7 +17,7 @@ same-length c = search needs
 returns : tie.Need-returns
 returns c =
     let d = c .before .before .before in
-    (c .made .ensures ∙ ap makeReply (d .make .ensures .0), d .make .ensures .1)
+    record { answer = c .made .ensures ∙ ap makeReply (d .make .ensures .answer); bytes = d .make .ensures .bytes }
 
 pub shelfegret-make-spec : {M : Type 1} → statement M
 shelfegret-make-spec = tie.close (tie.spec make-requires made-requires same-length returns)

@@ -17,8 +17,7 @@ same-length c = search needs
 returns : tie.Need-returns
 returns c =
     let d = c .before .before .before in
-    (c .written .ensures ∙ ap writeReply (d .write .ensures .0), d .write .ensures .1)
+    record { answer = c .written .ensures ∙ ap writeReply (d .write .ensures .answer); bytes = d .write .ensures .bytes }
 
 pub shelfegret-write-text-spec : {M : Type 1} → statement M
-shelfegret-write-text-spec =
-    tie.close (tie.spec write-requires written-requires same-length returns)
+shelfegret-write-text-spec = tie.close (tie.spec write-requires written-requires same-length returns)

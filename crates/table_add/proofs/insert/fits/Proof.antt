@@ -1,6 +1,6 @@
 -- The quotient is 0 where no bit stands above.
 use borrow.Author.Needs.{needs}
-use Rattle.table_add.specs.theory.AddLaws.{fits-is}
+use Rattle.table_add.proofs.AddLaws.{fits-is}
 use Rattle.table_add.proofs.insert.fits.Statement.{statement}
 use Rattle.table_add.proofs.insert.fits.Tie as tie
 

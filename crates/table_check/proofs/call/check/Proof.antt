@@ -1,11 +1,8 @@
 -- What the layout's answer tells decides this one.
-use mathlib.Core.Path.{sym, ap, _∙_}
+use mathlib.Core.Path.{sym, _∙_}
 use denote.Ref.{now}
 use Rattle.settings.specs.theory.Legal.{legal-means, laid-layout, laid-refused}
 use Rattle.settings.specs.theory.Proper.{layout-proper}
-use Rattle.settings.specs.declared.layout.Layout.{Layout}
-use Rattle.table.specs.declared.answers.CheckAnswer.the-variants as checking
-use Rattle.table_check.specs.Answers.{checkedAnswer, checkedMarks}
 use Rattle.table_check.proofs.Answers.{check-legal, check-illegal}
 use borrow.Author.Needs.{needs}
 use Rattle.table_check.proofs.call.check.Statement.{statement}
@@ -36,18 +33,14 @@ returns c =
     let k = d .before .before .before in
     let s = k .before .before .before .before .before in
     let t = laid-layout (s .args .s) _ (sym (k .before .before .layout .ensures) ∙ k .g .given .1) in
-    let l = check-legal (s .args .s) (now (s .args .t)) (now (s .args .marks)) (t .0) in (
-      d .checked .ensures .0 ∙ ap (λ (g : Layout). checkedAnswer g (now (s .args .t)) (now (s .args .marks))) (sym (t .1)) ∙ l .0,
-      d .checked .ensures .1 ∙ ap (λ (g : Layout). checkedMarks g (now (s .args .t)) (now (s .args .marks))) (sym (t .1)) ∙ l .1,
-    )
+    check-legal (s .args .s) (now (s .args .t)) (now (s .args .marks)) _ _ _ (t .0) (t .1) (d .checked .ensures)
 
 returns-2 : tie.Need-returns-2
 returns-2 c =
     let k = c .before in
     let s = k .before .before .before .before .before in
     let t = laid-refused (s .args .s) _ (sym (k .before .before .layout .ensures) ∙ k .why .given .1) in
-    let l = check-illegal (s .args .s) (now (s .args .t)) (now (s .args .marks)) (t .0) in
-    (ap checking.Refused (sym (t .1)) ∙ l .0, l .1)
+    rw (sym (t .1)) (check-illegal (s .args .s) (now (s .args .t)) (now (s .args .marks)) (t .0))
 
 pub check-spec : {M : Type 1} → statement M
 check-spec =

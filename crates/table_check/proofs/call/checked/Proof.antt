@@ -6,9 +6,10 @@ use Prim.Native.Nat.{ℕ, _+_, _/_, _≤_}
 use native.Mathlib.Omega.{arith}
 use lib.ListN.{length, take, drop, replicate, length-take}
 use denote.Ref.{now}
+use Rattle.settings.specs.Reply.{Gives}
 use Rattle.table.specs.Check.{markBytes, marksAfter}
 use Rattle.table.specs.declared.answers.CheckAnswer.the-variants as checking
-use Rattle.table_check.specs.Answers.{checkedAnswer, checkedMarks}
+use Rattle.table_check.specs.Answers.{checkedCall}
 use Rattle.table_check.proofs.Answers.{checked-short, checked-few, checked-done}
 use borrow.Author.Needs.{needs}
 use Rattle.table_check.proofs.call.checked.Statement.{statement}
@@ -64,8 +65,9 @@ after k =
     ap (_++ drop ((s .args .g .nob + 7) / 8) (now (s .args .marks))) (k .audited .ensures .marks ∙ ap (λ (n : ℕ). replicate n 0) e)
 
 done : (k : tie.After-audited) (r : Bool) → k .audited .result ≡ r → let s = to-start (to-else1-2 k) in
-    (cond r checking.Sound checking.Unsound ≡ checkedAnswer (s .args .g) (now (s .args .t)) (now (s .args .marks)))
-    × (k .audited .last .1 .1 .0 ++ drop ((s .args .g .nob + 7) / 8) (now (s .args .marks)) ≡ checkedMarks (s .args .g) (now (s .args .t)) (now (s .args .marks)))
+    Gives (checkedCall (s .args .g) (now (s .args .t)) (now (s .args .marks)))
+    (cond r checking.Sound checking.Unsound)
+    (k .audited .last .1 .1 .0 ++ drop ((s .args .g .nob + 7) / 8) (now (s .args .marks)))
 done k r e =
     let s = to-start (to-else1-2 k) in
     checked-done (s .args .g) (now (s .args .t)) (now (s .args .marks)) (omega arith) (omega arith) r (sym e ∙ k .audited .ensures .answer) _ (after k)

@@ -16,8 +16,8 @@ use Rattle.table_read.specs.theory.Reads.{sized}
 use Rattle.table_read.specs.theory.BlockSlots.{long-ends}
 use Rattle.table_store.specs.theory.PlaceLaws.{store-keeps}
 use Rattle.table_delete.specs.DeleteSteps.{cannotFreeAt, Shrinkable}
-use Rattle.table_delete.specs.theory.DeleteLaws.{shrinkable-kept}
-use Rattle.table_delete.specs.theory.RemoveLaws.{Route, route, removed-shut, removed-open}
+use Rattle.table_delete.proofs.DeleteLaws.{shrinkable-kept}
+use Rattle.table_delete.proofs.RemoveLaws.{Route, route, removed-shut, removed-open}
 use Rattle.table_delete.proofs.remove.remove_long.Statement.{statement}
 use Rattle.table_delete.proofs.remove.remove_long.Tie as tie
 

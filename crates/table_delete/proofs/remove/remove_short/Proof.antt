@@ -14,7 +14,7 @@ use Rattle.table.specs.theory.Changes.{bits-high}
 use Rattle.table_read.specs.theory.Places.{basic-slot-ends}
 use Rattle.table_store.specs.Stores.{slotPut}
 use Rattle.table_store.specs.theory.StoreLaws.{copy-asks, table-kept}
-use Rattle.table_delete.specs.theory.RemoveLaws.{removed-short}
+use Rattle.table_delete.proofs.RemoveLaws.{removed-short}
 use Rattle.table_delete.proofs.remove.remove_short.Statement.{statement}
 use Rattle.table_delete.proofs.remove.remove_short.Tie as tie
 

@@ -4,7 +4,7 @@ use denote.Ref.{now}
 use borrow.Author.Needs.{needs}
 use Rattle.table_read.specs.Places.{BlockIn}
 use Rattle.table.specs.theory.Changes.{bits-high}
-use Rattle.table_delete.specs.theory.DeleteLaws.{stored-slot-off}
+use Rattle.table_delete.proofs.DeleteLaws.{stored-slot-off}
 use Rattle.table_read.specs.theory.Places.{over-in, overflow-slot-ends}
 use Rattle.table_delete.proofs.shrink.drop_last_slot.Statement.{statement}
 use Rattle.table_delete.proofs.shrink.drop_last_slot.Tie as tie

@@ -7,7 +7,7 @@ use borrow.Author.Needs.{needs}
 use Rattle.table.specs.Decode.{decode}
 use Rattle.table.specs.theory.Ways.{told-further, told-other}
 use Rattle.table_read.specs.theory.BlockSlots.{chain-low}
-use Rattle.table_delete.specs.theory.DeleteLaws.{Ending, ending-first, ending-here, ending-on}
+use Rattle.table_delete.proofs.DeleteLaws.{Ending, ending-first, ending-here, ending-on}
 use Rattle.table_delete.proofs.shrink.end_of.Statement.{statement}
 use Rattle.table_delete.proofs.shrink.end_of.Tie as tie
 

@@ -3,7 +3,7 @@ use Prim.Native.Nat.{_≤_}
 use native.Mathlib.Omega.{arith}
 use denote.Ref.{now}
 use borrow.Author.Needs.{needs}
-use Rattle.table_delete.specs.theory.DeleteLaws.{link-free-fits, stored-free-block}
+use Rattle.table_delete.proofs.DeleteLaws.{link-free-fits, stored-free-block}
 use Rattle.table_delete.proofs.shrink.free_block.Statement.{statement}
 use Rattle.table_delete.proofs.shrink.free_block.Tie as tie
 

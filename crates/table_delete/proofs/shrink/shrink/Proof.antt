@@ -11,7 +11,7 @@ use Rattle.table.specs.Decode.{decode}
 use Rattle.table.specs.Delete.{handedBack}
 use Rattle.table_read.specs.theory.Reads.{link-lt}
 use Rattle.table.specs.theory.FormedCalls.{handed-free}
-use Rattle.table_delete.specs.theory.DeleteLaws.{free-low, stored-further, stored-back, stored-kept, stored-freed}
+use Rattle.table_delete.proofs.DeleteLaws.{free-low, stored-further, stored-back, stored-kept, stored-freed}
 use Rattle.table.specs.Table.{Within}
 use Rattle.table_delete.proofs.shrink.shrink.Statement.{statement}
 use Rattle.table_delete.proofs.shrink.shrink.Tie as tie

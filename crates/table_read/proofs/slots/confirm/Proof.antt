@@ -1,18 +1,19 @@
 -- The candidate holds the entry, or the search goes on behind it.
 use mathlib.Core.Path.{sym, _∙_}
-use Prim.Native.Nat.{_+_, _*_, _^_, _≤_}
+use Prim.Native.Nat.{_+_, _*_, _≤_}
 use native.Mathlib.Omega.{arith}
 use lib.ListN.{length}
 use denote.Ref.{now}
 use borrow.Author.Count.{below-more}
 use borrow.Author.Tests.{eqb-true, eqb-false}
 use borrow.Author.Needs.{needs}
+use Rattle.settings.specs.Legal.{mostBits}
 use Rattle.keys.specs.Key.{keyNumber}
 use Rattle.table_read.specs.theory.Rows.{entry-inside}
 use Rattle.table_read.proofs.slots.confirm.Statement.{statement}
 use Rattle.table_read.proofs.slots.confirm.Tie as tie
 
-inside : (s : tie.Start) → let a = s .args in (a .b .start + a .from .0 * a .slot + a .bie ≤ 8 * length (now (a .t))) × (a .b .start + a .from .0 * a .slot + a .bie ≤ 2 ^ 27)
+inside : (s : tie.Start) → let a = s .args in (a .b .start + a .from .0 * a .slot + a .bie ≤ 8 * length (now (a .t))) × (a .b .start + a .from .0 * a .slot + a .bie ≤ mostBits)
 inside s = let a = s .args in entry-inside (now (a .t)) (a .b .start) (a .slot) (a .bie) (a .b .count) (s .pre .0 .0) (a .from .0) (s .pre .0 .2)
 
 mul-holds : tie.Need-mul-holds

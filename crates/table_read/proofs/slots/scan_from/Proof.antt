@@ -6,6 +6,7 @@ use borrow.Author.Count.{below-more}
 use borrow.Author.Tests.{eqb-true, eqb-false}
 use lib.ListN.{length}
 use denote.Ref.{now}
+use Rattle.settings.specs.Legal.{mostBits}
 use Rattle.bits.specs.Field.{field}
 use Rattle.keys.specs.Key.{keyNumber}
 use Rattle.table_read.specs.theory.Rows.{entry-inside}
@@ -21,7 +22,7 @@ abbrev μ-loop : tie.MeasureT-loop
 
 -- the entry of a slot is within the bytes
 inside : (s : tie.Start Inv-loop μ-loop) (j : ℕ) → j < s .args .b .count
-    → let a = s .args in (a .b .start + j * a .slot + a .bie ≤ 8 * length (now (a .t))) × (a .b .start + j * a .slot + a .bie ≤ 2 ^ 27)
+    → let a = s .args in (a .b .start + j * a .slot + a .bie ≤ 8 * length (now (a .t))) × (a .b .start + j * a .slot + a .bie ≤ mostBits)
 inside s = let a = s .args in entry-inside (now (a .t)) (a .b .start) (a .slot) (a .bie) (a .b .count) (s .pre .0 .0)
 
 loop-holds : tie.Need-loop-holds Inv-loop μ-loop

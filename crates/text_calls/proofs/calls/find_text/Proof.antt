@@ -1,49 +1,138 @@
 -- What was admitted decides: the call with the key, or its refusal.
-use mathlib.Core.Path.{sym, ap, _∙_}
+use mathlib.Core.Path.{_≡_, sym, ap, _∙_}
 use denote.Ref.{now}
+use lib.ListN.{length}
 use borrow.Author.Needs.{needs}
-use Rattle.table.specs.Calls.{findAnswer}
-use Rattle.table.specs.declared.answers.FindAnswer.the-variants as finding
+use Rattle.settings.specs.Reply.{Reply}
+use Rattle.settings.specs.Made.{laidOf}
+use Rattle.settings.specs.declared.layout.Laid.the-variants as laid
+use Rattle.table.specs.Calls.{find}
+use Rattle.table_find.specs.Seek.{openOf}
+use Rattle.table_find.specs.theory.Seeks.{found-call}
+use Rattle.table_find.specs.theory.SoughtLaws.{placed-at, sought-as}
+use Rattle.table_find.specs.declared.Sought.{Sought}
+use Rattle.text_calls.specs.declared.calls.TextAnswer.{TextAnswer}
 use Rattle.text_read.specs.declared.Parsed.{Parsed}
-use Rattle.text_calls.specs.TextCalls.{byReading, findTextAnswer}
-use Rattle.text_calls.specs.theory.TextCalls.{with-admitted}
+use Rattle.text_calls.specs.TextCalls.{forKey}
+use Rattle.text_calls.specs.Admits.{admittedOf}
+use Rattle.text_calls.specs.theory.TextCalls.{admitted-open, admitted-illegal, admitted-call}
 use Rattle.text_calls.proofs.calls.find_text.Statement.{statement}
 use Rattle.text_calls.proofs.calls.find_text.Tie as tie
 
+-- places, each named once
+abbrev to-start : tie.After-layout → tie.Start
+to-start c = c .before .before .before
+
+abbrev to-layout : tie.After-g → tie.After-layout
+to-layout c = c .before .before
+
+abbrev to-g : tie.After-admit → tie.After-g
+to-g c = c .before .before
+
+abbrev to-admit : tie.After-key → tie.After-admit
+to-admit c = c .before .before
+
+abbrev start-at : tie.After-key → tie.Start
+start-at c = to-start (to-layout (to-g (to-admit c)))
+
+abbrev to-key : tie.After-place → tie.After-key
+to-key c = c .before .before
+
+-- the layout is the settings'
+laid-out : (c : tie.After-g) → laidOf (to-start (to-layout c) .args .s) ≡ laid.Layout (c .g .given .0 .0)
+laid-out c = sym (to-layout c .layout .ensures) ∙ c .g .given .1
+
+-- what was admitted
+admitted : (c : tie.After-admit) (p : Parsed) → c .admit .result ≡ p
+    → let a = to-start (to-layout (to-g c)) .args in admittedOf (a .s) (now (a .t)) (now (a .text)) ≡ p
+admitted c p e = sym (c .admit .ensures) ∙ e
+
+-- a key: the table is opened for it
+open-at : (c : tie.After-key) → let a = start-at c .args in openOf (a .s) (length (now (a .t))) (c .key .given .0 .0) ≡ laid.Layout (to-g (to-admit c) .g .given .0 .0)
+open-at c =
+    let d = to-admit c in
+    let a = start-at c .args in
+    admitted-open (a .s) (now (a .t)) (now (a .text)) (laid-out (to-g d)) (admitted d _ (c .key .given .1))
+
+layout-requires : tie.Need-layout-requires
+layout-requires c κs = search needs
+
+enum-known-g : tie.Need-enum-known-g
+enum-known-g c = search needs
+
 admit-requires : tie.Need-admit-requires
-admit-requires c κs = search needs
+admit-requires c κs = laid-out (c .before)
 
 enum-known-key : tie.Need-enum-known-key
 enum-known-key c = search needs
 
-find-requires : tie.Need-find-requires
-find-requires c κs = search needs
+place-requires : tie.Need-place-requires
+place-requires c κs =
+    let k = c .before in
+    let a = start-at k .args in
+    placed-at (a .s) (k .key .given .0 .0) (now (a .t)) (open-at k) .place
+
+find-in-requires : tie.Need-find-in-requires
+find-in-requires c κs =
+    let d = c .before in
+    let k = to-key d in
+    let a = start-at k .args in
+    rw (d .place .ensures) (placed-at (a .s) (k .key .given .0 .0) (now (a .t)) (open-at k) .find)
 
 enum-known-why : tie.Need-enum-known-why
 enum-known-why c = search needs
 
+refused-requires : tie.Need-refused-requires
+refused-requires c κs = search needs
+
+enum-known-why-2 : tie.Need-enum-known-why-2
+enum-known-why-2 c = search needs
+
+refused-requires-2 : tie.Need-refused-requires-2
+refused-requires-2 c κs = search needs
+
 returns : tie.Need-returns
-unfolding findTextAnswer
 returns c =
-    let k = c .before .before in
-    let a = k .before .before .before .before .before .args in
-    let on = findAnswer (a .s) (now (a .t)) in
-    c .find .ensures
-    ∙ sym
-    (with-admitted finding.Refused (a .s) (now (a .t)) (now (a .text)) on
-    ∙ ap (λ (p : Parsed). byReading finding.Refused p on) (sym (k .before .before .admit .ensures) ∙ k .key .given .1))
+    let d = c .before .before in
+    let k = to-key d in
+    let a = start-at k .args in
+    ap (forKey (k .key .given .0 .0))
+    (ap (λ (v : Sought). v .found) (sought-as (a .s) (k .key .given .0 .0) (now (a .t)) (open-at k) (d .place .result) (c .find-in .result) (d .place .ensures) (c .find-in .ensures))
+    ∙ found-call (a .s) (k .key .given .0 .0) (now (a .t)) (open-at k))
+    ∙ sym (ap (λ (o : Reply TextAnswer). o .answer) (admitted-call (a .s) (now (a .t)) (now (a .text)) find _ (admitted (to-admit k) _ (k .key .given .1))))
 
 returns-2 : tie.Need-returns-2
-unfolding findTextAnswer
 returns-2 c =
-    let w = c .before in
-    let a = w .before .before .before .before .before .args in
-    let on = findAnswer (a .s) (now (a .t)) in
-    sym
-    (with-admitted finding.Refused (a .s) (now (a .t)) (now (a .text)) on
-    ∙ ap (λ (p : Parsed). byReading finding.Refused p on) (sym (w .before .before .admit .ensures) ∙ w .why .given .1))
+    let w = c .before .before in
+    let d = w .before .before in
+    let a = to-start (to-layout (to-g d)) .args in
+    c .refused .ensures
+    ∙ sym (ap (λ (o : Reply TextAnswer). o .answer) (admitted-call (a .s) (now (a .t)) (now (a .text)) find _ (admitted d _ (w .why .given .1))))
+
+returns-3 : tie.Need-returns-3
+returns-3 c =
+    let w = c .before .before in
+    let l = w .before .before in
+    let a = to-start l .args in
+    c .refused2 .ensures
+    ∙ sym (ap (λ (o : Reply TextAnswer). o .answer)
+    (admitted-call (a .s) (now (a .t)) (now (a .text)) find _
+    (admitted-illegal (a .s) (now (a .t)) (now (a .text)) (w .why2 .given .0 .0) (sym (l .layout .ensures) ∙ w .why2 .given .1))))
 
 pub find-text-spec : {M : Type 1} → statement M
 find-text-spec =
     tie.close
-    (tie.spec admit-requires enum-known-key find-requires enum-known-why returns returns-2)
+    (tie.spec
+    layout-requires
+    enum-known-g
+    admit-requires
+    enum-known-key
+    place-requires
+    find-in-requires
+    enum-known-why
+    refused-requires
+    enum-known-why-2
+    refused-requires-2
+    returns
+    returns-2
+    returns-3)

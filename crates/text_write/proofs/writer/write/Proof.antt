@@ -7,11 +7,14 @@ use lib.ListN.{length, take, drop}
 use lib.Seq.{length-take-le}
 use Rattle.text_write.specs.Writing.{written}
 use Rattle.text_write.specs.WriterSteps.{keyGroups}
-use Rattle.text_write.specs.declared.Written.the-variants as answer
 use Rattle.text_write.specs.theory.Answered.{too-long, fits}
 use borrow.Author.Needs.{needs}
 use Rattle.text_write.proofs.writer.write.Statement.{statement}
 use Rattle.text_write.proofs.writer.write.Tie as tie
+
+-- the place where the text fits
+abbrev to-else1 : tie.After-slice-known2 → tie.Else1
+to-else1 c = c .before .before .before .before .before
 
 slice-aggregate-put-text : tie.Need-slice-aggregate-put-text
 slice-aggregate-put-text c = search needs
@@ -49,17 +52,14 @@ same-length c = search needs
 
 returns-2 : tie.Need-returns-2
 returns-2 c =
-    let e = c .before .before .before .before .before in
+    let e = to-else1 c in
     let p = e .before .before in
     let s = p .before .before .before in
     let k = s .args .key in
     let b = s .args .out .now in
-    let t = written (k .high) (k .low) in
-    let n = p .put-text .result in
-    let f = fits k b (omega (arith, size p, e .if1 .left)) in (
-      ap answer.Length (size p) ∙ f .0,
-      c .before .before .copy .ensures ∙ ap (λ (x : List ℕ). x ++ drop n b) (put p) ∙ ap (λ (m : ℕ). t ++ drop m b) (size p) ∙ f .1,
-    )
+    fits k b (p .put-text .result) _ (size p)
+    (c .before .before .copy .ensures ∙ ap (λ (x : List ℕ). x ++ drop (p .put-text .result) b) (put p))
+    (omega (arith, e .if1 .left))
 
 pub write-spec : {M : Type 1} → statement M
 write-spec =

@@ -1,3 +1,0 @@
--- Laws that only the proofs of this crate use.
-mod TextReply
-mod Placed

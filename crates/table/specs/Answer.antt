@@ -1,0 +1,34 @@
+-- What add, find and delete answer. "Where an answer is an enum, a definition lists this paper's number and values for each case."
+use Prim.Native.Nat.{ℕ}
+use Rattle.settings.specs.Refusal.{numberOf}
+use Rattle.keys.specs.declared.Key.{Key}
+use Rattle.table.specs.declared.answers.Answer.{Answer}
+use Rattle.table.specs.declared.answers.Answer.the-variants as answer
+use Rattle.table.specs.declared.answers.Word.{Word}
+use Rattle.table.specs.declared.answers.Word.the-variants as word
+
+-- a word, its label, and how many entries were compared
+abbrev pub said : Word → ℕ → ℕ → Answer
+said w label compared = answer.Said label w compared
+
+-- the words, numbered; 0 is none
+abbrev pub wordNumber : Word → ℕ
+wordNumber word.Added = 1
+wordNumber word.Held = 2
+wordNumber word.Gone = 3
+wordNumber word.None = 4
+
+abbrev pub noKey : Key
+noKey = record { high = 0; low = 0 }
+
+pub record Values : Type 0 where
+  pub number : ℕ
+  pub word : ℕ
+  pub key : Key
+  pub label : ℕ
+  pub compared : ℕ
+
+-- number 0 is accepted, for the key k; "A refusal returns its number, key, label and compared 0"
+abbrev pub valuesOf : Key → Answer → Values
+valuesOf k (answer.Said label w compared) = record { number = 0; word = wordNumber w; key = k; label = label; compared = compared }
+valuesOf k (answer.Refused why) = record { number = numberOf why; word = 0; key = noKey; label = 0; compared = 0 }

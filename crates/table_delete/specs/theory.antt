@@ -1,2 +1,0 @@
-pub mod DeleteLaws
-pub mod RemoveLaws
