@@ -6,7 +6,7 @@ use Prim.Native.Nat.{ℕ, _^_, _≤_, _<_}
 use native.Mathlib.Omega.{arith}
 use lib.ListN.{length}
 use lib.Dec.{leb, ltb}
-use borrow.Author.Tests.{le-leb, lt-ltb, leb-true}
+use borrow.Author.Tests.{le-leb, lt-ltb}
 use Rattle.settings.specs.declared.settings.Settings.{Settings}
 use Rattle.settings.specs.declared.refusal.Refusal.{Refusal}
 use Rattle.settings.specs.declared.layout.Layout.{Layout}
@@ -45,11 +45,6 @@ laid-layout g h e = cc
 
 laid-why : (why r : Refusal) → laid.Refused why ≡ laid.Refused r → why ≡ r
 laid-why why r e = cc
-
--- the lent bytes are enough
-pub open-room : {s : Settings} {n : ℕ} {k : Key} {g : Layout} → Opened s n k g → g .bytes ≤ n
-unfolding layoutOf
-open-room {s} {n} o = rw (sym (o .layout)) (leb-true (tableBytes s) n (o .long))
 
 module _ (s : Settings) (k : Key) where
   pub open-means : (n : ℕ) (g : Layout) → openOf s n k ≡ laid.Layout g → Opened s n k g
