@@ -7,7 +7,7 @@ use lib.ListN.{length, take, drop}
 use Rattle.settings.specs.declared.settings.Settings.{Settings}
 use Rattle.keys.specs.declared.Key.{Key}
 use Rattle.keys.specs.Key.{keyNumber}
-use Rattle.table.specs.Rebuilt.{Pair}
+use Rattle.plain_set.specs.Rebuilt.{Pair}
 use Rattle.plain_set.specs.Set.{Call, call, Step, setStep}
 use Rattle.plain_set.specs.Set as set
 use Rattle.plain_set.specs.Holds.{Holds}

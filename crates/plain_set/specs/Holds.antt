@@ -6,7 +6,7 @@ use Prim.Native.Nat.{ℕ}
 use Rattle.settings.specs.declared.settings.Settings.{Settings}
 use Rattle.settings.specs.Layout.{layoutOf}
 use Rattle.table.specs.Decode.{decode}
-use Rattle.table.specs.Rebuilt.{Pair, rebuiltPairs}
+use Rattle.plain_set.specs.Rebuilt.{Pair, rebuiltPairs}
 use Rattle.table.specs.Check.{tableSound}
 use Rattle.plain_set.specs.Same.{SamePairs, NoKeyTwice}
 

@@ -1,7 +1,9 @@
 -- Definitions: what a reader must believe.
+pub mod Rebuilt
 pub mod Set
 pub mod Plain
 pub mod Same
 pub mod Holds
+pub mod Nth
 -- What is proved of them.
 pub mod theory

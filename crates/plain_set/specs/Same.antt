@@ -4,7 +4,7 @@ use mathlib.Core.Bool.{Bool}
 use mathlib.Core.List.{List}
 use Prim.Native.Nat.{ℕ, _≤_}
 use Rattle.laws.specs.Folds.{count}
-use Rattle.table.specs.Rebuilt.{Pair}
+use Rattle.plain_set.specs.Rebuilt.{Pair}
 use Rattle.plain_set.specs.Set.{hasKey}
 
 -- as many pairs of either pass any test

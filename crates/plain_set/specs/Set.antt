@@ -12,7 +12,7 @@ use Rattle.settings.specs.declared.refusal.Refusal.the-variants as refusal
 use Rattle.settings.specs.Sizes.{lists}
 use Rattle.settings.specs.Due.{Due, due, unlessDue, settingsDue, shortDue, widthDue, keyDue}
 use Rattle.keys.specs.Key.{listNumber}
-use Rattle.table.specs.Rebuilt.{Pair, pair}
+use Rattle.plain_set.specs.Rebuilt.{Pair, pair}
 use Rattle.table.specs.Calls.{Verb, find, add, delete, verbDue}
 use Rattle.table.specs.declared.answers.Word.{Word}
 use Rattle.table.specs.declared.answers.Word.the-variants as word

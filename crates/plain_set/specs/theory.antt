@@ -26,3 +26,4 @@ pub mod Stored
 pub mod Longer
 pub mod StateSteps
 pub mod Start
+pub mod Nth

@@ -12,7 +12,6 @@ pub mod Store
 pub mod Add
 pub mod Delete
 pub mod New
-pub mod Rebuilt
 pub mod Record
 pub mod Check
 pub mod Calls

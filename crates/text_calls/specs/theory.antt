@@ -2,6 +2,8 @@
 pub mod Bounds
 pub mod Texts
 pub mod RoundTrip
+pub mod Fields
+pub mod Canonical
 pub mod TextCalls
 pub mod Computing
 pub mod Examples

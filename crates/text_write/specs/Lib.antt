@@ -1,7 +1,7 @@
 -- Definitions: what a reader must believe.
 pub mod Writing
 pub mod Answers
--- Words that only private contracts use.
+-- Words of contracts behind `write`.
 pub mod WriterSteps
 -- What is proved of them.
 pub mod theory

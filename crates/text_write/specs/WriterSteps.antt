@@ -1,8 +1,9 @@
--- Words that only the contracts of the writer's private functions use.
+-- Words that only the contracts of the functions behind `write` use.
 use mathlib.Core.Path.{_≡_}
 use Prim.Native.Nat.{ℕ, _+_, _*_, _/_, _%_, _≤_, _<_}
 use mathlib.Core.Bool.{cond}
 use mathlib.Core.List.{List, [], _∷_, _++_}
+use lib.ListN.{take, drop}
 use lib.Dec.{leb}
 use Rattle.keys.specs.declared.Key.{Key}
 use Rattle.text_write.specs.Writing.{groupText, fourGroups, zeros, longest}
@@ -32,3 +33,9 @@ runMarks n (g ∷ l) = runMarks n l * 2 + cond (leb n (zeros (g ∷ l))) 1 0
 pub record Gap (l : List ℕ) (start count : ℕ) : Type 0 where
   pub none : count < 2 → longest l .1 < 2
   pub some : 2 ≤ count → (start ≡ longest l .0) × (count ≡ longest l .1)
+
+-- the text stands before place r, and from place `most` on nothing has changed; the bytes between are free
+pub record Puts (text : List ℕ) (most : ℕ) (before after : List ℕ) (r : ℕ) : Type 0 where
+  pub within : r ≤ most
+  pub is : take r after ≡ text
+  pub kept : drop most after ≡ drop most before

@@ -5,6 +5,5 @@ pub mod Stores
 pub mod Digits
 pub mod Texts
 pub mod LongestRun
-pub mod Gaps
 pub mod Lengths
 pub mod Answered

@@ -8,7 +8,7 @@ ghost use mathlib.Core.Bool.{cond};
 ghost use lib.ListN.{length, take, drop, getD};
 ghost use lib.Dec.{eqb};
 ghost use Rattle.text_write.specs.Writing.{hexDigit, groupText, partText, textOf};
-ghost use Rattle.text_write.specs.WriterSteps.{Gap, keyGroups, packed, unpacked, closedText, runMarks};
+ghost use Rattle.text_write.specs.WriterSteps.{Gap, Puts, keyGroups, packed, unpacked, closedText, runMarks};
 ghost use Rattle.settings.specs.Reply.{Gives};
 ghost use Rattle.text_write.specs.Answers.{writeCall};
 use crate::Written;
@@ -66,7 +66,7 @@ fn digit_count(group: u32) -> u32
 // The four bytes of a number, the lowest first.
 fn put_four(text: &mut [u8], at: usize, x: u32)
     requires { ⌜ at + 4 ≤ length (now text) ⌝ }
-    ensures { λ r. ⌜ take (at + 4) (now (text .exit)) ≡ take at (now (text .entry)) ++ unpacked x ⌝ }
+    ensures { λ r. ⌜ Puts (take at (now (text .entry)) ++ unpacked x) (at + 4) (now (text .entry)) (now (text .exit)) (at + 4) ⌝ }
 {
     bits::store_four(text, at, x as u64);
 }
@@ -74,7 +74,7 @@ fn put_four(text: &mut [u8], at: usize, x: u32)
 // A group and a colon. The group is moved up, so that its first digit that counts comes first.
 fn put_group(text: &mut [u8], at: usize, group: u32) -> usize
     requires { ⌜ (group < 65536) × (at + 5 ≤ length (now text)) ⌝ }
-    ensures { λ r. ⌜ (r ≤ at + 5) × (take r (now (text .exit)) ≡ take at (now (text .entry)) ++ (groupText group ++ 58 ∷ [])) ⌝ }
+    ensures { λ r. ⌜ Puts (take at (now (text .entry)) ++ (groupText group ++ 58 ∷ [])) (at + 5) (now (text .entry)) (now (text .exit)) r ⌝ }
 {
     let n = digit_count(group);
     put_four(text, at, characters(group << (16 - 4 * n)));
@@ -86,7 +86,7 @@ fn put_group(text: &mut [u8], at: usize, group: u32) -> usize
 // The groups from `from` up to `to`, a colon after each.
 fn put_groups(text: &mut [u8], at: usize, key: Key, from: usize, to: usize) -> usize
     requires { ⌜ (from ≤ to) × (to ≤ 8) × (at + 5 * (to - from) ≤ length (now text)) ⌝ }
-    ensures { λ r. ⌜ (r ≤ at + 5 * (to - from)) × (take r (now (text .exit)) ≡ take at (now (text .entry)) ++ closedText (drop from (take to (keyGroups key)))) ⌝ }
+    ensures { λ r. ⌜ Puts (take at (now (text .entry)) ++ closedText (drop from (take to (keyGroups key)))) (at + 5 * (to - from)) (now (text .entry)) (now (text .exit)) r ⌝ }
 {
     let mut end = at;
     let mut i = from;
@@ -100,7 +100,7 @@ fn put_groups(text: &mut [u8], at: usize, key: Key, from: usize, to: usize) -> u
 // What stands before the second colon of "::": the groups before the run, or nothing, and a colon.
 fn put_front(text: &mut [u8], key: Key, to: usize) -> usize
     requires { ⌜ (to ≤ 8) × (5 * to + 1 ≤ length (now text)) ⌝ }
-    ensures { λ r. ⌜ (r ≤ 5 * to + 1) × (take r (now (text .exit)) ≡ partText (take to (keyGroups key)) ++ 58 ∷ []) ⌝ }
+    ensures { λ r. ⌜ Puts (partText (take to (keyGroups key)) ++ 58 ∷ []) (5 * to + 1) (now (text .entry)) (now (text .exit)) r ⌝ }
 {
     if to == 0 {
         text[0] = b':';
@@ -112,7 +112,7 @@ fn put_front(text: &mut [u8], key: Key, to: usize) -> usize
 // The groups from `from` on, which end the text: the colon after the last is left out.
 fn put_back(text: &mut [u8], at: usize, key: Key, from: usize) -> usize
     requires { ⌜ (from ≤ 8) × (at + 5 * (8 - from) ≤ length (now text)) ⌝ }
-    ensures { λ r. ⌜ (r ≤ at + 5 * (8 - from)) × (take r (now (text .exit)) ≡ take at (now (text .entry)) ++ partText (drop from (keyGroups key))) ⌝ }
+    ensures { λ r. ⌜ Puts (take at (now (text .entry)) ++ partText (drop from (keyGroups key))) (at + 5 * (8 - from)) (now (text .entry)) (now (text .exit)) r ⌝ }
 {
     if from == 8 {
         return at;
@@ -166,10 +166,12 @@ fn longest_run(key: Key) -> Run
     }
 }
 
-// The text of a key, and its length.
+// The text of a key, and its length. What the rest of the first 40 bytes holds is left free: four
+// digits are stored where fewer count, and a colon after the last group. Callers read the text alone,
+// or write on behind it. The bytes from place 40 on stay as they are.
 pub fn put_text(text: &mut [u8], key: Key) -> usize
     requires { ⌜ 40 ≤ length (now text) ⌝ }
-    ensures { λ r. ⌜ (r ≤ 40) × (take r (now (text .exit)) ≡ textOf (keyGroups key)) ⌝ }
+    ensures { λ r. ⌜ Puts (textOf (keyGroups key)) 40 (now (text .entry)) (now (text .exit)) r ⌝ }
 {
     let run = longest_run(key);
     let start = run.start;

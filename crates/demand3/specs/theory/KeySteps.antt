@@ -20,9 +20,9 @@ use Rattle.settings.specs.theory.Proper.{layout-proper}
 use Rattle.keys.specs.Key.{entry, listNumber}
 use Rattle.keys.specs.theory.Keys.{entry-below}
 use Rattle.table.specs.State.{State}
-use Rattle.table.specs.Done.{bytesWith, replied}
+use Rattle.table.specs.Done.{bytesWith}
 use Rattle.table.specs.Calls.{Verb, find, add, delete, listCall, verbDue, held}
-use Rattle.table.specs.Rebuilt.{Pair}
+use Rattle.plain_set.specs.Rebuilt.{Pair}
 use Rattle.table.specs.declared.answers.Answer as table
 use Rattle.table.specs.theory.Formed.{Formed, decode-formed}
 use Rattle.table.specs.theory.FormedCalls.{Holds, holds-none, holds-some, add-formed, delete-formed}
@@ -31,7 +31,7 @@ use Rattle.plain_set.specs.Plain.{plain}
 use Rattle.plain_set.specs.theory.Rep.{Stores}
 use Rattle.plain_set.specs.theory.Keys.{in-table}
 use Rattle.settings.specs.theory.Dues.{NoneDue}
-use Rattle.plain_set.specs.theory.Refusals.{label-below}
+use Rattle.plain_set.specs.theory.Refusals.{legalCall, label-below}
 use Rattle.plain_set.specs.theory.OneList.{Told, told, rowTold, rowAfter}
 use Rattle.plain_set.specs.theory.Lists.{rowOf, isFull, listsTold, listsAfter, Stands, call-agrees}
 use Rattle.plain_set.specs.theory.StateSteps.{stateAfter, call-acts}
@@ -69,10 +69,6 @@ pub record Follows (s : Settings) (T : List (List ℕ)) (v : Verb) (o : Option �
   pub own : (i : ℕ) → i < lists s → OwnStep s v (onList s i o) (getD T i []) (getD after i []) (told (r .answer))
 
 -- The call -----------------------------------------------------------------------------------------------------------------
-
--- what a call comes to whose inputs are legal
-abbrev pub legalCall : Settings → List ℕ → Verb → ℕ → Reply table.Answer
-legalCall s t v k = replied (layoutOf s) t (listCall (layoutOf s) (held s t) (listNumber s k) (entry s k) v)
 
 module _ {s : Settings} (right : Legal s) {t : List ℕ} {T : List (List ℕ)} {ps : List Pair} (a : Agree s t T ps) where
   -- the bytes with the state in them that a call leaves

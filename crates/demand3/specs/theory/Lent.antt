@@ -16,7 +16,7 @@ use Rattle.settings.specs.Due.{due, unlessDue, settingsDue, shortDue, widthDue}
 use Rattle.settings.specs.Reply.{Reply, reply, called, answering}
 use Rattle.table.specs.Answer.{noKey}
 use Rattle.table.specs.Calls.{Verb, keyCall}
-use Rattle.table.specs.Rebuilt.{Pair}
+use Rattle.plain_set.specs.Rebuilt.{Pair}
 use Rattle.table.specs.declared.answers.Answer as table
 use Rattle.table.specs.declared.answers.Answer.the-variants as answer
 use Rattle.text_read.specs.Answers.{readingOf}
@@ -24,12 +24,12 @@ use Rattle.text_read.specs.declared.Parsed.{Parsed}
 use Rattle.text_read.specs.declared.Parsed.the-variants as parsed
 use Rattle.text_calls.specs.TextCalls.{keyRead, notRead, forKey, textCall}
 use Rattle.plain_set.specs.Set.{Call, call, text, keyGiven, refused, Step, step, keyStep, callDue, setStep}
-use Rattle.plain_set.specs.theory.Refusals.{none-due}
+use Rattle.plain_set.specs.theory.Refusals.{legalCall, key-refused, none-due}
 use Rattle.settings.specs.theory.Dues.{by-dues}
 use Rattle.plain_set.specs.theory.Agree.{Agree}
 use Rattle.plain_set.specs.theory.Longer.{bytes-take, bytes-drop, agree-append, agree-front}
 use Rattle.demand3.specs.Claim.{Asked, byKey, byText, Lending, tableCall, memoryAfter, asRead, given, setAfter}
-use Rattle.demand3.specs.theory.KeySteps.{Follows, legalCall, legal-follows}
+use Rattle.demand3.specs.theory.KeySteps.{Follows, legal-follows}
 
 -- Keys and texts -------------------------------------------------------------------------------------------------------------
 
@@ -52,8 +52,8 @@ reading-is s t v (parsed.Refused why) =
 -- a call is refused for its inputs as the set refuses it; or it is the call with its key
 call-is : (s : Settings) (t : List ℕ) (c : Asked)
     → tableCall s t c ≡ called answer.Refused t (callDue s (length t) (given c)) (legalCall s t (given c .verb) (keyGiven (given c .given)))
-unfolding keyCall textCall
-call-is s t (byKey v k) = refl
+unfolding textCall
+call-is s t (byKey v k) = key-refused s t v k
 call-is s t (byText v x) = reading-is s t v (readingOf x)
 
 -- Any number of lent bytes ---------------------------------------------------------------------------------------------------

@@ -21,7 +21,7 @@ use Rattle.keys.specs.theory.Keys.{entry-rebuilt, list-rebuilt, rebuilt-below}
 use Rattle.table.specs.State.{Basic, Overflow, State}
 use Rattle.table.specs.Decode.{decode}
 use Rattle.table.specs.Follow.{contentOf, content}
-use Rattle.table.specs.Rebuilt.{Pair, slotsOf, pairsOf, rebuiltFrom, rebuiltPairs}
+use Rattle.plain_set.specs.Rebuilt.{Pair, slotsOf, pairsOf, rebuiltFrom, rebuiltPairs}
 use Rattle.plain_set.specs.Set.{hasKey}
 use Rattle.plain_set.specs.Same.{NoKeyTwice}
 use Rattle.table.specs.Check.{fillZero, tableSound}

@@ -22,7 +22,7 @@ use Rattle.table.specs.theory.Ways as ways
 use Rattle.table.specs.declared.step.Step.{Step}
 use Rattle.table.specs.declared.step.Step.the-variants.{Last, Further, Damage}
 use Rattle.table.specs.Take.{occurs}
-use Rattle.table.specs.Rebuilt.{slotsOf}
+use Rattle.plain_set.specs.Rebuilt.{slotsOf}
 use Rattle.table.specs.Check.{blocksOf, basicUnused, overflowUnused, freeZero, noEntryTwice, listSound, listsSound, chainFrom, freeChain, occursInLists, chainSound, stateSound}
 use Rattle.plain_set.specs.theory.Count.{one, sum}
 use Rattle.table.specs.theory.Formed.{All, all-nil, Fits, Formed, overflow-fits}

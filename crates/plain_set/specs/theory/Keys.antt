@@ -11,7 +11,7 @@ use Rattle.settings.specs.Legal.{Legal}
 use Rattle.settings.specs.Layout.{layoutOf}
 use Rattle.keys.specs.Key.{entry, listNumber, rebuilt}
 use Rattle.table.specs.State.{entryOf, labelOf, slotOf}
-use Rattle.table.specs.Rebuilt.{pairOf}
+use Rattle.plain_set.specs.Rebuilt.{pairOf}
 use Rattle.plain_set.specs.Set.{hasKey}
 use Rattle.table.specs.theory.Formed.{Fits}
 use Rattle.table.specs.theory.Written.{join-fits}

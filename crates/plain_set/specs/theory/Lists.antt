@@ -18,7 +18,7 @@ use Rattle.settings.specs.Legal.{Legal}
 use Rattle.settings.specs.Layout.{layoutOf}
 use Rattle.keys.specs.Key.{entry, listNumber}
 use Rattle.table.specs.State.{entryOf, labelOf}
-use Rattle.table.specs.Rebuilt.{Pair, pair, pairOf}
+use Rattle.plain_set.specs.Rebuilt.{Pair, pair, pairOf}
 use Rattle.table.specs.Calls.{Verb, find, add, delete, verbDue}
 use Rattle.plain_set.specs.Set.{hasKey, lookup, erase, Step, blocksUsed, listLength, noVacantSlot, blocksNeeded, allBlocksUsed, keyStep}
 use Rattle.table.specs.theory.Formed.{all-nil, all-cons, all-append}

@@ -16,7 +16,7 @@ use Rattle.settings.specs.Legal.{Legal}
 use Rattle.settings.specs.Layout.{layoutOf}
 use Rattle.settings.specs.theory.Proper.{layout-proper}
 use Rattle.table.specs.Decode.{decode}
-use Rattle.table.specs.Rebuilt.{Pair}
+use Rattle.plain_set.specs.Rebuilt.{Pair}
 use Rattle.table.specs.Check.{fillZero}
 use Rattle.table.specs.theory.Decode.{image-decode}
 use Rattle.table.specs.theory.Formed.{decode-formed}

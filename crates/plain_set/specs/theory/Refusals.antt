@@ -1,21 +1,60 @@
--- A call's refusals for its inputs, which table and set share: one is due, or none is. And find, and any refusal, leave the set as it is.
+-- A call's refusals for its inputs, which table and set share, in their order: one is due, or none is. And find, and any refusal, leave the set as
+-- it is.
 use mathlib.Core.Path.{_≡_, refl, sym}
-use mathlib.Core.Bool.{_&&_}
-use mathlib.Core.List.{List}
+use mathlib.Core.Bool.{Bool, true, _&&_}
+use mathlib.Core.List.{List, [], _∷_}
 use mathlib.Core.Option.{Option, none, some}
 use Prim.Native.Nat.{ℕ, _^_, _≤_, _<_}
 use native.Mathlib.Omega.{arith}
+use lib.ListN.{length}
+use lib.Dec.{ltb}
 use borrow.Author.Tests.{leb-true, ltb-true}
 use Rattle.laws.specs.Cases.{never}
 use Rattle.settings.specs.declared.settings.Settings.{Settings}
 use Rattle.settings.specs.declared.refusal.Refusal.{Refusal}
 use Rattle.settings.specs.Sizes.{tableBytes}
+use Rattle.settings.specs.Layout.{layoutOf}
+use Rattle.settings.specs.Refusal.{numberOf}
+use Rattle.settings.specs.Due.{Due}
+use Rattle.settings.specs.Reply.{Reply, called}
 use Rattle.settings.specs.theory.Dues.{NoneDue, by-dues, passed}
-use Rattle.keys.specs.Key.{listNumber}
-use Rattle.table.specs.Rebuilt.{Pair}
-use Rattle.table.specs.Calls.{Verb, find, add, delete, verbDue}
+use Rattle.keys.specs.declared.Key.{Key}
+use Rattle.keys.specs.Key.{keyNumber, listNumber, entry}
+use Rattle.plain_set.specs.Rebuilt.{Pair}
+use Rattle.table.specs.Done.{replied}
+use Rattle.table.specs.Calls.{Verb, find, add, delete, listCall, verbDue, held, keyCall}
+use Rattle.table.specs.declared.answers.Answer as table
+use Rattle.table.specs.declared.answers.Answer.the-variants as answer
 use Rattle.table.specs.theory.FormedCalls.{either}
 use Rattle.plain_set.specs.Set.{Given, key, text, keyGiven, Call, call, refused, lookup, noVacantSlot, listLength, allBlocksUsed, Step, step, findStep, addStep, deleteStep, keyStep, callDue, setStep}
+
+-- The same refusals in the same order --------------------------------------------------------------------------------------
+
+-- what a call comes to whose inputs are legal
+abbrev pub legalCall : Settings → List ℕ → Verb → ℕ → Reply table.Answer
+legalCall s t v k = replied (layoutOf s) t (listCall (layoutOf s) (held s t) (listNumber s k) (entry s k) v)
+
+-- the table refuses a call with a key as the set does
+pub key-refused : (s : Settings) (t : List ℕ) (v : Verb) (k : Key)
+    → keyCall s t v k ≡ called answer.Refused t (callDue s (length t) (call v (key (keyNumber k)))) (legalCall s t v (keyNumber k))
+unfolding keyCall
+key-refused s t v k = refl
+
+-- "refused with the lowest": the first that is due is the lowest that is due, since their numbers rise
+abbrev pub rising : ℕ → List Due → Bool
+rising n [] = true
+rising n (d ∷ ds) = ltb n (numberOf (d .why)) && rising (numberOf (d .why)) ds
+
+pub lowest-first : (s : Settings) (n : ℕ) (v : Verb) (g : Given) → rising 0 (callDue s n (call v g)) ≡ true
+lowest-first s n find (key k) = refl
+lowest-first s n find (text none) = refl
+lowest-first s n find (text (some k)) = refl
+lowest-first s n (add l) (key k) = refl
+lowest-first s n (add l) (text none) = refl
+lowest-first s n (add l) (text (some k)) = refl
+lowest-first s n delete (key k) = refl
+lowest-first s n delete (text none) = refl
+lowest-first s n delete (text (some k)) = refl
 
 -- Legal inputs --------------------------------------------------------------------------------------------------------
 

@@ -16,7 +16,7 @@ use Rattle.settings.specs.Sizes.{lists}
 use Rattle.settings.specs.Legal.{Legal}
 use Rattle.settings.specs.Layout.{layoutOf}
 use Rattle.keys.specs.Key.{entry, listNumber}
-use Rattle.table.specs.Rebuilt.{Pair, pairOf, pairsOf}
+use Rattle.plain_set.specs.Rebuilt.{Pair, pairOf, pairsOf}
 use Rattle.plain_set.specs.Set.{hasKey, listLength}
 use Rattle.table.specs.theory.Formed.{All, Fits}
 use Rattle.table.specs.theory.Positions.{isEntry}

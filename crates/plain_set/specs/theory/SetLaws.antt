@@ -9,7 +9,7 @@ use lib.Dec.{eqb}
 use borrow.Author.Tests.{eqb-true}
 use Rattle.laws.specs.Folds.{count}
 use Rattle.laws.specs.Cases.{cases, both-true}
-use Rattle.table.specs.Rebuilt.{Pair, pair}
+use Rattle.plain_set.specs.Rebuilt.{Pair, pair}
 use Rattle.plain_set.specs.Set.{hasKey, lookup, erase}
 use Rattle.plain_set.specs.theory.Count.{one, count-mono}
 

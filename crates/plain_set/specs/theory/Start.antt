@@ -20,7 +20,7 @@ use Rattle.settings.specs.theory.Proper.{layout-proper}
 use Rattle.table.specs.Decode.{decode}
 use Rattle.table.specs.New.{newBytes}
 use Rattle.table.specs.Calls.{makeCall}
-use Rattle.table.specs.Rebuilt.{rebuiltPairs}
+use Rattle.plain_set.specs.Rebuilt.{rebuiltPairs}
 use Rattle.table.specs.Check.{stateSound, fillZero, tableSound}
 use Rattle.table.specs.theory.Formed.{all-nil, decode-formed}
 use Rattle.table.specs.theory.FormedCalls.{new-formed}

@@ -14,7 +14,7 @@ use Rattle.settings.specs.Layout.{layoutOf}
 use Rattle.settings.specs.theory.Proper.{layout-proper}
 use Rattle.table.specs.State.{State}
 use Rattle.table.specs.Decode.{written}
-use Rattle.table.specs.Rebuilt.{Pair}
+use Rattle.plain_set.specs.Rebuilt.{Pair}
 use Rattle.table.specs.Check.{fillZero}
 use Rattle.table.specs.theory.Formed.{Formed}
 use Rattle.table.specs.theory.Written.{decode-written, written-length, written-bytes, written-outside}

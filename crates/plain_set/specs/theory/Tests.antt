@@ -13,7 +13,7 @@ use Rattle.settings.specs.declared.layout.Layout.{Layout}
 use Rattle.table.specs.State.{Basic, Overflow, basicAt, entryOf}
 use Rattle.table.specs.Follow.{Content, contentOf}
 use Rattle.table.specs.Take.{occurs}
-use Rattle.table.specs.Rebuilt.{slotsOf}
+use Rattle.plain_set.specs.Rebuilt.{slotsOf}
 use Rattle.table.specs.Check.{blocksOf, hasEntry, noEntryTwice, occursInLists}
 use Rattle.plain_set.specs.theory.Count.{one, sum}
 use Rattle.plain_set.specs.theory.Rep.{entries, Single}

@@ -30,13 +30,18 @@ unfolding joined fourGroups
 joined-four v x = omega arith
 
 -- the groups of a key make its number
-joined-key : (k : Key) → joined 0 (fourGroups (k .high) ++ fourGroups (k .low)) ≡ keyNumber k
+pub joined-key : (k : Key) → joined 0 (fourGroups (k .high) ++ fourGroups (k .low)) ≡ keyNumber k
 unfolding keyNumber
 joined-key k = rw (joined-append 0 (fourGroups (k .high)) (fourGroups (k .low))) (simp joined-four (omega arith))
 
+-- each group is below 65,536
 four-small : (x : ℕ) → x < 2 ^ 64 → Small (fourGroups x)
 unfolding fourGroups
 four-small x h = (omega arith, (omega arith, (omega arith, (omega arith, tt))))
+
+pub key-small : (k : Key) → Fits k → Small (fourGroups (k .high) ++ fourGroups (k .low))
+key-small k f =
+    small-append (fourGroups (k .high)) (fourGroups (k .low)) (four-small (k .high) (f .high-below)) (four-small (k .low) (f .low-below))
 
 -- a number below 2 ^ 128 fits a key
 pub key-fits : (n : ℕ) → n < 2 ^ 128 → Fits (keyOf n)
@@ -48,8 +53,7 @@ pub round-trip : (k : Key) → Fits k → readingOf (written (k .high) (k .low))
 unfolding readingOf keyed written
 round-trip k f =
     let l : List ℕ = fourGroups (k .high) ++ fourGroups (k .low) in
-    let h : Small l = small-append (fourGroups (k .high)) (fourGroups (k .low)) (four-small (k .high) (f .high-below)) (four-small (k .low) (f .low-below)) in
-    rw (spells-read (text-spells l h (unfold fourGroups in refl)), joined-key k, key-number k (f .low-below))
+    rw (spells-read (text-spells l (key-small k f) (unfold fourGroups in refl)), joined-key k, key-number k (f .low-below))
 
 -- two keys never share a written text
 pub written-apart : (j k : Key) → Fits j → Fits k → written (j .high) (j .low) ≡ written (k .high) (k .low) → j ≡ k

@@ -45,7 +45,7 @@ digits-written a b c d h k m n =
     (λ e. rw e (hex4 w x y z))
 
 -- a group's text is a group
-group-written : (g : ℕ) → g < 65536 → Group (groupText g) g
+pub group-written : (g : ℕ) → g < 65536 → Group (groupText g) g
 unfolding groupText
 group-written g h =
     let v : ((g / 4096 * 16 + g / 256 % 16) * 16 + g / 16 % 16) * 16 + g % 16 ≡ g = omega arith in
@@ -62,7 +62,7 @@ side-written end [] h = unfold partText in empty
 side-written end (g ∷ l) h = full (groups-written end g l h)
 
 -- a list is made again of the groups before a run of zeros, the run, and those behind it
-run-between : (l : List ℕ) (s n : ℕ) → zeros (drop s l) ≡ n → take s l ++ replicate n 0 ++ drop (s + n) l ≡ l
+pub run-between : (l : List ℕ) (s n : ℕ) → zeros (drop s l) ≡ n → take s l ++ replicate n 0 ++ drop (s + n) l ≡ l
 run-between l s n e =
     let r : take n (drop s l) ≡ replicate n 0 = rw e at (zeros-take (drop s l)) in
     append-assoc (take s l) (replicate n 0) (drop (s + n) l)

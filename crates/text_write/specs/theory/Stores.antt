@@ -1,11 +1,11 @@
 -- A list that is filled from the front: what stands before a place, once it was stored there.
 use mathlib.Core.Path.{_≡_, sym, ap, _∙_}
 use mathlib.Core.List.{List, [], _∷_, _++_, append-assoc}
-use Prim.Native.Nat.{ℕ, _+_, _≤_, _<_}
+use Prim.Native.Nat.{ℕ, _+_, _-_, _≤_, _<_}
 use native.Mathlib.Numerals.{add-one}
 use native.Mathlib.Omega.{arith}
 use lib.ListN.{length, take, drop, getD, set, length-set}
-use lib.Seq.{take-suc, length-take-le, take-take, take-append-add, set-at, append-snoc}
+use lib.Seq.{take-suc, length-take-le, take-take, take-append-add, set-at, append-snoc, drop-drop, drop-set-lt}
 use Rattle.laws.specs.Lists.{drop-next, take-stored}
 
 -- one more behind what is filled
@@ -23,6 +23,23 @@ fill-four o n u v w x h =
     (omega arith)
     (simp length-set (omega arith))
     ∙ simp append-assoc
+
+-- what is kept from a place on is kept from a later one on
+pub kept-later : (o o′ : List ℕ) (n m : ℕ) → n ≤ m → drop n o′ ≡ drop n o → drop m o′ ≡ drop m o
+kept-later o o′ n m h e =
+    let p : n + (m - n) ≡ m = omega arith in
+    rw p at (sym (drop-drop (m - n) n o′) ∙ ap (drop (m - n)) e ∙ drop-drop (m - n) n o)
+
+-- also where something was stored before it
+pub kept-stored : (o o′ : List ℕ) (n m i v : ℕ) → n ≤ m → i < m → drop n o′ ≡ drop n o → drop m (set o′ i v) ≡ drop m o
+kept-stored o o′ n m i v h k e = drop-set-lt m o′ i v k ∙ kept-later o o′ n m h e
+
+pub kept-four : (o : List ℕ) (n u v w x : ℕ) → drop (n + 4) (set (set (set (set o n u) (n + 1) v) (n + 2) w) (n + 3) x) ≡ drop (n + 4) o
+kept-four o n u v w x =
+    drop-set-lt (n + 4) _ (n + 3) x (omega arith)
+    ∙ drop-set-lt (n + 4) _ (n + 2) w (omega arith)
+    ∙ drop-set-lt (n + 4) _ (n + 1) v (omega arith)
+    ∙ drop-set-lt (n + 4) o n u (omega arith)
 
 -- where a part is filled, a shorter one is too
 pub filled-less : (o o′ p : List ℕ) (n m k : ℕ) → n ≤ length o → m ≤ k → take (n + k) o′ ≡ take n o ++ p → take (n + m) o′ ≡ take n o ++ take m p

@@ -22,7 +22,7 @@ put-numbers-requires : tie.Need-put-numbers-requires
 put-numbers-requires c κs =
     let w = c .before .before .before in
     let p = w .before .before .before .before in
-    omega (arith, p .put-text .ensures .0, w .put-word .ensures .end, word-short (p .before .before .before .args .word))
+    omega (arith, p .put-text .ensures .within, w .put-word .ensures .end, word-short (p .before .before .before .args .word))
 
 same-length : tie.Need-same-length
 same-length c = search needs
@@ -34,8 +34,8 @@ returns c =
     let w = n .before .before .before .before in
     let p = w .before .before .before .before in
     let a = p .before .before .before .args in
-    wrote-then (w .put-word .ensures .is ∙ ap (λ (l : List ℕ). l ++ wordText (a .word)) (p .put-text .ensures .1)) (n .put-numbers .ensures)
-    (omega (arith, p .put-text .ensures .0, w .put-word .ensures .end, n .put-numbers .ensures .end, word-short (a .word), numbers-short (a .label) (a .compared) (omega arith) (omega arith)))
+    wrote-then (w .put-word .ensures .is ∙ ap (λ (l : List ℕ). l ++ wordText (a .word)) (p .put-text .ensures .is)) (n .put-numbers .ensures)
+    (omega (arith, p .put-text .ensures .within, w .put-word .ensures .end, n .put-numbers .ensures .end, word-short (a .word), numbers-short (a .label) (a .compared) (omega arith) (omega arith)))
 
 pub say-spec : {M : Type 1} → statement M
 say-spec =

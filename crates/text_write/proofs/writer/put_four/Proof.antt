@@ -1,10 +1,11 @@
 -- Four bytes, one behind the other: `fill-four`.
 use mathlib.Core.Path.{ap, _∙_}
 use Prim.Native.Nat.{_+_, _/_, _%_}
+use native.Mathlib.Omega.{arith}
 use denote.Ref.{now}
-use lib.ListN.{take}
+use lib.ListN.{take, drop}
 use borrow.Author.Needs.{needs}
-use Rattle.text_write.specs.theory.Stores.{fill-four}
+use Rattle.text_write.specs.theory.Stores.{fill-four, kept-four}
 use Rattle.text_write.proofs.writer.put_four.Statement.{statement}
 use Rattle.text_write.proofs.writer.put_four.Tie as tie
 
@@ -18,8 +19,14 @@ returns : tie.Need-returns
 returns c =
     let s = c .before .before .before .before .before in
     let x = s .args .x in
-    ap (take (s .args .at + 4)) (c .before .before .store-four .ensures)
-    ∙ fill-four (now (s .args .text)) (s .args .at) (x % 256) (x / 256 % 256) (x / 65536 % 256) (x / 16777216 % 256) (s .pre)
+    let o = now (s .args .text) in
+    let at = s .args .at in
+    let e = c .before .before .store-four .ensures in
+    record {
+      within = omega arith;
+      is = ap (take (at + 4)) e ∙ fill-four o at (x % 256) (x / 256 % 256) (x / 65536 % 256) (x / 16777216 % 256) (s .pre);
+      kept = ap (drop (at + 4)) e ∙ kept-four o at (x % 256) (x / 256 % 256) (x / 65536 % 256) (x / 16777216 % 256);
+    }
 
 pub put-four-spec : {M : Type 1} → statement M
 put-four-spec = tie.close (tie.spec store-four-requires same-length returns)

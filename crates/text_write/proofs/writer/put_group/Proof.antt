@@ -6,7 +6,7 @@ use native.Mathlib.Omega.{arith}
 use lib.ListN.{take}
 use Rattle.text_write.specs.Writing.{groupText}
 use Rattle.text_write.specs.WriterSteps.{unpacked}
-use Rattle.text_write.specs.theory.Stores.{fill-more, filled-less}
+use Rattle.text_write.specs.theory.Stores.{fill-more, filled-less, kept-stored}
 use Rattle.text_write.specs.theory.Digits.{text-length, four, moved, moved-is, unpacked-hex}
 use borrow.Author.Needs.{needs}
 use Rattle.text_write.proofs.writer.put_group.Statement.{statement}
@@ -41,7 +41,7 @@ put c =
     ap unpacked (x .characters .ensures)
     ∙ unpacked-hex (m / 4096) (m / 256 % 16) (m / 16 % 16) (m % 16) (omega arith) (omega arith) (omega arith) (omega arith)
     in
-    filled-less o (c .put-four .last .0) (unpacked (x .characters .result)) (s .args .at) n 4 (omega (arith, s .pre)) (count d .1) (c .put-four .ensures)
+    filled-less o (c .put-four .last .0) (unpacked (x .characters .result)) (s .args .at) n 4 (omega (arith, s .pre)) (count d .1) (c .put-four .ensures .is)
     ∙ ap (λ (l : List ℕ). take (s .args .at) o ++ take n l) u
     ∙ ap (λ (l : List ℕ). take (s .args .at) o ++ l) (up d .1)
 
@@ -84,12 +84,16 @@ returns c =
     let d = f .before .before .before in
     let s = d .before .before in
     let a = s .args in
-    let n = d .digit-count .result in (
-      omega (arith, count d),
-      fill-more (f .put-four .last .0) (take (a .at) (a .text .now) ++ groupText (a .group)) (a .at + n) (a .at + n + 1) 58 (put f) refl
+    let n = d .digit-count .result in
+    record {
+      within = omega (arith, count d);
+      is =
+          fill-more (f .put-four .last .0) (take (a .at) (a .text .now) ++ groupText (a .group)) (a .at + n) (a .at + n + 1) 58 (put f) refl
           (omega (arith, count d, f .put-four .kept .0, s .pre))
-          ∙ append-assoc (take (a .at) (a .text .now)) (groupText (a .group)) (58 ∷ []),
-    )
+          ∙ append-assoc (take (a .at) (a .text .now)) (groupText (a .group)) (58 ∷ []);
+      kept =
+          kept-stored (a .text .now) (f .put-four .last .0) (a .at + 4) (a .at + 5) (a .at + n) 58 (omega arith) (omega (arith, count d)) (f .put-four .ensures .kept);
+    }
 
 pub put-group-spec : {M : Type 1} → statement M
 put-group-spec =

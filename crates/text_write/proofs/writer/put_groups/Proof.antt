@@ -7,6 +7,7 @@ use lib.ListN.{length, take, drop, getD}
 use Rattle.text_write.specs.Writing.{groupText}
 use Rattle.text_write.specs.WriterSteps.{keyGroups, closedText}
 use Rattle.text_write.proofs.Groups.{eight}
+use Rattle.text_write.specs.theory.Stores.{kept-later}
 use Rattle.text_write.specs.theory.Texts.{closed-none, closed-next, one-step}
 use Rattle.text_write.proofs.writer.put_groups.Statement.{statement}
 use Rattle.text_write.proofs.writer.put_groups.Tie as tie
@@ -15,12 +16,13 @@ abbrev Inv-loop : tie.InvT-loop
 Inv-loop text₀ at key from to end₀ i₀ text end i =
     (from ≤ i) × (i ≤ to) × (length text ≡ length text₀) × (end ≤ at + 5 * (i - from))
     × (take end text ++ closedText (drop i (take to (keyGroups key))) ≡ take at text₀ ++ closedText (drop from (take to (keyGroups key))))
+    × (drop (at + 5 * (to - from)) text ≡ drop (at + 5 * (to - from)) text₀)
 
 abbrev μ-loop : tie.MeasureT-loop
 μ-loop text₀ at key from to end₀ i₀ text end i = to - i
 
 loop-holds : tie.Need-loop-holds Inv-loop μ-loop
-loop-holds c = (omega arith, omega arith, refl, omega arith, refl)
+loop-holds c = (omega arith, omega arith, refl, omega arith, refl, refl)
 
 group-at-requires : tie.Need-group-at-requires Inv-loop μ-loop
 group-at-requires c κs = omega arith
@@ -50,12 +52,14 @@ loop-again c =
       omega (arith, l .loop .inv),
       omega arith,
       p .put-group .kept .0 ∙ l .loop .inv .2,
-      omega (arith, l .loop .inv, p .put-group .ensures .0),
+      omega (arith, l .loop .inv, p .put-group .ensures .within),
       one-step (take (l .loop .end) (l .loop .text)) (take (p .put-group .result) (p .put-group .last .0)) (groupText (getD g i 0) ++ 58 ∷ [])
           (closedText (drop i (take (a .to) g))) (closedText (drop (i + 1) (take (a .to) g)))
-          (p .put-group .ensures .1 ∙ ap (λ (x : ℕ). take (l .loop .end) (l .loop .text) ++ (groupText x ++ 58 ∷ [])) (v .group-at .ensures .0))
+          (p .put-group .ensures .is ∙ ap (λ (x : ℕ). take (l .loop .end) (l .loop .text) ++ (groupText x ++ 58 ∷ [])) (v .group-at .ensures .0))
           (closed-next g i (a .to) h w)
           ∙ l .loop .inv .4,
+      kept-later (l .loop .text) (p .put-group .last .0) (l .loop .end + 5) (a .at + 5 * (a .to - a .from)) (omega (arith, l .loop .inv .3, h)) (p .put-group .ensures .kept)
+          ∙ l .loop .inv .5,
     )
 
 same-length : tie.Need-same-length Inv-loop μ-loop
@@ -68,10 +72,12 @@ returns c =
     let t = take (l .loop .end) (l .loop .text) in
     let z : closedText (drop (l .loop .i) (take (a .to) (keyGroups (a .key)))) ≡ [] =
     closed-none (keyGroups (a .key)) (l .loop .i) (a .to) (c .loop-test .left)
-    in (
-      omega (arith, l .loop .inv),
-      sym (ap (λ (x : List ℕ). t ++ x) z ∙ append-nil t) ∙ l .loop .inv .4,
-    )
+    in
+    record {
+      within = omega (arith, l .loop .inv);
+      is = sym (ap (λ (x : List ℕ). t ++ x) z ∙ append-nil t) ∙ l .loop .inv .4;
+      kept = l .loop .inv .5;
+    }
 
 pub put-groups-spec : {M : Type 1} → statement M
 put-groups-spec =

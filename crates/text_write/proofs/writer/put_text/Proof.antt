@@ -2,9 +2,10 @@
 use mathlib.Core.Path.{sym, _∙_}
 use Prim.Native.Nat.{_+_, _*_, _-_, _≤_}
 use native.Mathlib.Omega.{arith}
-use lib.ListN.{length, length-set}
+use lib.ListN.{length, set, length-set}
 use Rattle.text_write.specs.WriterSteps.{keyGroups}
 use Rattle.text_write.proofs.Groups.{eight}
+use Rattle.text_write.specs.theory.Stores.{kept-later, kept-stored}
 use Rattle.text_write.specs.theory.Texts.{text-plain, gap-put}
 use Rattle.text_write.specs.theory.LongestRun.{longest-run}
 use borrow.Author.Needs.{needs}
@@ -36,16 +37,18 @@ room : (c : tie.After-put-front) →
 room c =
     let e = c .before .before in
     let g = gap e in
-    (omega (arith, c .put-front .ensures .0), omega (arith, c .put-front .kept .0, e .before .before .before .pre))
+    (omega (arith, c .put-front .ensures .within), omega (arith, c .put-front .kept .0, e .before .before .before .pre))
 
 returns : tie.Need-returns
 returns c =
     let p = c .before .before in
     let l = p .before .before .before in
-    let s = l .before .before in (
-      omega (arith, p .put-back .ensures .0),
-      p .put-back .ensures .1 ∙ sym (text-plain (keyGroups (s .args .key)) (l .longest-run .ensures .none (p .before .before .if1 .taken))),
-    )
+    let s = l .before .before in
+    record {
+      within = omega (arith, p .put-back .ensures .within);
+      is = p .put-back .ensures .is ∙ sym (text-plain (keyGroups (s .args .key)) (l .longest-run .ensures .none (p .before .before .if1 .taken)));
+      kept = p .put-back .ensures .kept;
+    }
 
 put-front-requires : tie.Need-put-front-requires
 put-front-requires c κs = let f = gap (c .before) in omega (arith, c .before .before .before .before .pre)
@@ -78,12 +81,19 @@ returns-2 c =
     let s = e .before .before .before in
     let r = room f in
     let l = e .before .longest-run in
-    let g = l .ensures .some (gap e .0) in (
-      omega (arith, b .put-back2 .ensures .0),
-      b .put-back2 .ensures .1
+    let g = l .ensures .some (gap e .0) in
+    record {
+      within = omega (arith, b .put-back2 .ensures .within);
+      is =
+          b .put-back2 .ensures .is
           ∙ gap-put (keyGroups (s .args .key)) (f .put-front .last .0) (f .put-front .result) (l .result .start) (l .result .count) (g .0)
-          (g .1) (omega arith) (gap e .0) (f .put-front .ensures .1),
-    )
+          (g .1) (omega arith) (gap e .0) (f .put-front .ensures .is);
+      kept =
+          kept-later (set (f .put-front .last .0) (f .put-front .result) 58) (b .put-back2 .last .0)
+          (f .put-front .result + 1 + 5 * (8 - (l .result .start + l .result .count))) 40 (omega arith) (b .put-back2 .ensures .kept)
+          ∙ kept-stored (s .args .text .now) (f .put-front .last .0) (5 * l .result .start + 1) 40 (f .put-front .result) 58 (omega (arith, gap e)) (omega arith)
+          (f .put-front .ensures .kept);
+    }
 
 pub put-text-spec : {M : Type 1} → statement M
 put-text-spec =

@@ -26,13 +26,13 @@ put : (c : tie.After-put-text) →
     let k = c .before .before .before .args .key in
     take (c .put-text .result) (c .put-text .last .0) ≡ written (k .high) (k .low)
 unfolding written keyGroups
-put c = c .put-text .ensures .1
+put c = c .put-text .ensures .is
 
 size : (c : tie.After-put-text) →
     let k = c .before .before .before .args .key in
     c .put-text .result ≡ length (written (k .high) (k .low))
 size c =
-    sym (length-take-le (c .put-text .result) (c .put-text .last .0) (omega (arith, c .put-text .ensures .0, c .put-text .kept .0)))
+    sym (length-take-le (c .put-text .result) (c .put-text .last .0) (omega (arith, c .put-text .ensures .within, c .put-text .kept .0)))
     ∙ ap length (put c)
 
 returns : tie.Need-returns

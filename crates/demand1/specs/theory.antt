@@ -1,0 +1,3 @@
+-- Its proof.
+pub mod Kept
+pub mod Demand1

@@ -1,0 +1,1 @@
+// Demand 1, what calls leave in lent bytes: theorems only.

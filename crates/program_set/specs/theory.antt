@@ -1,0 +1,3 @@
+-- Its proof.
+pub mod Printed
+pub mod ProgramSet
