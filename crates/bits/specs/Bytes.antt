@@ -1,4 +1,4 @@
--- Lists of bytes. "Bit 0 is the top bit of byte 0; fields are most significant bit first."
+-- Lists of bytes, for the fields of clause 4.1.
 use mathlib.Core.List.{List}
 use Prim.Native.Nat.{ℕ, _<_}
 use lib.ListN.{getD}

@@ -1,4 +1,4 @@
--- What a field of a list of bytes reads as. "Bit 0 is the top bit of byte 0; fields are most significant bit first."
+-- Clause 4.1: what a field of a list of bytes reads as.
 use mathlib.Core.List.{List}
 use Prim.Native.Nat.{ℕ, zero, suc, _+_, _-_, _*_, _/_, _%_, _^_}
 use lib.ListN.{getD}

@@ -1,4 +1,4 @@
--- What a list of bytes becomes when a field of it is written. "Bit 0 is the top bit of byte 0; fields are most significant bit first."
+-- Clause 4.1: what a list of bytes becomes when a field of it is written.
 use mathlib.Core.List.{List}
 use Prim.Native.Nat.{ℕ, zero, suc, _+_, _-_, _*_, _/_, _%_, _^_}
 use lib.ListN.{getD, set}

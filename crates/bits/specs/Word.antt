@@ -1,4 +1,4 @@
--- The steps of loading and storing eight bytes at once. "Fields are most significant bit first", so the first byte of
+-- The steps of loading and storing eight bytes at once. A field has its most significant bit first, so the first byte of
 -- eight is the highest; the code takes it as the lowest, and then turns all eight round. No call's own contract cites these.
 use mathlib.Core.List.{List}
 use Prim.Native.Nat.{ℕ, _+_, _*_, _/_, _%_}

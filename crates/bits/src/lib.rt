@@ -1,4 +1,4 @@
-// Fields in lent bytes. "Bit 0 is the top bit of byte 0; fields are most significant bit first." A
+// Fields in lent bytes (clause 4.1). A
 // field is 0 to 64 bits wide and starts at any bit.
 mod byte;
 mod near_end;

@@ -1,5 +1,4 @@
--- Demand 1, what a call leaves in the bytes that it is lent. Document 01: "A refusal .. changes nothing lent." "Only make, and accepted add and
--- delete, write the table; bytes beyond its size are untouched, as is the rest of a text buffer."
+-- Demand 1, clauses 6.13 and 7.1: what a call leaves in the bytes that it is lent.
 use mathlib.Core.Path.{_≡_}
 use mathlib.Core.List.{List}
 use Prim.Native.Nat.{ℕ, _+_, _/_}
@@ -28,7 +27,7 @@ use Rattle.text_write.specs.declared.Written.{Written}
 use Rattle.text_write.specs.declared.Written.the-variants as writing
 use Rattle.text_calls.specs.TextCalls.{textCall}
 
--- "Calls: make, add, find, delete, record, check, read text, write text." -----------------------------------------------------
+-- The calls of the specification ------------------------------------------------------------------------------------------------
 
 pub data Given : Type 0 where
   key : Key → Given
@@ -112,13 +111,13 @@ module _ (s : Settings) (l : Lent) where
 
 -- The words of the claim -----------------------------------------------------------------------------------------------------
 
--- "Only make, and accepted add and delete, write the table"
+-- clause 6.13: what writes the table
 pub data Writes : Asked → Said → Type 0 where
   makes : Writes make made
   adds : (label : ℕ) (g : Given) → Writes (onKey (add label) g) (worded word.Added)
   deletes : (g : Given) → Writes (onKey delete g) (worded word.Gone)
 
--- how many bytes of the buffer a call may write: "Its lent marks, ⌈nob / 8⌉ bytes", or those of the text
+-- how many bytes of the buffer a call may write: the marks of clause 6.11, or those of the text
 abbrev pub bufferBytes : Settings → Asked → ℕ
 bufferBytes s make = 0
 bufferBytes s (onKey v g) = 0
@@ -127,7 +126,7 @@ bufferBytes s check = (s .nob + 7) / 8
 bufferBytes s (readText x) = 0
 bufferBytes s (writeText k) = length (written (k .high) (k .low))
 
--- bytes beyond the first n "are untouched", and none comes or goes
+-- bytes beyond the first n stay, and none comes or goes
 pub record Untouched (n : ℕ) (before after : List ℕ) : Type 0 where
   pub long : length after ≡ length before
   pub beyond : drop n after ≡ drop n before

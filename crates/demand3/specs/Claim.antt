@@ -1,4 +1,4 @@
--- Demand 3, "One claim over the list of calls, whatever its length": document 01, "The plain set of demand 3".
+-- Demand 3, clause 8.9: one claim over the list of calls, whatever its length.
 use mathlib.Core.Path.{_≡_}
 use mathlib.Core.List.{List, [], _∷_, _++_}
 use mathlib.Core.Option.{Option, none, some}
@@ -42,7 +42,7 @@ module _ (s : Settings) where
   abbrev pub memoryAfter : List ℕ → Lending → List ℕ
   memoryAfter t c = tableCall (take (c .lent) t) (c .call) .bytes ++ drop (c .lent) t
 
--- What the set is given: "A text is given as the key that demand 2 reads from it, or as not legal." --------------------------
+-- What the set is given (clause 8.1): a text as the key that is read from it, or as not legal ------------------------------
 
 abbrev pub asRead : Parsed → Option ℕ
 asRead (parsed.Key k) = some (keyNumber k)

@@ -1,4 +1,4 @@
--- Document 01, "From key to list".
+-- Section 3 of docs/SPECIFICATION.md: from a key to its list and back.
 use Prim.Native.Nat.{ℕ, _+_, _*_, _/_, _%_, _^_}
 use lib.Bits.{bitXor}
 use Rattle.settings.specs.Prime.{primeAbove}
@@ -15,22 +15,22 @@ unfoldable pub keyOf : ℕ → Key
 keyOf n = record { high = n / 2 ^ 64; low = n % 2 ^ 64 }
 
 module _ (s : Settings) where
-  -- "A key's first (most significant) bii bits are its index I, the rest its entry E."
+  -- clause 3.1: the first bits of a key are its index, the rest its entry
   unfoldable pub index : ℕ → ℕ
   index k = k / 2 ^ bie s
 
   unfoldable pub entry : ℕ → ℕ
   entry k = k % 2 ^ bie s
 
-  -- "the low bii bits of ((a × E + b) mod p)", where p is the smallest prime above 2 ^ bii
+  -- clause 3.2, h(E): the remainder, cut to bii bits
   unfoldable pub hash : ℕ → ℕ
   hash e = (s .a * e + s .b) % primeAbove (s .bii) % 2 ^ s .bii
 
-  -- "List number = I xor the low bii bits of ((a × E + b) mod p)."
+  -- clause 3.2
   unfoldable pub listNumber : ℕ → ℕ
   listNumber k = bitXor (index k) (hash (entry k))
 
-  -- "Given list number and E, the same xor gives I back."
+  -- clause 3.3: a list's number and an entry give the key back
   unfoldable pub rebuilt : ℕ → ℕ → ℕ
   rebuilt list e = bitXor list (hash e) * 2 ^ bie s + e
 

@@ -22,7 +22,7 @@ pub struct BlockNumber(pub usize);
 
 pub struct SlotNumber(pub usize);
 
-// The free start: "first free overflow block, nob if none". It is a block's number only where it is not nob.
+// The free start: the first free overflow block, or nob. It is a block's number only where it is not nob.
 pub struct FreeStart(pub usize);
 
 // Where a key belongs: its list, and what a slot of the list stores of it.

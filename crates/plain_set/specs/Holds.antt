@@ -11,7 +11,7 @@ use Rattle.table.specs.Check.{tableSound}
 use Rattle.plain_set.specs.Same.{SamePairs, NoKeyTwice}
 
 module _ (s : Settings) where
-  -- "the pairs rebuilt from the bits are that set", and the table is sound
+  -- clause 8.9: the pairs rebuilt from the bits are the set, and the table is sound
   pub record Holds (t : List ℕ) (ps : List Pair) : Type 0 where
     pub pairs : SamePairs (rebuiltPairs s (decode (layoutOf s) t)) ps
     pub once : NoKeyTwice ps

@@ -1,5 +1,4 @@
--- Document 01, "The plain set of demand 3": "Rebuilt: each entry of each list, as the bits hold it, gives its label and the key from list number
--- and entry."
+-- Clause 8.2: the pairs rebuilt from the bits.
 use Prim.Native.Nat.{ℕ, suc}
 use mathlib.Core.List.{List, [], _∷_, _++_}
 use mathlib.Core.Option.{Option, none, some}

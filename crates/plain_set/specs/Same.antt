@@ -1,4 +1,4 @@
--- When two lists of pairs are the same set: "a set of pairs of key and label, no key twice".
+-- Clause 8.1: when two lists of pairs are the same set, and that no key stands twice.
 use mathlib.Core.Path.{_≡_}
 use mathlib.Core.Bool.{Bool}
 use mathlib.Core.List.{List}

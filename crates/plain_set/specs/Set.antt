@@ -1,5 +1,5 @@
--- Document 01, "The plain set of demand 3". "It is given the settings and each call's arguments, but of the lent table only its length. A text is
--- given as the key that demand 2 reads from it, or as not legal. It is given nothing of the answers."
+-- Section 8 of docs/SPECIFICATION.md: the plain set. It is given the settings and each call's arguments, the lent table's length, a text as the key
+-- that is read from it or as not legal, and nothing of the answers.
 use Prim.Native.Nat.{ℕ, suc, _+_, _-_, _/_}
 use mathlib.Core.Bool.{Bool, true, cond, _&&_}
 use mathlib.Core.List.{List, [], _∷_, _++_}
@@ -40,7 +40,7 @@ pub data Answer : Type 0 where
   said : Word → ℕ → Answer
   refused : Refusal → Answer
 
--- Sets of pairs: "no key twice" ------------------------------------------------------------------------------------------
+-- Sets of pairs, no key twice --------------------------------------------------------------------------------------------
 
 abbrev pub hasKey : ℕ → Pair → Bool
 hasKey k p = eqb (p .key) k
@@ -63,27 +63,27 @@ step a ps = record { answer = a; after = ps }
 module _ (s : Settings) where
   -- The length rule -------------------------------------------------------------------------------------------------------
 
-  -- "It uses no overflow block up to n = sib, above that (n - sib) / sio, rounded up."
+  -- clause 8.8: the overflow blocks of a list of length n, (n - sib) / sio rounded up
   unfoldable pub blocksUsed : ℕ → ℕ
   blocksUsed n = (n - s .sib + (s .sio - 1)) / s .sio
 
-  -- "A list's length n is the number of keys in the set with that list number."
+  -- clause 8.8: how many keys of the set have this list's number
   abbrev pub listLength : List Pair → ℕ → ℕ
   listLength ps i = count (λ p. eqb (listNumber s (p .key)) i) ps
 
-  -- "It has no vacant slot exactly if n + 1 would use one block more."
+  -- clause 8.8: one entry more would use one block more
   abbrev pub noVacantSlot : ℕ → Bool
   noVacantSlot n = eqb (blocksUsed (suc n)) (suc (blocksUsed n))
 
-  -- the blocks that "all lists together use"
+  -- the blocks of all lists together
   abbrev pub blocksNeeded : List Pair → ℕ
   blocksNeeded ps = sumBelow (lists s) (λ i. blocksUsed (listLength ps i))
 
-  -- "all lists together use nob blocks"
+  -- clause 8.7: all lists together use nob blocks
   abbrev pub allBlocksUsed : List Pair → Bool
   allBlocksUsed ps = eqb (blocksNeeded ps) (s .nob)
 
-  -- The steps: "Inputs are legal if none of codes 1 to 6 is due. Otherwise the call is refused with the lowest, and the set stays." --------
+  -- The steps: clauses 8.3 to 8.7 ----------------------------------------------------------------------------------------
 
   abbrev pub findStep : List Pair → Option ℕ → Step
   findStep ps none = step (said word.None 0) ps
@@ -105,7 +105,7 @@ module _ (s : Settings) where
   keyStep ps (add l) k = addStep ps k l (lookup k ps)
   keyStep ps delete k = deleteStep ps k (lookup k ps)
 
-  -- the refusals for what is given; 4 "not a legal address"
+  -- the refusals for what is given; a text that is not legal is 4
   abbrev pub givenDue : Given → List Due
   givenDue (key k) = keyDue s k ∷ []
   givenDue (text none) = widthDue s ∷ due true refusal.Text ∷ []

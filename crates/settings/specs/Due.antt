@@ -1,4 +1,4 @@
--- Document 01, "Reply codes": the refusals of a call, in the order in which one wins over the next.
+-- Clauses 7.1 to 7.3: the refusals of a call, in the order in which one wins over the next.
 use Prim.Native.Nat.{ℕ, _^_}
 use mathlib.Core.Bool.{Bool, cond, not}
 use mathlib.Core.List.{List, [], _∷_}
@@ -23,22 +23,22 @@ unlessDue [] refuse on = on
 unlessDue (d ∷ ds) refuse on = cond (d .is) (refuse (d .why)) (unlessDue ds refuse on)
 
 module _ (s : Settings) where
-  -- 1 "a range or rule above is broken"
+  -- 1: the settings are not legal
   abbrev pub settingsDue : Due
   settingsDue = due (not (legal s)) refusal.Settings
 
-  -- 2 "lent table smaller than its size": it has n bytes
+  -- 2: the lent table, of n bytes, is smaller than its size
   abbrev pub shortDue : ℕ → Due
   shortDue n = due (not (leb (tableBytes s) n)) refusal.Short
 
-  -- 3 "a text goes to a table with w other than 128"
+  -- 3: a text, and w is not 128
   abbrev pub widthDue : Due
   widthDue = due (not (eqb (s .w) 128)) refusal.Width
 
-  -- 5 "a key bit above w is set"
+  -- 5: the key is 2^w or more
   abbrev pub keyDue : ℕ → Due
   keyDue k = due (not (ltb k (2 ^ s .w))) refusal.Key
 
-  -- 6 "label is 2^val or more"
+  -- 6: the label is 2^val or more
   abbrev pub labelDue : ℕ → Due
   labelDue label = due (not (ltb label (2 ^ s .val))) refusal.Label

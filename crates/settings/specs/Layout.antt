@@ -1,4 +1,4 @@
--- Document 01, "The bits": the layout, as the calls compute it once from the settings.
+-- Section 4 of docs/SPECIFICATION.md: the layout, as the calls compute it once from the settings.
 use Rattle.settings.specs.Sizes.{bie, slotBits, linkBits, freeStartBits, lists, basicCounterBits, basicBlockBits, overflowCounterBits, overflowBlockBits, overflowStart, tableBits, tableBytes}
 use Rattle.settings.specs.declared.settings.Settings.{Settings}
 use Rattle.settings.specs.declared.layout.Blocks.{Blocks}

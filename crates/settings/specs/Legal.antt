@@ -1,4 +1,4 @@
--- Document 01, "Settings": every range and rule, in its order. Refusal 1 is given "exactly if a range or rule above is broken".
+-- Clauses 2.1, 2.3 and 2.5: every range and rule. Refusal 1 is given exactly if one is broken.
 use Prim.Native.Nat.{ℕ, _*_, _≤_, _<_}
 use mathlib.Core.Bool.{Bool, _&&_}
 use lib.Dec.{leb, ltb}
@@ -6,13 +6,13 @@ use Rattle.settings.specs.Prime.{primeAbove}
 use Rattle.settings.specs.Sizes.{slotBits, linkBits, tableBytes}
 use Rattle.settings.specs.declared.settings.Settings.{Settings}
 
--- "w 2 to 128; bii (index bits) 0 to 16, below w; sib 1 to 255; nob 0 to 65,535; sio 1 to 15; val 0 to 32."
+-- clause 2.1, but for a and b
 unfoldable pub inRanges : Settings → Bool
 inRanges s =
     leb 2 (s .w) && leb (s .w) 128 && leb (s .bii) 16 && ltb (s .bii) (s .w) && leb 1 (s .sib) && leb (s .sib) 255
     && leb (s .nob) 65535 && leb 1 (s .sio) && leb (s .sio) 15 && leb (s .val) 32
 
--- "The table needs at most 16,777,216 bytes."
+-- clause 2.3: the largest size of a table
 abbrev pub mostBytes : ℕ
 mostBytes = 16777216
 
@@ -20,11 +20,11 @@ mostBytes = 16777216
 abbrev pub mostBits : ℕ
 mostBits = 8 * mostBytes
 
--- "sib × (bie + val) must be at least L." "The table needs at most 16,777,216 bytes."
+-- clause 2.3: a link fits in the slots, and the table is not too large
 unfoldable pub fits : Settings → Bool
 fits s = leb (linkBits s) (s .sib * slotBits s) && leb (tableBytes s) mostBytes
 
--- "Settings a and b are 1 to p - 1."
+-- clause 2.1, a and b
 unfoldable pub belowPrime : Settings → Bool
 belowPrime s = leb 1 (s .a) && ltb (s .a) (primeAbove (s .bii)) && leb 1 (s .b) && ltb (s .b) (primeAbove (s .bii))
 

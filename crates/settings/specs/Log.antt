@@ -1,4 +1,4 @@
--- Document 01, "Settings": ⌈log2 n⌉ is the least k with n ≤ 2 ^ k, "and 0 when nob is 0".
+-- Clause 1.3: ⌈log2 n⌉ is the least k with n ≤ 2 ^ k.
 use Prim.Native.Nat.{ℕ, _^_}
 use lib.Dec.{leb}
 use Rattle.settings.specs.Least.{leastFrom}

@@ -1,4 +1,4 @@
--- Document 01, "Settings": "p is the smallest prime above 2^bii".
+-- Clause 2.4: the smallest prime above 2 ^ bii.
 use Prim.Native.Nat.{ℕ, zero, suc, _+_, _%_, _^_}
 use mathlib.Core.Bool.{Bool, true, cond, not, _&&_}
 use lib.Dec.{leb, eqb}

@@ -20,7 +20,7 @@ pub record Proper (g : Layout) : Type 0 where
   pub free-high : g .basic .start ≤ 16
   pub basic-high : g .basic .counter ≤ 9
   pub overflow-high : g .overflow .counter ≤ 4
-  -- "sib × (bie + val) must be at least L."
+  -- clause 2.3: a link fits in the slots
   pub link-fits : g .link ≤ g .sib * g .slot
   pub basic-is : g .basic .bits ≡ g .basic .counter + g .sib * g .slot
   pub overflow-is : g .overflow .bits ≡ g .overflow .counter + g .link + g .sio * g .slot

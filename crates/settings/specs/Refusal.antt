@@ -1,4 +1,4 @@
--- Document 01, "Reply codes": the number of each refusal, by the table's words.
+-- Clause 7.1: the number of each refusal.
 use Prim.Native.Nat.{ℕ}
 use Rattle.settings.specs.declared.refusal.Refusal.{Refusal}
 use Rattle.settings.specs.declared.refusal.Refusal.the-variants as refusal

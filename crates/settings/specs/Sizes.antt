@@ -1,26 +1,26 @@
--- Document 01, "Settings" and "The bits": the numbers that follow from the settings.
+-- Clauses 2.2 and 4.2 to 4.8: the numbers that follow from the settings.
 use Prim.Native.Nat.{ℕ, _+_, _-_, _*_, _/_, _^_}
 use Rattle.settings.specs.Log.{ceilLog2}
 use Rattle.settings.specs.declared.settings.Settings.{Settings}
 
 module _ (s : Settings) where
-  -- "bie = w - bii."
+  -- clause 2.2: the bits of an entry
   abbrev pub bie : ℕ
   bie = s .w - s .bii
 
-  -- "A slot is bie + val bits, entry first."
+  -- clause 4.6: a slot is an entry, and then its label
   abbrev pub slotBits : ℕ
   slotBits = bie + s .val
 
-  -- "L = ⌈log2 nob⌉, and 0 when nob is 0."
+  -- clause 2.2: the bits of a link
   unfoldable pub linkBits : ℕ
   linkBits = ceilLog2 (s .nob)
 
-  -- "free start, ⌈log2(1 + nob)⌉ bits"
+  -- clause 4.3: the bits of the free start
   unfoldable pub freeStartBits : ℕ
   freeStartBits = ceilLog2 (1 + s .nob)
 
-  -- "2^bii basic blocks: counter of ⌈log2(2 + sib)⌉ bits, then sib slots."
+  -- clause 4.4: basic blocks
   unfoldable pub basicCounterBits : ℕ
   basicCounterBits = ceilLog2 (2 + s .sib)
 
@@ -30,7 +30,7 @@ module _ (s : Settings) where
   unfoldable pub lists : ℕ
   lists = 2 ^ s .bii
 
-  -- "nob overflow blocks: counter of ⌈log2(1 + sio)⌉ bits, link of L bits, sio slots."
+  -- clause 4.5: overflow blocks
   unfoldable pub overflowCounterBits : ℕ
   overflowCounterBits = ceilLog2 (1 + s .sio)
 
@@ -44,6 +44,6 @@ module _ (s : Settings) where
   unfoldable pub tableBits : ℕ
   tableBits = overflowStart + s .nob * overflowBlockBits
 
-  -- "zero bits to the end of the byte"
+  -- clause 4.8: the size in bytes, the fill in it
   unfoldable pub tableBytes : ℕ
   tableBytes = (tableBits + 7) / 8

@@ -1,4 +1,4 @@
-// Why a call is refused: document 01's reply codes, a variant each.
+// Why a call is refused (clause 7.1), a variant each.
 ghost use mathlib.Core.Path.{_≡_};
 ghost use Rattle.settings.specs.Refusal.{numberOf};
 
@@ -17,7 +17,7 @@ pub enum Refusal {
 }
 
 impl Refusal {
-    // The number that document 01 gives the refusal.
+    // The number of the refusal.
     pub fn number(self) -> u32
         ensures { λ r. ⌜ r ≡ numberOf self ⌝ }
     {

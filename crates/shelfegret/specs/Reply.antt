@@ -1,4 +1,4 @@
--- "Where an answer is an enum, a definition lists this paper's number and values for each case": each call's answer as C's one struct. Code 0 is
+-- Each call's answer as C's one struct, with the number and the values of each case. Code 0 is
 -- accepted.
 use Prim.Native.Nat.{ℕ}
 use Rattle.settings.specs.Refusal.{numberOf}
@@ -22,7 +22,7 @@ use Rattle.text_write.specs.declared.Written.the-variants as out
 use Rattle.text_calls.specs.declared.calls.TextAnswer.{TextAnswer}
 use Rattle.shelfegret.specs.declared.Answer.{Answer}
 
--- "A refusal returns its number, key, label and compared 0"
+-- clause 7.1: a refusal has its number, and 0 everywhere else
 abbrev pub refusedReply : Refusal → Answer
 refusedReply why = record { code = numberOf why; word = 0; key = noKey; label = 0; compared = 0; number = 0 }
 
@@ -53,13 +53,13 @@ answerReply key a =
 abbrev pub textReply : TextAnswer → Answer
 textReply a = answerReply (a .key) (a .answer)
 
--- "nth record from 0 [..], or "none" (key and label 0)"; the words from 5 on are those of record and check
+-- clause 6.9; the words from 5 on are those of record and check
 abbrev pub recordReply : RecordAnswer → Answer
 recordReply (recording.Record key label) = saying 5 key label 0
 recordReply recording.None = saying (wordNumber word.None) noKey 0 0
 recordReply (recording.Refused why) = refusedReply why
 
--- "sound or unsound"
+-- clause 6.10
 abbrev pub checkReply : CheckAnswer → Answer
 checkReply checking.Sound = saying 6 noKey 0 0
 checkReply checking.Unsound = saying 7 noKey 0 0

@@ -1,4 +1,4 @@
--- Document 01, "Bench examples": "Those starred (*) are proved." "Starred examples share one proved list." This is the list.
+-- The examples that are proved, in one list: section 11 of docs/SPECIFICATION.md, and others.
 use mathlib.Core.Path.{_≡_, refl}
 use mathlib.Core.List.{List, [], _∷_, _++_}
 use Prim.Native.Nat.{ℕ, _+_, _*_, _%_}
@@ -40,7 +40,7 @@ pub data Claim : Type 0 where
   -- the address that the text is read as is written so
   isWritten : String → String → Claim
 
--- "Table T: w 6, bii 1, sib 2, nob 2, sio 1, val 0, a 1, b 1; 40 bits."
+-- table T of section 11, of 40 bits
 abbrev pub T : Settings
 T = record { w = 6; bii = 1; sib = 2; nob = 2; sio = 1; val = 0; a = 1; b = 1 }
 

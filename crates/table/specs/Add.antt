@@ -1,4 +1,4 @@
--- Document 01, "Calls on a table": add. ""held" with the old label, nothing changed; else "added" with its label, at the list's end."
+-- Clauses 6.5 and 6.6: add.
 use Prim.Native.Nat.{ℕ, suc}
 use mathlib.Core.Bool.{cond}
 use mathlib.Core.List.{List, [], _∷_}
@@ -17,7 +17,7 @@ use Rattle.table.specs.Answer.{said}
 use Rattle.table.specs.declared.answers.Answer.the-variants as answer
 use Rattle.table.specs.declared.answers.Word.the-variants as word
 
--- the slot x more in an overflow block. "Counter c below sio means c + 1 entries"
+-- the slot x more in an overflow block: its counter is one less than its entries
 abbrev pub oneMore : ℕ → Overflow → Overflow
 oneMore x o = withCounter (suc (o .counter)) (withSlot (suc (o .counter)) x o)
 

@@ -1,4 +1,4 @@
--- What add, find and delete answer. "Where an answer is an enum, a definition lists this paper's number and values for each case."
+-- What add, find and delete answer: the number and the values of each case.
 use Prim.Native.Nat.{ℕ}
 use Rattle.settings.specs.Refusal.{numberOf}
 use Rattle.keys.specs.declared.Key.{Key}
@@ -28,7 +28,7 @@ pub record Values : Type 0 where
   pub label : ℕ
   pub compared : ℕ
 
--- number 0 is accepted, for the key k; "A refusal returns its number, key, label and compared 0"
+-- number 0 is accepted, for the key k; clause 7.1: a refusal has its number, and 0 everywhere else
 abbrev pub valuesOf : Key → Answer → Values
 valuesOf k (answer.Said label w compared) = record { number = 0; word = wordNumber w; key = k; label = label; compared = compared }
 valuesOf k (answer.Refused why) = record { number = numberOf why; word = 0; key = noKey; label = 0; compared = 0 }

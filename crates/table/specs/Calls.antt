@@ -1,5 +1,5 @@
--- Document 01, "Calls on a table" and "Reply codes": what each call answers and leaves in the lent bytes, for any settings, key, label, number
--- and bytes. A call's refusals stand in their order: "The lowest number wins, except that 9 and 10 precede 7".
+-- Sections 6 and 7 of docs/SPECIFICATION.md: what each call answers and leaves in the lent bytes, for any settings, key, label, number and bytes. A
+-- call's refusals stand in their order (clause 7.3).
 use Prim.Native.Nat.{ℕ}
 use mathlib.Core.Bool.{cond, not}
 use mathlib.Core.List.{List, [], _∷_}
@@ -66,7 +66,7 @@ module _ (s : Settings) (t : List ℕ) where
   unfoldable pub recordCall : ℕ → RecordAnswer
   recordCall n = unlessDue (settingsDue s ∷ shortDue s (length t) ∷ []) recording.Refused (recordIn s held n)
 
-  -- 10 "fewer mark bytes than needed"; the lent bytes that are written are the marks
+  -- 10: too few marks. The lent bytes that are written are the marks (clause 6.11)
   unfoldable pub checkCall : List ℕ → Reply CheckAnswer
   checkCall m =
       called checking.Refused m

@@ -1,4 +1,4 @@
--- Document 01, "Calls on a table": check, as a test that can be computed. `Sound` says the same in document 01's words, and theory proves it.
+-- Clause 6.10: check, as a test that can be computed. `Sound` says the same in the clause's words, and theory proves it.
 use Prim.Native.Nat.{ℕ, zero, suc, _+_, _-_, _*_, _/_}
 use mathlib.Core.Bool.{Bool, true, false, cond, _&&_}
 use mathlib.Core.List.{List, [], _∷_}
@@ -20,7 +20,7 @@ blocksOf none = []
 blocksOf (some v) = v .blocks
 
 module _ (g : Layout) where
-  -- "Unused slots .. are zero"
+  -- clause 4.12: slots that are not in use are zero
   abbrev pub basicUnused : Basic → List ℕ → Bool
   basicUnused b [] = allZero (drop (b .counter) (ownSlots g b))
   basicUnused b (c ∷ cs) = true
@@ -28,11 +28,11 @@ module _ (g : Layout) where
   abbrev pub overflowUnused : List Overflow → ℕ → Bool
   overflowUnused os j = allZero (drop (suc (overflowAt os j .counter)) (overflowAt os j .slots))
 
-  -- "counters and slots of free blocks, are zero"
+  -- clause 4.12: counters and slots of free blocks are zero
   abbrev pub freeZero : List Overflow → ℕ → Bool
   freeZero os f = eqb (overflowAt os f .counter) 0 && allZero (overflowAt os f .slots)
 
-  -- "no entry twice in a list"
+  -- no entry stands twice in a list
   abbrev pub hasEntry : ℕ → List ℕ → Bool
   hasEntry e [] = false
   hasEntry e (y ∷ ys) = cond (eqb (entryOf g y) e) true (hasEntry e ys)
@@ -41,7 +41,7 @@ module _ (g : Layout) where
   noEntryTwice [] = true
   noEntryTwice (x ∷ xs) = cond (hasEntry (entryOf g x) xs) false (noEntryTwice xs)
 
-  -- "no damage in any list", and its zeros and entries as they should be
+  -- a list without damage, and its zeros and entries as they should be
   abbrev pub listSound : Basic → List Overflow → Option Content → Bool
   listSound b os none = false
   listSound b os (some v) = basicUnused b (v .blocks) && (every (overflowUnused os) (v .blocks) && noEntryTwice (v .slots))
@@ -67,7 +67,7 @@ module _ (g : Layout) where
   occursInLists j [] os = 0
   occursInLists j (b ∷ bs) os = occurs j (blocksOf (contentOf g b os)) + occursInLists j bs os
 
-  -- "every overflow block exactly once, in one list or in the free chain"
+  -- every overflow block stands exactly once, in one list or in the free chain
   abbrev pub chainSound : State → Option (List ℕ) → Bool
   chainSound st none = false
   chainSound st (some fs) =
@@ -77,14 +77,14 @@ module _ (g : Layout) where
   unfoldable pub stateSound : State → Bool
   stateSound st = listsSound (st .basic) (st .overflow) && chainSound st (freeChain st)
 
-  -- "zero bits to the end of the byte"
+  -- clause 4.7: the fill is zero
   unfoldable pub fillZero : List ℕ → Bool
   fillZero t = eqb (field t (g .bits) (8 * g .bytes - g .bits)) 0
 
   unfoldable pub tableSound : List ℕ → Bool
   tableSound t = stateSound (decode g t) && fillZero t
 
-  -- "Its lent marks, ⌈nob / 8⌉ bytes, are zero afterwards; lent bytes beyond them are untouched."
+  -- clause 6.11: the marks are zero, and the bytes behind them stay
   unfoldable pub markBytes : ℕ
   markBytes = (g .nob + 7) / 8
 

@@ -1,4 +1,4 @@
--- Document 01, "The bits": where each field stands, the state that the bits hold, and the bytes with a state in them.
+-- Section 4 of docs/SPECIFICATION.md: where each field stands, the state that the bits hold, and the bytes with a state in them.
 use Prim.Native.Nat.{ℕ, _+_, _*_, _^_}
 use mathlib.Core.List.{List, map}
 use Rattle.bits.specs.Field.{field}
@@ -13,11 +13,11 @@ unfoldable pub blockAt : Blocks → ℕ → ℕ
 blockAt b i = b .start + i * b .bits
 
 module _ (g : Layout) where
-  -- "counter .., then sib slots"
+  -- clause 4.4: a counter, then sib slots
   unfoldable pub basicSlots : ℕ → ℕ
   basicSlots i = blockAt (g .basic) i + g .basic .counter
 
-  -- "counter .., link of L bits, sio slots"
+  -- clause 4.5: a counter, a link, then sio slots
   unfoldable pub linkAt : ℕ → ℕ
   linkAt j = blockAt (g .overflow) j + g .overflow .counter
 
@@ -34,7 +34,7 @@ module _ (g : Layout) where
       mkOverflow (field t (blockAt (g .overflow) j) (g .overflow .counter)) (field t (linkAt j) (g .link))
       (tabulate (g .sio) (λ k. field t (overflowSlots j + k * g .slot) (g .slot)))
 
-  -- "In order: free start ..; 2^bii basic blocks ..; nob overflow blocks .."
+  -- clause 4.2: free start, basic blocks, overflow blocks
   unfoldable pub decode : List ℕ → State
   decode t = mkState (field t 0 (g .basic .start)) (tabulate (g .lists) (readBasic t)) (tabulate (g .nob) (readOverflow t))
 

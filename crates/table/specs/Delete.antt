@@ -1,5 +1,4 @@
--- Document 01, "Calls on a table": delete. ""none", or "gone" with the label; the list's last slot moves into the hole and the slot left vacant
--- is zeroed. An emptied overflow block goes to the front of the free chain."
+-- Clauses 6.7 and 6.8: delete.
 use Prim.Native.Nat.{ℕ, _-_}
 use mathlib.Core.Bool.{Bool, false, cond}
 use mathlib.Core.List.{List, [], _∷_}
@@ -45,7 +44,7 @@ module _ (g : Layout) where
   shrinkAt i l p st =
       cond (ltb 0 (overflowAt (st .overflow) l .counter)) (overOverflow l lastSlotOff st) (freed g l (handedBack i l p st))
 
-  -- a last block with the counter n would be freed, and cannot: "when freeing one, free start above nob" is damage
+  -- a last block with the counter n would be freed, and cannot (clause 5.4)
   unfoldable pub cannotFree : ℕ → State → Bool
   cannotFree n st = cond (ltb 0 n) false (ltb (g .nob) (st .free))
 
@@ -56,7 +55,7 @@ module _ (g : Layout) where
       let l = lastOf c cs in
       cond (cannotFree (overflowAt (st .overflow) l .counter) st) damage (done (shrinkAt i l (priorOf prior.Basic c cs) st))
 
-  -- the slot in place p out of list i: "the list's last slot moves into the hole"
+  -- the slot in place p out of list i: the list's last takes its place
   abbrev pub takeOut : State → ℕ → Content → ℕ → Done
   takeOut st i v p =
       let es = v .slots in

@@ -1,4 +1,4 @@
--- Document 01, "Calls on a table": an entry in a list's slots, and find.
+-- Clauses 6.3 and 6.4: an entry in a list's slots, and find.
 use Prim.Native.Nat.{ℕ, suc}
 use mathlib.Core.Bool.{Bool, cond}
 use mathlib.Core.List.{List, [], _∷_}
@@ -15,7 +15,7 @@ use Rattle.table.specs.declared.answers.Answer.the-variants as answer
 use Rattle.table.specs.declared.answers.Word.the-variants as word
 
 module _ (g : Layout) where
-  -- where the entry e stands first, from 0; the list's length if it does not. "If an entry stands twice, the first counts"
+  -- where the entry e stands first, from 0; the list's length if it does not (clause 6.3)
   unfoldable pub position : ℕ → List ℕ → ℕ
   position e [] = 0
   position e (x ∷ xs) = cond (eqb (entryOf g x) e) 0 (suc (position e xs))
@@ -27,11 +27,11 @@ module _ (g : Layout) where
   abbrev pub labelAt : ℕ → List ℕ → ℕ
   labelAt e es = labelOf g (getD es (position e es) 0)
 
-  -- "compared: entries up to and including the match, or the list's length if there is none"
+  -- clause 6.3: entries up to and including the match, or all of the list
   abbrev pub comparedIn : ℕ → List ℕ → ℕ
   comparedIn e es = cond (isHeld e es) (suc (position e es)) (length es)
 
-  -- "Find: "held" with label, or "none" (label 0)"
+  -- clause 6.4
   unfoldable pub findFollowed : ℕ → Option Content → Answer
   findFollowed e none = answer.Refused refusal.Damage
   findFollowed e (some v) =

@@ -1,4 +1,4 @@
--- Document 01, "Calls on a table": "Add, find and delete follow the key's list to its end before doing anything else."
+-- Clauses 5.1 and 5.2: a list followed to its end, and damage.
 use Prim.Native.Nat.{ℕ, zero, suc}
 use mathlib.Core.Bool.{cond}
 use mathlib.Core.List.{List, [], _∷_, _++_}
@@ -35,8 +35,7 @@ cons? b (some bs) = some (b ∷ bs)
 abbrev pub further : ℕ → Step
 further c = Further (record { 0 = c })
 
--- what an overflow block with counter c and link l says of the way on. "Counter c below sio means c + 1 entries; sio means full with a further
--- block"; "an overflow counter above sio" is damage
+-- what an overflow block with counter c and link l says of the way on (clause 4.5); a counter above sio is damage
 unfoldable pub stepOf : ℕ → ℕ → ℕ → Step
 stepOf sio c l = cond (ltb c sio) Last (cond (eqb c sio) (further l) Damage)
 
@@ -51,8 +50,7 @@ module _ (g : Layout) where
   abbrev pub stepAt : List Overflow → ℕ → Step
   stepAt os b = stepOf (g .sio) (overflowAt os b .counter) (overflowAt os b .link)
 
-  -- the overflow blocks from b to the list's end. None is damage: "an overflow counter above sio, a followed link of nob or more, more than
-  -- nob overflow blocks followed"
+  -- the overflow blocks from b to the list's end. None is damage (clause 5.2): an overflow counter, a link, or too many blocks
   abbrev pub follow : ℕ → List Overflow → ℕ → Option (List ℕ)
   follow zero os b = none
   follow (suc n) os b = cond (ltb b (g .nob)) (goOn (stepAt os b) (b ∷ []) (λ c. cons? b (follow n os c))) none
@@ -61,14 +59,14 @@ module _ (g : Layout) where
   gather os [] = []
   gather os (b ∷ bs) = take (suc (overflowAt os b .counter)) (overflowAt os b .slots) ++ gather os bs
 
-  -- "the bits so displaced stand in the link of the list's last block"
+  -- clause 4.9: displaced bits stand in the link of the list's last block
   abbrev pub contentOver : Basic → List Overflow → Option (List ℕ) → Option Content
   contentOver b os none = none
   contentOver b os (some []) = none
   contentOver b os (some (c ∷ cs)) =
       some (mkContent (c ∷ cs) (unpack g (overflowAt os (lastOf c cs) .link) (b .rest) ++ gather os (c ∷ cs)))
 
-  -- "Counter 0 to sib counts entries; sib + 1 means overflow." None is damage: "a basic counter above sib + 1" too
+  -- clause 4.4. None is damage: a basic counter above sib + 1 too
   abbrev pub contentOf : Basic → List Overflow → Option Content
   contentOf b os =
       let on = contentOver b os (follow (g .nob) os (b .head)) in

@@ -1,4 +1,4 @@
--- Definitions: what a reader must believe, in document 01's order.
+-- Definitions: what a reader must believe, in the specification's order.
 pub mod Arrays
 pub mod State
 pub mod Updates

@@ -1,5 +1,4 @@
--- Document 01, "Calls on a table": "Record n: nth record from 0 (lists by number, entries in list order), or "none". It follows lists only up to
--- that record's list, that one to its end."
+-- Clause 6.9: record.
 use Prim.Native.Nat.{ℕ, suc, _-_}
 use mathlib.Core.Bool.{cond}
 use mathlib.Core.List.{List, [], _∷_}

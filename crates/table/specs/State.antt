@@ -5,8 +5,8 @@ use lib.ListN.{getD}
 use Rattle.table.specs.Arrays.{packed, unpacked, padded}
 use Rattle.settings.specs.declared.layout.Layout.{Layout}
 
--- A basic block's slots are kept as their first L bits, `head`, and the `rest`: "An overflowing basic block has the first block's number in
--- the first L bits of its slots".
+-- A basic block's slots are kept as their first L bits, `head`, and the `rest`: clause 4.9 has the first block's number in
+-- the first L bits of an overflowing block.
 pub record Basic : Type 0 where
   pub counter : ℕ
   pub head : ℕ
@@ -46,7 +46,7 @@ abbrev pub overflowAt : List Overflow → ℕ → Overflow
 overflowAt os j = getD os j absentBlock
 
 module _ (g : Layout) where
-  -- an overflow block that is zero but for its link: "A block taken or freed is zeroed before its new fields are set."
+  -- an overflow block that is zero but for its link: what a block is before its new fields are set (clauses 5.3, 5.4)
   abbrev pub emptyBlock : ℕ → Overflow
   emptyBlock l = mkOverflow 0 l (padded (g .sio) [])
 
@@ -71,7 +71,7 @@ module _ (g : Layout) where
   abbrev pub basicOf : ℕ → List ℕ → Basic
   basicOf n es = mkBasic n (headOf es) (restOf es)
 
-  -- "A slot is bie + val bits, entry first."
+  -- clause 4.6: a slot is an entry, and then its label
   abbrev pub entryOf : ℕ → ℕ
   entryOf x = x / 2 ^ g .val
 

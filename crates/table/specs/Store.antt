@@ -14,7 +14,7 @@ module _ (g : Layout) where
   abbrev pub slotIn : ℕ → ℕ → Basic → Basic
   slotIn p x b = basicOf g (b .counter) (set (ownSlots g b) p x)
 
-  -- x in slot p of basic block i, whose list ends in block l: "the bits so displaced stand in the link of the list's last block"
+  -- x in slot p of basic block i, whose list ends in block l: displaced bits go to its link (clause 4.9)
   abbrev pub storeDisplaced : ℕ → ℕ → ℕ → ℕ → State → State
   storeDisplaced i l p x st =
       let es = set (unpack g (overflowAt (st .overflow) l .link) (basicAt (st .basic) i .rest)) p x in

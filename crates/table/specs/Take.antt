@@ -1,4 +1,4 @@
--- Document 01, "Calls on a table": taking a block from the free chain, and giving one back.
+-- Clauses 5.3 and 5.4: taking a block from the free chain, and giving one back.
 use Prim.Native.Nat.{ℕ}
 use mathlib.Core.Bool.{cond}
 use mathlib.Core.List.{List}
@@ -14,12 +14,11 @@ abbrev pub occurs : ℕ → List ℕ → ℕ
 occurs j bs = count (eqb j) bs
 
 module _ (g : Layout) where
-  -- the free start once block f is taken: "The last free block links to itself", "nob if none"
+  -- the free start once block f is taken: its link, or nob if it links to itself
   abbrev pub nextFree : List Overflow → ℕ → ℕ
   nextFree os f = cond (eqb (overflowAt os f .link) f) (g .nob) (overflowAt os f .link)
 
-  -- take the first free block for a list of blocks bs, and go on with it. "when taking a block, free start above nob, that block in this same
-  -- list, or its link nob or more" is damage; "no block: add needs an overflow block and free start is nob"
+  -- take the first free block for a list of blocks bs, and go on with it (clause 5.3)
   abbrev pub taking : State → List ℕ → Done → Done
   taking st bs on =
       cond (ltb (g .nob) (st .free)) damage
@@ -35,6 +34,6 @@ module _ (g : Layout) where
   abbrev pub linkFree : ℕ → ℕ → ℕ
   linkFree f l = cond (eqb f (g .nob)) l f
 
-  -- "An emptied overflow block goes to the front of the free chain", zeroed
+  -- clause 5.4: block j at the front of the free chain, zeroed
   abbrev pub freed : ℕ → State → State
   freed l st = withFree l (overOverflow l (λ o. emptyBlock g (linkFree (st .free) l)) st)

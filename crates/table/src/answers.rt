@@ -1,4 +1,4 @@
-// What the calls on a table answer: document 01's words, each with its values, or a refusal.
+// What the calls on a table answer: a word with its values, or a refusal.
 use keys::Key;
 use settings::Refusal;
 

@@ -62,7 +62,7 @@ pub enum Free {
     Refused(Refusal),
 }
 
-// "The last free block links to itself", and the free start is "nob if none".
+// The last free block links to itself, and behind it the free start is nob (clause 5.3).
 fn first_free(t: &[u8], g: Layout) -> Free
     requires { ⌜ Table g (now t) ⌝ }
     ensures { λ r. ⌜ r ≡ freeOf g (decode g (now (t .entry))) ⌝ }
@@ -171,7 +171,7 @@ fn append_more(
     }
 }
 
-// The last block is j, with n entries. "Counter c below sio means c + 1 entries".
+// The last block is j, with n entries: its counter is one less (clause 4.5).
 fn append_overflow(
     t: &mut [u8],
     g: Layout,

@@ -1,4 +1,4 @@
-// Add: ""held" with the old label, nothing changed; else "added" with its label, at the list's end."
+// Add (clauses 6.5 and 6.6): "held" and nothing changes, or "added" at the list's end.
 use crate::append::Item;
 use crate::append::append;
 use keys::Key;

@@ -1,4 +1,4 @@
--- "no entry twice in a list": in slots and in the blocks that follow them, one by one.
+-- No entry twice in a list: in slots and in the blocks that follow them, one by one.
 use mathlib.Core.Path.{_≡_, refl, sym, _∙_}
 use mathlib.Core.Bool.{Bool, true, false, cond, _&&_}
 use mathlib.Core.List.{List, [], _∷_, _++_}

@@ -28,7 +28,7 @@ module _ (g : Layout) where
   unfoldable pub shortSound : Basic → Bool
   shortSound b = basicUnused g b [] && noEntryTwice g (take (b .counter) (ownSlots g b))
 
-  -- "no entry twice" in a list that overflows, whose last block is l
+  -- no entry twice in a list that overflows, whose last block is l
   abbrev pub longFrom : List Overflow → Basic → ℕ → Bool
   longFrom os b l =
       cond (ltb l (g .nob)) (noEntryTwice g (unpack g (overflowAt os l .link) (b .rest) ++ slotsFrom g (g .nob) os (b .head))) false
@@ -49,7 +49,7 @@ module _ (g : Layout) where
   unfoldable pub chainWalk : State → List ℕ → Option (List ℕ)
   chainWalk st m = cond (eqb (st .free) (g .nob)) (some m) (walk g (wayOn g (st .overflow) true) (g .nob) (st .free) m)
 
-  -- "every overflow block exactly once": every block has a mark
+  -- every overflow block exactly once: every block has a mark
   abbrev pub allMarked : Option (List ℕ) → Bool
   allMarked none = false
   allMarked (some m) = everyBelow (g .nob) (λ j. eqb (field m j 1) 1)

@@ -25,11 +25,11 @@ tested q (Further c) = Further c
 tested q Damage = Damage
 
 module _ (g : Layout) where
-  -- a block of a list: "Unused slots .. are zero"
+  -- a block of a list: unused slots are zero
   unfoldable pub listStep : List Overflow → ℕ → Step
   listStep os b = tested (overflowUnused g os b) (stepAt g os b)
 
-  -- a block of the free chain: "counters and slots of free blocks, are zero", "The last free block links to itself"
+  -- a block of the free chain: zero but for its link; the last one links to itself
   unfoldable pub chainStep : List Overflow → ℕ → Step
   chainStep os b = cond (freeZero g os b) (cond (eqb (overflowAt os b .link) b) Last (further (overflowAt os b .link))) Damage
 

@@ -64,8 +64,7 @@ fn checked(t: &[u8], g: Layout, marks: &mut [u8]) -> CheckAnswer
     CheckAnswer::Unsound
 }
 
-// Whether the table is sound. "Its lent marks, ⌈nob / 8⌉ bytes, are zero afterwards; lent bytes beyond
-// them are untouched."
+// Whether the table is sound. The marks that it needs are zero afterwards, and the bytes behind them stay (clause 6.11).
 pub fn check(s: Settings, t: &[u8], marks: &mut [u8]) -> CheckAnswer
     ensures { λ r. ⌜ Gives (checkCall s (now (t .entry)) (now (marks .entry))) r (now (marks .exit)) ⌝ }
 {

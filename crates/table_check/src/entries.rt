@@ -1,4 +1,4 @@
-// "no entry twice in a list": each entry is looked for among those before it in its block, and in the
+// No entry twice in a list: each entry is looked for among those before it in its block, and in the
 // blocks that follow.
 use keys::BlockNumber;
 use keys::Key;

@@ -1,4 +1,4 @@
-// "no damage in any list", and its zeros and entries as they should be; the free chain.
+// No damage in any list, and its zeros and entries as they should be; the free chain.
 use crate::bytes::zeros_after;
 use crate::entries::blocks_apart;
 use crate::entries::slots_apart;
@@ -85,7 +85,7 @@ pub(crate) fn lists_sound(t: &[u8], g: Layout, marks: &mut [u8]) -> bool
     true
 }
 
-// The free chain: "first free overflow block, nob if none".
+// The free chain, from the first free block on; the free start is nob if there is none.
 pub(crate) fn chain_sound(t: &[u8], g: Layout, marks: &mut [u8]) -> bool
     requires { ⌜ Table g (now t) × (g .nob ≤ 8 * length (now marks)) ⌝ }
     ensures { λ r. ⌜ chainWalk g (decode g (now (t .entry))) (now (marks .entry)) ≡ found r (now (marks .exit)) ⌝ }

@@ -1,4 +1,4 @@
-// Blocks followed one by one, each with its mark: "every overflow block exactly once".
+// Blocks followed one by one, each with its mark: every overflow block stands exactly once.
 use crate::steps::way_on;
 use keys::BlockNumber;
 use settings::Layout;

@@ -26,7 +26,7 @@ use Rattle.table.specs.theory.Arrays.{getD-tab}
 use Rattle.table.specs.theory.Changes.{at-over}
 use Rattle.table_read.specs.theory.Reads.{unpack-length, slot-in, basic-slots-in}
 use Rattle.table_read.specs.theory.Walks.{last-low, content-short}
-use Rattle.table_read.specs.theory.BlockSlots.{Chained, last-few, gather-some, content-chained, long-full, long-ends, long-blocks, long-length}
+use Rattle.table_read.specs.theory.BlockSlots.{chain-low, Chained, last-few, gather-some, content-chained, long-full, long-ends, long-blocks, long-length}
 use Rattle.table.specs.theory.Formed.{basics}
 use Rattle.table_store.specs.Stores.{basicCounterPut, slotPut, Stored}
 use Rattle.table_store.specs.Places.{storeFrom}
@@ -108,6 +108,7 @@ module _ (g : Layout) (st : State) (i p : ℕ) (P : Placed g st i p) where
         ∙ ap (λ (u : State). shrink g u i (first ∷ others)) (store-is g st i sz (blocks .chain) (blocks .are) p (lastSlot st last) inside)
 
     pub record Route (b : ℕ) (e : End) : Type 0 where
+      pub first-low : b < g .nob
       pub low : e .last .0 < g .nob
       pub few : overflowAt (st .overflow) (e .last .0) .counter < g .sio
       pub prior-low : Within g (e .before)
@@ -123,6 +124,7 @@ module _ (g : Layout) (st : State) (i p : ℕ) (P : Placed g st i p) where
     route-is : Route first (endIn g prior.Basic (first ∷ others))
     route-is =
         record {
+          first-low = chain-low g (st .overflow) (blocks .chain);
           low = last-low g (st .overflow) (blocks .chain);
           few = last-few g (st .overflow) (blocks .chain);
           prior-low = prior-low g (st .overflow) prior.Basic tt (blocks .chain);

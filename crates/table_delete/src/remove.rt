@@ -1,5 +1,4 @@
-// Delete: ""none", or "gone" with the label; the list's last slot moves into the hole and the slot left
-// vacant is zeroed."
+// Delete (clauses 6.7 and 6.8): "none", or "gone" with the label, and the list's last entry takes the hole.
 use crate::shrink::cannot_free;
 use crate::shrink::end_of;
 use crate::shrink::shrink;

@@ -56,7 +56,7 @@ pub(crate) fn end_of(t: &[u8], g: Layout, first: BlockNumber) -> End
     End { last: b, before }
 }
 
-// Whether the last block, whose counter is n, would be freed and cannot: "when freeing one, free start above nob".
+// Whether the last block, whose counter is n, would be freed and cannot: the free start is above nob (clause 5.4).
 pub(crate) fn cannot_free(t: &[u8], g: Layout, n: usize) -> bool
     requires { ⌜ Table g (now t) ⌝ }
     ensures { λ r. ⌜ r ≡ cannotFree g n (decode g (now (t .entry))) ⌝ }
@@ -82,7 +82,7 @@ fn drop_last_slot(t: &mut [u8], g: Layout, j: BlockNumber, n: usize)
     );
 }
 
-// The link of block j at the front of a free chain that starts at f. "The last free block links to itself".
+// The link of block j at the front of a free chain that starts at f. The last free block links to itself.
 fn link_free(g: Layout, f: FreeStart, j: BlockNumber) -> BlockNumber
     ensures { λ r. ⌜ r .0 ≡ linkFree g (f .0) (j .0) ⌝ }
 {
@@ -92,7 +92,7 @@ fn link_free(g: Layout, f: FreeStart, j: BlockNumber) -> BlockNumber
     BlockNumber(f.0)
 }
 
-// "An emptied overflow block goes to the front of the free chain."
+// An emptied overflow block goes to the front of the free chain (clause 5.4).
 fn free_block(t: &mut [u8], g: Layout, j: BlockNumber)
     requires { ⌜ Table g (now t) × (j .0 < g .nob) × (decode g (now t) .free ≤ g .nob) ⌝ }
     ensures { λ _. ⌜ Stored g (now (t .entry)) (now (t .exit)) (freed g (j .0) (decode g (now (t .entry)))) ⌝ }

@@ -55,7 +55,7 @@ pub fn seek(s: Settings, g: Layout, t: &[u8], key: Key) -> Sought
     Sought { place, found }
 }
 
-// "Find: "held" with label, or "none"".
+// Find (clause 6.4): "held" with the label, or "none".
 pub fn find(s: Settings, t: &[u8], key: Key) -> Answer
     ensures { λ r. ⌜ r ≡ keyCall s (now (t .entry)) find key .answer ⌝ }
 {

@@ -126,7 +126,7 @@ fn find_long(t: &[u8], g: Layout, i: ListNumber, first: BlockNumber, entry: Key)
     find_blocks(t, g, first, entry, g.sib)
 }
 
-// The entry in list i. "Counter 0 to sib counts entries; sib + 1 means overflow."
+// The entry in list i. Its basic counter is that of its entries, or sib + 1 where it overflows (clause 4.4).
 pub fn find_in(t: &[u8], g: Layout, i: ListNumber, entry: Key) -> Answer
     requires { ⌜ Table g (now t) × (i .0 < g .lists) × (keyNumber entry < 2 ^ g .bie) ⌝ }
     ensures { λ r. ⌜ r ≡ findIn g (decode g (now (t .entry))) (i .0) (keyNumber entry) ⌝ }

@@ -46,7 +46,7 @@ fn link_free(t: &mut [u8], g: Layout)
     }
 }
 
-// The link of block j in the chain: "The last free block links to itself."
+// The link of block j in the chain: the last free block links to itself.
 fn free_link(g: Layout, j: BlockNumber) -> BlockNumber
     requires { ⌜ j .0 < g .nob ⌝ }
     ensures { λ r. ⌜ r .0 ≡ newOverflow g (j .0) .link ⌝ }

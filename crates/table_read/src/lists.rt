@@ -73,7 +73,7 @@ pub fn displaced_run(g: Layout, i: ListNumber, h: usize) -> Slots
     }
 }
 
-// The slots in use of overflow block j, whose counter is c. "Counter c below sio means c + 1 entries".
+// The slots in use of overflow block j, whose counter is c (clause 4.5).
 pub fn overflow_run(g: Layout, j: BlockNumber, c: usize) -> Slots
     requires { ⌜ Proper g × (j .0 < g .nob) × (c ≤ g .sio) ⌝ }
     ensures { λ r. ⌜ r ≡ overflowRun g (j .0) c ⌝ }

@@ -1,4 +1,4 @@
-// Where the fields of a block stand: "counter .., link of L bits, sio slots", each behind the one before. A basic block has
+// Where the fields of a block stand (clauses 4.4, 4.5): counter, link and slots, each behind the one before. A basic block has
 // no link; where its list overflows, a block's number stands in the first L bits of its slots, so at the same place.
 // The functions over `Blocks` take the number of a list or of an overflow block alike; those over a layout say which.
 use keys::BlockNumber;

@@ -123,6 +123,9 @@ fn candidate_tails(t: &[u8], at: usize, step: usize, n: usize, m: usize, q: u64)
 // A slot before which none of the n slots holds the number high * 2^64 + low, so that the search goes on there. Where a
 // slot has whole bytes the window begins at its first byte boundary; elsewhere it ends with the entry. The 57 is written
 // at the call, so that the shifts are by constants. 0, which says nothing, where a load could pass the table's end.
+// Left free: which slot it is, since a window is a part of a slot, and which part depends on where the slots lie. What
+// holds: it is at most n, and no slot before it holds the number; so n says that none does. Callers compare the slots from
+// there on whole (`confirm`, `scan_from`), and their contracts say which is the first.
 pub fn candidate(
     t: &[u8],
     start: usize,

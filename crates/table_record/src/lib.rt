@@ -48,7 +48,7 @@ pub enum Nth {
     Damage,
 }
 
-// "Record n: nth record from 0 (lists by number, entries in list order), or "none"".
+// Record n (clause 6.9): the nth entry from 0, or "none".
 pub fn record(s: Settings, t: &[u8], n: u64) -> RecordAnswer
     ensures { λ r. ⌜ r ≡ recordCall s (now (t .entry)) n ⌝ }
 {

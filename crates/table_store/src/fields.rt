@@ -81,7 +81,7 @@ pub fn put_overflow_front(t: &mut [u8], g: Layout, j: BlockNumber, n: usize, l: 
     put_front(t, g.overflow, j.0, g.link, n, l);
 }
 
-// "A block taken or freed is zeroed before its new fields are set": overflow block j becomes zero, but for its link, l.
+// Overflow block j becomes zero, but for its link, l, as every block that is taken or freed (clauses 5.3, 5.4).
 pub fn empty_block(t: &mut [u8], g: Layout, j: BlockNumber, l: usize)
     requires { ⌜ Table g (now t) × (j .0 < g .nob) × (l < 2 ^ g .link) ⌝ }
     ensures { λ _. ⌜ Stored g (now (t .entry)) (now (t .exit)) (overOverflow (j .0) (λ o. emptyBlock g l) (decode g (now (t .entry)))) ⌝ }

@@ -19,7 +19,7 @@ pub record Field (s : List ℕ) (g : ℕ) : Type 0 where
   -- 4.3: "The characters "a", "b", "c", "d", "e", and "f" in an IPv6 address MUST be represented in lowercase." "A" to "F" are 65 to 70
   pub no-capital : (t : List ℕ) (x : ℕ) (u : List ℕ) → s ≡ t ++ x ∷ u → (x < 65) ⊎ (70 < x)
 
--- fields parted by colons (58), or none. Document 01: "always in hexadecimal groups"
+-- fields parted by colons (58), or none; always in hexadecimal (clause 9.5)
 pub data Fields : List ℕ → List ℕ → Type 0 where
   none : Fields [] []
   last : {s : List ℕ} {g : ℕ} → Field s g → Fields s (g ∷ [])

@@ -1,4 +1,4 @@
--- The calls with texts: "The text layer knows the table only through these calls' stated answers." Codes 3 and 4 come behind 1 and 2, and before
+-- Clause 9.7: the calls with texts, made of the calls with keys. Refusals 3 and 4 come behind 1 and 2, and before
 -- what the call with the key answers.
 use Prim.Native.Nat.{ℕ}
 use mathlib.Core.Bool.{Bool, true, false}
@@ -27,7 +27,7 @@ abbrev pub notRead : Parsed → Bool
 notRead (parsed.Key k) = false
 notRead (parsed.Refused why) = true
 
--- 4 "not a legal address"
+-- 4: the text is not legal
 abbrev pub textDue : List ℕ → Due
 textDue x = due (notRead (readingOf x)) refusal.Text
 

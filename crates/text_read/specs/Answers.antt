@@ -8,7 +8,7 @@ use Rattle.text_read.specs.Reading.{groupsOf, joined}
 use Rattle.text_read.specs.declared.Parsed.{Parsed}
 use Rattle.text_read.specs.declared.Parsed.the-variants as parsed
 
--- refusal 4: "not a legal address"
+-- refusal 4: the text is not legal
 unfoldable pub keyed : Option (List ℕ) → Parsed
 keyed none = parsed.Refused refusal.Text
 keyed (some l) = parsed.Key (keyOf (joined 0 l))

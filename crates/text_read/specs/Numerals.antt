@@ -28,7 +28,7 @@ noLeadingZero (x ∷ []) = true
 noLeadingZero (x ∷ y ∷ s) = not (eqb (classOf x) 0)
 
 -- RFC 4291, section 2.2, 3: "the 'd's are the decimal values of the four low-order 8-bit pieces of the address".
--- Document 01: "decimals 0 to 255"; "A decimal other than 0 itself has no leading zero".
+-- Clause 9.2: from 0 to 255, without a leading zero.
 unfoldable pub decimal : List ℕ → Option ℕ
 decimal s =
     cond (digits 10 s && leb 1 (length s) && leb (length s) 3 && noLeadingZero s && leb (number 10 0 s) 255) (some (number 10 0 s)) none

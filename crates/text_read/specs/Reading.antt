@@ -1,4 +1,4 @@
--- Which texts are legal addresses, and which eight groups each one spells: RFC 4291, section 2.2, as document 01's "Address text" completes it.
+-- Which texts are legal addresses, and which eight groups each one spells: RFC 4291, section 2.2, as clauses 9.2 and 9.3 complete it.
 use Prim.Native.Nat.{ℕ, _+_, _-_, _*_}
 use mathlib.Core.Bool.{Bool, true, false, cond, _&&_}
 use mathlib.Core.List.{List, [], _∷_, _++_}
@@ -31,7 +31,7 @@ unfoldable pub decimals : List (List ℕ) → Option (List ℕ)
 decimals [] = some []
 decimals (f ∷ fs) = push (decimal f) (decimals fs)
 
--- "the last two groups may be four decimals 0 to 255 with dots"
+-- four decimals with dots are the last two groups
 unfoldable pub twoGroups : Option (List ℕ) → Option (List ℕ)
 twoGroups none = none
 twoGroups (some l) = cond (eqb (length l) 4) (some ((getD l 0 0 * 256 + getD l 1 0) ∷ (getD l 2 0 * 256 + getD l 3 0) ∷ [])) none
@@ -85,7 +85,7 @@ unfoldable pub eight : Option (List ℕ) → Option (List ℕ)
 eight none = none
 eight (some l) = cond (eqb (length l) 8) (some l) none
 
--- "one "::" may stand for one or more zero groups", so that there are eight; a second "::" leaves an empty field, which is no group
+-- "::" stands for one or more zero groups, so that there are eight; a second "::" leaves an empty field, which is no group
 unfoldable pub filled : Option (List ℕ) → Option (List ℕ) → Option (List ℕ)
 filled none r = none
 filled (some a) none = none

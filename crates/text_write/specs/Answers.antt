@@ -12,7 +12,7 @@ use Rattle.text_write.specs.Writing.{written}
 use Rattle.text_write.specs.declared.Written.{Written}
 use Rattle.text_write.specs.declared.Written.the-variants as out
 
--- 9 "fewer bytes lent than the text has". "the rest of a text buffer" is untouched
+-- clause 9.5; 9: fewer bytes are lent than the text has. The bytes behind the text stay
 unfoldable pub writeCall : Key → List ℕ → Reply Written
 writeCall k b =
     let text = written (k .high) (k .low) in

@@ -1,4 +1,4 @@
--- The one text in which an address is written: RFC 5952, sections 4.1 to 4.3, and document 01: "always in hexadecimal groups".
+-- The one text in which an address is written: RFC 5952, sections 4.1 to 4.3, always in hexadecimal groups (clause 9.5).
 use Prim.Native.Nat.{ℕ, _+_, _/_, _%_, _^_}
 use mathlib.Core.Bool.{cond}
 use mathlib.Core.List.{List, [], _∷_, _++_, map}

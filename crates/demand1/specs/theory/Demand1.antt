@@ -16,7 +16,7 @@ writes-accepted (adds label g) why e = absurd (let z : _≡_ {A = ℕ} 0 1 = cc 
 writes-accepted (deletes g) why e = absurd (let z : _≡_ {A = ℕ} 0 1 = cc in omega arith)
 
 module _ (s : Settings) (l : Lent) where
-  -- "Only make, and accepted add and delete, write the table"
+  -- clause 6.13: what writes the table
   pub only-these-write : (c : Asked) → (outcome s l c .after .table ≡ l .table) ⊎ Writes c (outcome s l c .said)
   only-these-write make = make-kept s (l .table) .unless
   only-these-write (onKey v (key k)) = key-kept s (l .table) (key k) v k .unless
@@ -36,14 +36,14 @@ module _ (s : Settings) (l : Lent) where
   accepted-write (readText x) = inl refl
   accepted-write (writeText k) = write-kept k (l .buffer) .unless
 
-  -- "A refusal .. changes nothing lent."
+  -- clause 7.1: a refusal leaves every lent byte
   pub refused-leaves : (c : Asked) (why : Refusal) → outcome s l c .said ≡ refused why → outcome s l c .after ≡ l
   refused-leaves c why e =
       let t : outcome s l c .after .table ≡ l .table = ⊎-elim (λ x. x) (λ w. absurd (writes-accepted w why e)) (only-these-write c) in
       let b : outcome s l c .after .buffer ≡ l .buffer = ⊎-elim (λ x. x) (λ w. absurd (w why e)) (accepted-write c) in
       λ k. record { table = t k; buffer = b k }
 
-  -- "bytes beyond its size are untouched, as is the rest of a text buffer"; so are "lent bytes beyond" the marks
+  -- clauses 6.11, 6.13 and 9.5: the bytes behind the table, the marks and the text stay
   pub beyond-stays : (c : Asked)
       → Untouched (tableBytes s) (l .table) (outcome s l c .after .table) × Untouched (bufferBytes s c) (l .buffer) (outcome s l c .after .buffer)
   beyond-stays make = (make-kept s (l .table) .untouched, untouched 0 (l .buffer))

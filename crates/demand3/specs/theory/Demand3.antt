@@ -76,14 +76,14 @@ agree-behaves s right a (c ∷ cs) =
     let w = lent-follows right a c in
     (agree-holds s right a, w .answers, agree-behaves s right (w .agree) cs)
 
--- beside a table "that check finds sound", the set starts "as the pairs rebuilt from the bits"
+-- clause 8.2: beside a table that check finds sound, the set starts as the pairs rebuilt from it
 pub demand-three : (s : Settings) (t m : List ℕ) → Bytes t → checkCall s t m .answer ≡ checking.Sound
     → (cs : List Lending) → Behaves s t (rebuiltPairs s (held s t)) cs
 demand-three s t m bytes e cs =
     let o = sound-opened s t m e in
     agree-behaves s (o .0 .right) (sound-agree s (o .0 .right) t bytes (o .0 .room) (o .1) .1) cs
 
--- "Beside a new table it starts empty"
+-- clause 8.2: beside a new table it starts empty
 pub demand-three-new : (s : Settings) (t : List ℕ) → Bytes t → makeCall s t .answer ≡ making.Made
     → (cs : List Lending) → Behaves s (makeCall s t .bytes) [] cs
 demand-three-new s t bytes e cs =

@@ -1,4 +1,4 @@
--- "Two lists of calls that differ only in legal spellings of the same addresses get the same answers from the same bytes": for every settings,
+-- Clause 8.10, lists of calls that differ only in legal spellings of the same addresses: for every settings,
 -- legal or not, and every memory.
 use mathlib.Core.Path.{_≡_, refl, ap, ap₂, _∙_}
 use mathlib.Core.List.{List, [], _∷_, _++_, map}

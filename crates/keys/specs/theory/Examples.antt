@@ -1,4 +1,4 @@
--- Document 01, "Bench examples".
+-- An example of clause 3.2.
 use mathlib.Core.Path.{_≡_}
 use Prim.Native.Nat.{_+_, _*_, _%_}
 use native.Mathlib.Omega.{arith}
@@ -7,7 +7,7 @@ use Rattle.keys.specs.Key.{hash}
 use Rattle.settings.specs.theory.Primes.{prime-table}
 use Rattle.settings.specs.declared.settings.Settings.{Settings}
 
--- "bii 3, a 1, b 1, entry 7: remainder 8, low three bits 0", whatever the other settings are
+-- with bii 3, a 1 and b 1 the entry 7 has the remainder 8, which is cut to 0, whatever the other settings are
 module _ (s : Settings) (bii : s .bii ≡ 3) (a : s .a ≡ 1) (b : s .b ≡ 1) where
   pub remainder-of-7 : (s .a * 7 + s .b) % primeAbove (s .bii) ≡ 8
   remainder-of-7 = rw (a, b, bii, prime-table 3 (omega arith))

@@ -99,7 +99,7 @@ module _ {s : Settings} (legal : Legal s) where
       let wide = legal .ranges .w-high in
       mod-eq-of-lt (lt-of-lt-of-le h (pow-mono (omega arith)))
 
-  -- "Given list number and E, the same xor gives I back."
+  -- clause 3.3: a list's number and an entry give the key back
   pub key-rebuilt : {k : ℕ} → k < 2 ^ s .w → rebuilt s (listNumber s k) (entry s k) ≡ k
   unfolding rebuilt listNumber index entry
   key-rebuilt {k} h =

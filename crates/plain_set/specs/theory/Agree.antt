@@ -36,7 +36,7 @@ use Rattle.plain_set.specs.theory.Keys.{layout-lists, entry-fits, number
 use Rattle.plain_set.specs.theory.Rows.{pairsFrom, RowsFit, count-key, count-above}
 use Rattle.plain_set.specs.theory.Lists.{Stands}
 
--- the bytes t hold the lists T; the lists stand for the set ps; and "zero bits to the end of the byte"
+-- the bytes t hold the lists T; the lists stand for the set ps; and the fill is zero
 pub record Agree (s : Settings) (t : List ℕ) (T : List (List ℕ)) (ps : List Pair) : Type 0 where
   pub bytes : Bytes t
   pub room : tableBytes s ≤ length t
@@ -67,7 +67,7 @@ pub rep-rebuilt : (s : Settings) {st : State} {T B : List (List ℕ)} {fs : List
 unfolding rebuiltPairs
 rep-rebuilt s {st} r = rebuilt-slots s 0 (st .basic) (st .overflow) ∙ ap (pairsFrom s 0) (rep-slots r)
 
--- "no key twice", and "no entry twice in a list" ------------------------------------------------------------------------------
+-- No key twice, and no entry twice in a list ----------------------------------------------------------------------------------
 
 module _ (s : Settings) (legal : Legal s) (T : List (List ℕ)) (long : length T ≡ lists s) (fit : RowsFit s T) where
   -- an entry of list i is a key with that list number

@@ -115,7 +115,7 @@ module _ (s : Settings) (legal : Legal s) (T : List (List ℕ)) (ps : List Pair)
     lookup-free : holdsKey s T k ≡ false → lookup k ps ≡ none
     lookup-free e = lookup-none k ps (none-there e)
 
-    -- "if its list has no vacant slot and all lists together use nob blocks"
+    -- clause 8.7: the list has no vacant slot, and all blocks are used
     full-same : noVacantSlot s (listLength s ps (listNumber s k)) && allBlocksUsed s ps ≡ isFull s T k
     unfolding blocksUsed blocksFor layoutOf
     full-same = rw (length-same (listNumber s k) (number-below s legal k ok), used-same)

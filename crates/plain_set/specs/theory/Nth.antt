@@ -97,7 +97,7 @@ module _ (s : Settings) (t : List ℕ) where
       nth-from s 0 (decode (layoutOf s) t .basic) (decode (layoutOf s) t .overflow)
       (record { undamaged = λ k h. u k (omega (arith, decode-formed (layoutOf s) t .basic .long)) }) n
 
-  -- "Record n: nth record from 0 (lists by number, entries in list order), or "none"", on every table without damage
+  -- clause 6.9, on every table without damage
   pub record-nth : Legal s → tableBytes s ≤ length t → Undamaged (layoutOf s) (decode (layoutOf s) t) → (n : ℕ)
       → recordCall s t n ≡ nthRecord (rebuiltPairs s (decode (layoutOf s) t)) n
   unfolding recordCall

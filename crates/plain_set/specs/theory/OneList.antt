@@ -26,7 +26,7 @@ pub record Told : Type 0 where
 abbrev pub tell : Answer → ℕ → Told
 tell a n = record { answer = a; compared = n }
 
--- "A refusal returns .. compared 0"
+-- clause 7.1: a refusal has compared 0
 abbrev pub comparedOf : table.Answer → ℕ
 comparedOf (answer.Said label w n) = n
 comparedOf (answer.Refused why) = 0

@@ -40,7 +40,7 @@ pub key-refused : (s : Settings) (t : List ℕ) (v : Verb) (k : Key)
 unfolding keyCall
 key-refused s t v k = refl
 
--- "refused with the lowest": the first that is due is the lowest that is due, since their numbers rise
+-- clause 8.3: the first that is due is the lowest that is due, since their numbers rise
 abbrev pub rising : ℕ → List Due → Bool
 rising n [] = true
 rising n (d ∷ ds) = ltb n (numberOf (d .why)) && rising (numberOf (d .why)) ds
@@ -58,11 +58,11 @@ lowest-first s n delete (text (some k)) = refl
 
 -- Legal inputs --------------------------------------------------------------------------------------------------------
 
--- 6 "label is 2^val or more" is not due
+-- refusal 6 is not due
 pub label-below : (s : Settings) (l : ℕ) → NoneDue (verbDue s (add l)) → l < 2 ^ s .val
 label-below s l d = ltb-true l (2 ^ s .val) (passed (d .0))
 
--- "Inputs are legal if none of codes 1 to 6 is due": the key is one of the table's, and the lent bytes have room for it
+-- none of refusals 1 to 6 is due: the key is one of the table's, and the lent bytes have room for it
 pub record LegalInputs (s : Settings) (n : ℕ) (v : Verb) (k : ℕ) : Type 0 where
   pub room : tableBytes s ≤ n
   pub key : k < 2 ^ s .w
@@ -101,7 +101,7 @@ module _ (s : Settings) (n : ℕ) (ps : List Pair) where
   key-stays (add l) k = added-stays k l (lookup k ps)
   key-stays delete k = deleted-stays k (lookup k ps)
 
-  -- "Find: .. The set stays."
+  -- clause 8.4: find leaves the set
   pub find-stays : (g : Given) → setStep s n ps (call find g) .after ≡ ps
   unfolding setStep
   find-stays g =

@@ -56,7 +56,7 @@ module _ (g : Layout) where
     pub each : (i : ℕ) → i < g .lists → Holds (basicAt (st .basic) i) (st .overflow) (getD B i []) (getD T i [])
     pub fits : (i : ℕ) → i < g .lists → All (Fits (g .slot)) (getD T i [])
     pub chain : Chain (st .overflow) (st .free) fs
-    -- "every overflow block exactly once, in one list or in the free chain"
+    -- every overflow block stands exactly once, in one list or in the free chain
     pub once : (j : ℕ) → sum (occurs j) B + occurs j fs ≡ one (ltb j (g .nob))
 
   -- the state holds the lists T, in some blocks
@@ -65,7 +65,7 @@ module _ (g : Layout) where
     pub fs : List ℕ
     pub rep : Rep st T B fs
 
-  -- how many slots have the entry e, and "no entry twice in a list"
+  -- how many slots have the entry e, and that none stands twice
   abbrev pub entries : ℕ → List ℕ → ℕ
   entries e es = count (λ x. eqb (entryOf g x) e) es
 

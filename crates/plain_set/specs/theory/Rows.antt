@@ -134,7 +134,7 @@ module _ (s : Settings) where
               (λ x b. ne-eqb _ k (λ q. omega (arith, key-of-slot-below s legal j x high b)))
               ∙ count-none (getD T j []))
 
-      -- "A list's length n is the number of keys in the set with that list number."
+      -- clause 8.8: how many keys of the set have this list's number
       pub count-list : (i : ℕ) → i < lists s → listLength s (pairsFrom 0 T) i ≡ length (getD T i [])
       count-list i h =
           count-only (λ p. eqb (listNumber s (p .key)) i) i h

@@ -35,7 +35,7 @@ use Rattle.plain_set.specs.theory.Longer.{bytes-append, bytes-drop, fill
 
 -- A sound table ---------------------------------------------------------------------------------------------------------------
 
--- "beside one that check finds sound, it starts as the pairs rebuilt from the bits"
+-- clause 8.2, beside a table that check finds sound
 pub sound-agree : (s : Settings) → Legal s → (t : List ℕ) → Bytes t → tableBytes s ≤ length t → tableSound (layoutOf s) t ≡ true
     → (T : List (List ℕ)) × Agree s t T (rebuiltPairs s (decode (layoutOf s) t))
 unfolding tableSound
@@ -76,7 +76,7 @@ stands-new s =
       once = λ k. omega arith;
     }
 
--- "Beside a new table it starts empty", whatever the bytes were
+-- clause 8.2, beside a new table, whatever the bytes were
 pub new-agree : (s : Settings) → Legal s → (t : List ℕ) → Bytes t → tableBytes s ≤ length t
     → Agree s (makeCall s t .bytes) (replicate (layoutOf s .lists) []) []
 unfolding makeCall newBytes

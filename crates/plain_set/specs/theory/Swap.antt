@@ -1,4 +1,4 @@
--- The swap that delete makes: "the list's last slot moves into the hole".
+-- The swap that delete makes: the list's last entry takes the match's place.
 use mathlib.Core.Path.{_≡_, ap, _∙_}
 use mathlib.Core.Bool.{Bool}
 use mathlib.Core.List.{List}

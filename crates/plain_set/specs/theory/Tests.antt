@@ -1,4 +1,4 @@
--- The parts of check's test: what holds of each element, "no entry twice" by counting, and the blocks and slots of all lists.
+-- The parts of check's test: what holds of each element, no entry twice by counting, and the blocks and slots of all lists.
 use mathlib.Core.Path.{_≡_, refl, sym, ap, subst}
 use mathlib.Core.Bool.{true, false}
 use mathlib.Core.List.{List, [], _∷_}
@@ -33,7 +33,7 @@ module _ (g : Layout) where
       (λ q. rw q (λ h. absurd (omega arith)))
       (λ q. rw q (λ h. none-hasEntry e es (omega arith)))
 
-  -- "no entry twice in a list": the test, and every entry at most once
+  -- no entry twice in a list: the test, and every entry at most once
   pub once-single : (es : List ℕ) → noEntryTwice g es ≡ true → Single g es
   once-single [] = λ h e. omega arith
   once-single (x ∷ es) =

@@ -1,4 +1,4 @@
--- Document 01's length rule: how many overflow blocks a list of n slots uses, and when it has no vacant slot; and that the blocks of a list
+-- The length rule of clause 8.8: how many overflow blocks a list of n slots uses, and when it has no vacant slot; and that the blocks of a list
 -- are that many.
 use mathlib.Core.Path.{_≡_, sym, ap, _∙_}
 use mathlib.Core.Bool.{Bool, _&&_}
@@ -19,11 +19,11 @@ use Rattle.plain_set.specs.theory.Rep.{Holds}
 use Rattle.plain_set.specs.theory.Follow.{holds-length, holds-more}
 
 module _ (sib sio : ℕ) where
-  -- "It uses no overflow block up to n = sib, above that (n - sib) / sio, rounded up."
+  -- clause 8.8: the overflow blocks of a list of length n, (n - sib) / sio rounded up
   unfoldable pub blocksFor : ℕ → ℕ
   blocksFor n = (n - sib + (sio - 1)) / sio
 
-  -- "It has no vacant slot exactly if n + 1 would use one block more."
+  -- clause 8.8: one entry more would use one block more
   abbrev pub noVacant : ℕ → Bool
   noVacant n = eqb (blocksFor (suc n)) (suc (blocksFor n))
 

@@ -142,7 +142,7 @@ in-table k h = above-means k (getD primes k 0) (T-true _ (at isPrimeAbove primes
 pub prime-table : (k : ℕ) → k ≤ 16 → primeAbove k ≡ getD primes k 0
 prime-table k h = in-table k h .1
 
--- ---- "p is the smallest prime above 2^bii"
+-- ---- clause 2.4: the smallest prime above 2 ^ bii
 
 pub prime-prime : (k : ℕ) → k ≤ 16 → isPrime (primeAbove k) ≡ true
 prime-prime k h = ap isPrime (prime-table k h) ∙ in-table k h .0

@@ -1,4 +1,4 @@
--- The free chain: the blocks that the test follows are those that document 01's words link, and the other way round.
+-- The free chain: the blocks that the test follows are those that clause 4.11 links, and the other way round.
 use mathlib.Core.Path.{_≡_, refl, sym, _∙_}
 use mathlib.Core.List.{List, [], _∷_}
 use mathlib.Core.Option.{Option, some}
@@ -37,7 +37,7 @@ module _ (g : Layout) where
       (λ c. cons-run os f (ltb-true f (g .nob) e) (chain-run n os (overflowAt os f .link))))
       (λ e. holds-none)
 
-  -- the free chain of a state, in document 01's words
+  -- the free chain of a state, in the words of clause 4.11
   pub record FreeChain (st : State) (fs : List ℕ) : Type 0 where
     pub start : st .free ≤ g .nob
     pub linked : Chain g (st .overflow) (st .free) fs

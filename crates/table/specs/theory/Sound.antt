@@ -1,4 +1,4 @@
--- The test that check computes says what document 01's sentence says, of every table: both ways.
+-- The test that check computes says what clause 6.10 says, of every table: both ways.
 use mathlib.Core.Path.{_≡_, refl, sym, _∙_}
 use mathlib.Core.Logic.{_≢_}
 use mathlib.Core.Bool.{true, _&&_}
@@ -60,7 +60,7 @@ module _ (g : Layout) where
   unused-all b [] h = h refl
   unused-all b (c ∷ cs) h = refl
 
-  -- "no damage", and the zeros and entries of one list, in document 01's words
+  -- no damage, and the zeros and entries of one list, in the words of clause 6.10
   record SoundList (b : Basic) (os : List Overflow) (v : Content) : Type 0 where
     undamaged : contentOf g b os ≡ some v
     basic-zero : (k : ℕ) → b .counter ≤ g .sib → b .counter ≤ k → getD (ownSlots g b) k 0 ≡ 0
@@ -151,7 +151,7 @@ module _ (g : Layout) where
             both-true (eqb (overflowAt (st .overflow) j .counter) 0) (allZero (overflowAt (st .overflow) j .slots))
             (every-at (freeZero g (st .overflow)) fs j z h)
 
-    -- the test of a state, and what document 01 says of it
+    -- the test of a state, and what clause 6.10 says of it
     pub test-state : stateSound g st ≡ true → SoundState g st
     unfolding stateSound
     test-state t =
@@ -198,7 +198,7 @@ module _ (g : Layout) where
       true-both (state-test (decode-formed g t .basic .long) (s .state))
       (eq-eqb (field t (g .bits) (8 * g .bytes - g .bits)) 0 (s .fill))
 
-  -- "So blocks in lists and blocks in the chain make nob."
+  -- clause 6.10: blocks in lists and blocks in the chain are nob together
   pub blocks-make-nob : {st : State} → Formed g st → (s : SoundState g st) → sumBelow (g .lists) (λ i. length (s .lists i .blocks)) + length (s .chain) ≡ g .nob
   blocks-make-nob {st} f s =
       omega (

@@ -55,7 +55,7 @@ module _ (s : Settings) (k : Key) where
       (λ why e. refused-laid why g e)
       (λ d e. record { lawful = passed (d .0); layout = laid-layout (layoutOf s) g e; long = passed (d .1 .0); low = passed (d .1 .1 .0) })
 
-  -- 1 "a range or rule above is broken"
+  -- 1: the settings are not legal
   pub open-illegal : (n : ℕ) (why : Refusal) → laidOf s ≡ laid.Refused why → openOf s n k ≡ laid.Refused why
   unfolding openOf
   open-illegal n why e =

@@ -39,7 +39,7 @@ put-overflow-link-requires c κs =
     let k = c .before .before .before .before in
     let a = k .before .before in
     let F = a .pre .proper in
-    let h : k .loop .j < a .args .g .nob = omega (arith, c .before .before .if1 .taken) in
+    let h : k .loop .j < a .args .g .nob = omega (arith, k .loop .inv .0, c .before .before .if1 .taken) in
     (record { proper = F; room = omega (arith, a .pre .room, k .loop .inv .2) }, h, rw (c .before .free-link .ensures) (new-link-fits (a .args .g) F (k .loop .j) h))
 
 add-j : tie.Need-add-j Inv-loop μ-loop
@@ -55,7 +55,7 @@ loop-again c =
     let a = k .before .before .args in
     let g = a .g in
     let j = k .loop .j in (
-      omega (arith, p .before .before .before .if1 .taken),
+      omega (arith, k .loop .inv .0, p .before .before .before .if1 .taken),
       rw (add-one j) (more g (now (a .t)) (k .loop .t) (p .put-overflow-link .last .0) j (p .before .before .free-link .result .0) (k .loop .inv .1) (p .before .before .free-link .ensures) (p .put-overflow-link .ensures)),
       p .put-overflow-link .kept .0 ∙ k .loop .inv .2,
     )

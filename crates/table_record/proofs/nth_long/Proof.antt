@@ -1,12 +1,12 @@
 -- The basic block's slots come first, their displaced bits put back, and then those of the overflow blocks.
 use mathlib.Core.Path.{refl, sym, _∙_}
-use Prim.Native.Nat.{_^_, _<_}
+use native.Mathlib.Omega.{arith}
 use denote.Ref.{now}
 use borrow.Author.Needs.{needs}
 use Rattle.table.specs.Decode.{decode}
 use Rattle.table_read.specs.Steps.{lastFrom}
 use Rattle.table_read.specs.theory.Lasts.{EndsAt, ends-at, no-end}
-use Rattle.table_read.specs.theory.Reads.{displaced-run-within, link-lt}
+use Rattle.table_read.specs.theory.Reads.{displaced-run-within, head-lt, link-lt}
 use Rattle.table_record.proofs.Records.{bounded-damage, nth-unended, list-followed, nth-displaced, nth-behind}
 use Rattle.table_record.proofs.nth_long.Statement.{statement}
 use Rattle.table_record.proofs.nth_long.Tie as tie
@@ -45,9 +45,12 @@ nth-of-requires c κs =
     let e = c .before .before .before .before in
     let a = e .before .before .before .before in
     let d = c .before .overflow-link in
-    let low : d .result < 2 ^ a .args .g .link = rw (d .ensures) (link-lt (a .args .g) (now (a .args .t)) (a .pre .0) (e .last .given .0 .0 .0) (end e .low)) in (
-      a .pre .0 .proper,
-      rw (c .displaced-run .ensures) (displaced-run-within (a .args .g) (now (a .args .t)) (a .pre .0) (a .args .i .0) (d .result) (a .pre .1) low),
+    let T = a .pre .0 in
+    let f = link-lt (a .args .g) (now (a .args .t)) T (e .last .given .0 .0 .0) (end e .low) in (
+      T .proper,
+      rw (c .displaced-run .ensures)
+          (displaced-run-within (a .args .g) (now (a .args .t)) T (a .args .i .0) _ (a .pre .1)
+          (omega (arith, d .ensures, f, a .pre .2 .head, head-lt (a .args .g) (now (a .args .t)) T (a .args .i .0) (a .pre .1)))),
     )
 
 returns-2 : tie.Need-returns-2

@@ -70,7 +70,7 @@ forms =
     ∷ ("2001:db8::1:1:1:1:1", "2001:db8:0:1:1:1:1:1")
     -- 4.2.3
     ∷ ("2001:0:0:1:0:0:0:1", "2001:0:0:1::1")
-    -- 5, where document 01 has "always in hexadecimal groups"
+    -- section 5 of the RFC allows decimals here; clause 9.5 does not
     ∷ ("::ffff:192.0.2.1", "::ffff:c000:201")
     ∷ ("0:0:0:0:0:ffff:192.0.2.1", "::ffff:c000:201")
     ∷ []

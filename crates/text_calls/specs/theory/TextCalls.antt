@@ -70,7 +70,7 @@ module _ (s : Settings) (t x : List ℕ) where
       let b : keyNumber k < 2 ^ s .w = rw (eqb-true (s .w) 128 (r .wide)) (key-below k (f .high-below) (f .low-below)) in
       open-if s k (length t) (r .lawful) (leb-true (tableBytes s) (length t) (r .long)) b ∙ ap laid.Layout (laid-layout s g l .1)
 
-  -- 1 "a range or rule above is broken"
+  -- 1: the settings are not legal
   pub admitted-illegal : (why : Refusal) → laidOf s ≡ laid.Refused why → admittedOf s t x ≡ parsed.Refused why
   unfolding admittedOf
   admitted-illegal why e =

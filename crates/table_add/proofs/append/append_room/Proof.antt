@@ -37,9 +37,11 @@ put-slot-requires : tie.Need-put-slot-requires
 unfolding keyNumber
 put-slot-requires c κs =
     let s = c .before .before .before .before in
-    slot-asks (s .args .g) (now (s .args .t)) (s .pre .0 .table) (c .basic-slot .result) _ _
-    (omega (arith, c .basic-slot .ensures, basic-slot-ends (s .args .g) (s .pre .0 .table .proper) (s .args .i .0) (s .pre .0 .list) (s .args .c) (s .pre .1)))
-    (s .pre .0 .slotted)
+    let a = s .args in
+    let q = slot-asks (a .g) (now (a .t)) (s .pre .0 .table) (c .basic-slot .result) (keyNumber (a .v .entry)) (a .v .label)
+    (omega (arith, c .basic-slot .ensures, basic-slot-ends (a .g) (s .pre .0 .table .proper) (a .i .0) (s .pre .0 .list) (a .c) (s .pre .1)))
+    (s .pre .0 .slotted) in
+    (omega (arith, q .0), omega (arith, q .1), omega (arith, q .2), omega (arith, q .3), omega (arith, q .4), omega (arith, q .5))
 
 add-put-basic-counter : tie.Need-add-put-basic-counter
 add-put-basic-counter c =

@@ -42,13 +42,6 @@ open-at c = opened (c .before .before) _ (c .enum-told .given .1)
 open-means-at : (c : tie.After-enum-told) → let a = args-at c .args in Opened (a .s) (length (now (a .t))) (a .key) (to-g (c .before .before) .g .given .0 .0)
 open-means-at c = let a = args-at c .args in open-means (a .s) (a .key) (length (now (a .t))) _ (open-at c)
 
--- the label fits
-low : (c : tie.Else1) → let a = args-at (c .before .before) .args in a .label < 2 ^ a .s .val
-low c =
-    let f = c .before in
-    let a = args-at (f .before) .args in
-    ltb-true (a .label) (2 ^ a .s .val) (sym (f .fits2 .ensures) ∙ not-false (f .fits2 .result) (c .if1 .left))
-
 layout-requires : tie.Need-layout-requires
 layout-requires c κs = search needs
 
@@ -74,6 +67,13 @@ returns c =
     let f = c .before in
     let a = args-at (f .before) .args in
     label-refused (now (a .t)) (a .label) (open-means-at (f .before)) (sym (f .fits2 .ensures) ∙ not-true (f .fits2 .result) (c .if1 .taken))
+
+-- the label fits
+low : (c : tie.Else1) → let a = args-at (c .before .before) .args in a .label < 2 ^ a .s .val
+low c =
+    let f = c .before in
+    let a = args-at (f .before) .args in
+    ltb-true (a .label) (2 ^ a .s .val) (sym (f .fits2 .ensures) ∙ not-false (f .fits2 .result) (c .if1 .left))
 
 place-requires : tie.Need-place-requires
 place-requires c κs =

@@ -1,7 +1,7 @@
 -- The basic block's slots, with the displaced bits put back, and then the blocks.
 use mathlib.Core.Path.{_≡_, refl, sym, ap, ap₂, _∙_}
 use mathlib.Core.Bool.{Bool, _&&_}
-use Prim.Native.Nat.{_^_, _<_}
+use native.Mathlib.Omega.{arith}
 use denote.Ref.{now}
 use borrow.Author.Tests.{not-true, not-false}
 use Rattle.table.specs.State.{basicAt}
@@ -9,7 +9,7 @@ use Rattle.table.specs.Decode.{decode}
 use Rattle.table.specs.Check.{noEntryTwice}
 use Rattle.table_read.specs.Steps.{lastFrom}
 use Rattle.table_read.specs.theory.Lasts.{EndsAt, ends-at, no-end}
-use Rattle.table_read.specs.theory.Reads.{displaced-run-within, link-lt}
+use Rattle.table_read.specs.theory.Reads.{displaced-run-within, head-lt, link-lt}
 use Rattle.table_check.specs.Entries.{slotsFrom}
 use Rattle.table_check.specs.Lists.{longApart}
 use Rattle.table_check.proofs.Runs.{long-as, long-damaged}
@@ -54,8 +54,13 @@ slots-apart-requires c κs =
     let e = o .before .before in
     let s = e .before .before .before .before .before in
     let T = s .pre .0 in
-    let l : o .overflow-link .result < 2 ^ s .args .g .link = rw (o .overflow-link .ensures) (link-lt (s .args .g) (now (s .args .t)) T (e .last .given .0 .0 .0) (end e .low)) in
-    (T, rw (c .displaced-run .ensures) (displaced-run-within (s .args .g) (now (s .args .t)) T (s .args .i .0) (o .overflow-link .result) (s .pre .1) l))
+    let h = e .before .before .before .basic-head .ensures in
+    let f = link-lt (s .args .g) (now (s .args .t)) T (e .last .given .0 .0 .0) (end e .low) in (
+      T,
+      rw (c .displaced-run .ensures)
+          (displaced-run-within (s .args .g) (now (s .args .t)) T (s .args .i .0) _ (s .pre .1)
+          (omega (arith, o .overflow-link .ensures, f, h, head-lt (s .args .g) (now (s .args .t)) T (s .args .i .0) (s .pre .1)))),
+    )
 
 -- the slots of the basic block, and then those of the blocks
 both : (k : tie.After-slots-apart) → let f = k .before .before .before .before .before .before in

@@ -122,7 +122,7 @@ store-at-place-requires c κs =
     let s = to-start (to-basic-head-2 (to-overflow-counter-3 e)) in
     let w = way (e .before .before .before .before .before .before) in (
       s .pre .0,
-      record { list = s .pre .1; last = w .low; reaches = w .reaches },
+      record { list = s .pre .1; last = omega (arith, w .low, w .first-low); reaches = w .reaches },
       record { entry-fits = rw (v .ensures .0) (field-lt _ _ _); label-fits = rw (v .ensures .1) (field-lt _ _ _) },
     )
 
@@ -139,7 +139,7 @@ shrink-requires c κs =
     let l = q .end-of .result .last .0 in
     let st = decode (a .g) (now (a .t)) in
     let d = m .store-at-place .ensures in
-    let k = store-keeps (a .g) st (a .i .0) (q .before .before .basic-head .result) l (a .p) (value v) in (
+    let k = store-keeps (a .g) st (a .i .0) (q .before .before .basic-head .result) _ (a .p) (value v) in (
       d .table,
       s .pre .1,
       subst (λ (u : State). Shrinkable (a .g) u l) (sym (d .state))

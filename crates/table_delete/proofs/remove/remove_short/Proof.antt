@@ -51,7 +51,7 @@ copy-requires : tie.Need-copy-requires
 copy-requires c κs =
     let q = c .before .before in
     let s = q .before .before .before in
-    copy-asks (s .args .g) (now (s .args .t)) (s .pre .0) (q .before .basic-slot .result) (q .basic-slot2 .result) (last-ends q) (hole-ends q)
+    copy-asks (s .args .g) (now (s .args .t)) (s .pre .0) _ _ (omega (arith, last-ends q, hole-ends q)) (omega (arith, last-ends q, hole-ends q))
 
 -- in either case the last slot is in the hole
 moved : (c : tie.Joined1) → let a = c .before .before .before .before .args in

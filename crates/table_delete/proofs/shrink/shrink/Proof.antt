@@ -61,7 +61,7 @@ put-basic-front-requires : tie.Need-put-basic-front-requires
 put-basic-front-requires c κs =
     let o = c .before .before .before in
     let s = o .before .before .before .before in
-    (s .pre .0, s .pre .1, omega arith, fits o)
+    (s .pre .0, s .pre .1, omega arith, omega (arith, fits o, s .pre .2 .low, s .pre .0 .proper .link-holds))
 
 enum-known-before : tie.Need-enum-known-before
 enum-known-before c = search needs
@@ -74,7 +74,7 @@ put-overflow-front-requires c κs =
     let q = c .before .before .before in
     let o = q .before .before in
     let s = o .before .before .before .before in
-    (s .pre .0, subst (Within (s .args .g)) (q .before2 .given .1) (s .pre .4), omega arith, fits o)
+    (s .pre .0, subst (Within (s .args .g)) (q .before2 .given .1) (s .pre .4), omega arith, omega (arith, fits o, s .pre .2 .low, s .pre .0 .proper .link-holds))
 
 -- where the two ways meet, the displaced bits are handed on
 met : (c : tie.At-match-came) → let a = c .before .before .before .before .before .args in Stored (a .g) (now (a .t)) (c .match .t) (handedBack (a .g) (a .i .0) (a .last .0) (a .before) (decode (a .g) (now (a .t))))

@@ -34,7 +34,10 @@ returns-2 c =
     (d .basic-front .result .counter) (d .basic-front .ensures .0) (omega arith)
 
 find-long-requires : tie.Need-find-long-requires
-find-long-requires c κs = search needs
+find-long-requires c κs =
+    let d = c .before .before .before .before .before .before in
+    let s = d .before .before in
+    (s .pre .0, s .pre .1, record { counter = omega (arith, d .basic-front .ensures .0, c .if2 .left, c .before .before .before .if1 .left); head = d .basic-front .ensures .1 }, s .pre .2)
 
 returns-3 : tie.Need-returns-3
 returns-3 c = search needs

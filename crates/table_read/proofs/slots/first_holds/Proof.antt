@@ -70,7 +70,7 @@ same-entry-requires : tie.Need-same-entry-requires
 same-entry-requires c κs = search needs
 
 returns-2 : tie.Need-returns-2
-returns-2 c = search needs
+returns-2 c = c .same-entry .ensures
 
 pub first-holds-spec : {M : Type 1} → statement M
 first-holds-spec =

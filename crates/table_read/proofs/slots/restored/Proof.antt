@@ -11,16 +11,6 @@ use borrow.Author.Needs.{needs}
 use Rattle.table_read.proofs.slots.restored.Statement.{statement}
 use Rattle.table_read.proofs.slots.restored.Tie as tie
 
--- the two parts of a field across the end
-across : (c : tie.After-get2)
-    → (let s = c .before .before .before .before .before .before .args in
-    c .before .bits-above2 .result * 2 ^ (s .n - (s .b .start + s .b .displaced - s .at)) + c .get2 .result ≡ field (restoredBytes (now (s .t)) (s .b)) (s .at) (s .n))
-across c =
-    let s = c .before .before .before .before .before .before in
-    let k : ℕ = s .args .b .start + s .args .b .displaced - s .args .at in
-    ap₂ (λ (x y : ℕ). x * 2 ^ (s .args .n - k) + y) (c .before .bits-above2 .ensures) (c .get2 .ensures)
-    ∙ restored-bytes-across (now (s .args .t)) (s .args .b) (s .args .at) (s .args .n) k (s .args .n - k) (s .pre .0) (omega arith) (omega arith)
-
 add-end : tie.Need-add-end
 add-end c = search needs
 
@@ -63,6 +53,16 @@ sub-get c = search needs
 
 get-requires-2 : tie.Need-get-requires-2
 get-requires-2 c κs = search needs
+
+-- the two parts of a field across the end
+across : (c : tie.After-get2)
+    → (let s = c .before .before .before .before .before .before .args in
+    c .before .bits-above2 .result * 2 ^ (s .n - (s .b .start + s .b .displaced - s .at)) + c .get2 .result ≡ field (restoredBytes (now (s .t)) (s .b)) (s .at) (s .n))
+across c =
+    let s = c .before .before .before .before .before .before in
+    let k : ℕ = s .args .b .start + s .args .b .displaced - s .args .at in
+    ap₂ (λ (x y : ℕ). x * 2 ^ (s .args .n - k) + y) (c .before .bits-above2 .ensures) (c .get2 .ensures)
+    ∙ restored-bytes-across (now (s .args .t)) (s .args .b) (s .args .at) (s .args .n) k (s .args .n - k) (s .pre .0) (omega arith) (omega arith)
 
 join-requires : tie.Need-join-requires
 join-requires c κs =

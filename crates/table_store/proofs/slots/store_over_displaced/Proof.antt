@@ -1,5 +1,6 @@
 -- Each store is the definition's, on the bytes that the one before left.
 use mathlib.Core.Path.{_≡_}
+use Prim.Native.Nat.{_^_, _<_}
 use native.Mathlib.Omega.{arith}
 use denote.Ref.{now}
 use lib.ListN.{length}
@@ -21,7 +22,10 @@ get-requires : tie.Need-get-requires
 get-requires c κs = search needs
 
 put-requires : tie.Need-put-requires
-put-requires c κs = search needs
+put-requires c κs =
+    let s = c .before .before .before .before .before in
+    let f : c .before .get .result < 2 ^ s .args .b .displaced = rw (c .before .get .ensures) (field-lt _ _ _) in
+    (omega (arith, s .pre .1 .0, s .pre .1 .1), omega (arith, f, s .pre .1 .2))
 
 put-slot-requires : tie.Need-put-slot-requires
 unfolding keyNumber

@@ -57,13 +57,6 @@ open-at c =
 open-means-at : (c : tie.After-key) → let a = start-at c .args in Opened (a .s) (length (now (a .t))) (c .key .given .0 .0) (to-g (to-admit c) .g .given .0 .0)
 open-means-at c = let a = start-at c .args in open-means (a .s) (c .key .given .0 .0) (length (now (a .t))) _ (open-at c)
 
--- the label fits
-low : (c : tie.Else1) → let a = start-at (c .before .before .before) .args in a .label < 2 ^ a .s .val
-low c =
-    let f = c .before in
-    let a = start-at (f .before .before) .args in
-    ltb-true (a .label) (2 ^ a .s .val) (sym (f .fits2 .ensures) ∙ not-false (f .fits2 .result) (c .if1 .left))
-
 layout-requires : tie.Need-layout-requires
 layout-requires c κs = search needs
 
@@ -90,6 +83,13 @@ returns c =
     let w = label-refused (now (a .t)) (a .label) (open-means-at k) (sym (f .fits2 .ensures) ∙ not-true (f .fits2 .result) (c .if1 .taken)) in
     admitted-gives (a .s) (now (a .t)) (now (a .text)) (add (a .label)) _ (admitted (to-admit k) _ (k .key .given .1))
     record { answer = ap (forKey (k .key .given .0 .0)) (w .answer); bytes = w .bytes }
+
+-- the label fits
+low : (c : tie.Else1) → let a = start-at (c .before .before .before) .args in a .label < 2 ^ a .s .val
+low c =
+    let f = c .before in
+    let a = start-at (f .before .before) .args in
+    ltb-true (a .label) (2 ^ a .s .val) (sym (f .fits2 .ensures) ∙ not-false (f .fits2 .result) (c .if1 .left))
 
 place-requires : tie.Need-place-requires
 place-requires c κs =
