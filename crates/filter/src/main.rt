@@ -1,23 +1,43 @@
 // Answers the lines of standard input on standard output. All that is due is written before each read, so
-// a read that waits delays no answer.
+// a read that waits delays no answer. Only `write_once` and `read_once` write and read; `answer_input` is the loop.
 use libc::STDIN_FILENO;
 use libc::STDOUT_FILENO;
 use program_answers::TABLE_BYTES;
 use settings::Made;
 ghost use mathlib.Core.Path.{_≡_};
 ghost use mathlib.Core.Bool.{true, false};
-ghost use Prim.Native.Nat.{ℕ, _+_, _≤_, _<_};
-ghost use lib.ListN.{length};
+ghost use mathlib.Core.Logic.{_⊎_};
+ghost use Prim.Native.Nat.{_≤_, _<_};
+ghost use lib.ListN.{length, take};
+ghost use Rattle.libc.specs.Io.{Moved};
 ghost use Rattle.text_read.specs.ReaderSteps.{Classes};
 ghost use Rattle.program_commands.specs.Command.{longestLine};
 ghost use Rattle.program_answers.specs.Program.{programBytes};
 ghost use Rattle.program_answers.specs.Answer.{answerRoom};
 ghost use Rattle.program_stream.specs.Output.{newTable};
-ghost use Rattle.filter.specs.declared.More.the-variants as more;
+ghost use Rattle.program_stream.specs.Steps.{due, Waits};
+ghost use Rattle.filter.specs.World.{moved, Erred, Gives, Takes, Wrote};
+ghost use Rattle.filter.specs.Loop.{Placed, unanswered, Answered, Read, Ends, Ran};
+
+// One write of the bytes of part: it answers -1, or how many it has taken.
+fn write_once(part: &[u8]) -> isize
+    ensures { λ r. ⌜ Moved (length (now (part .entry))) r × Takes (take (moved r) (now (part .entry))) ⌝ }
+{
+    libc::write(STDOUT_FILENO, part)
+}
+
+// One read to the start of buf: it answers -1, or how many bytes it has given.
+fn read_once(buf: &mut [u8]) -> isize
+    ensures { λ r. ⌜ Moved (length (now (buf .entry))) r × Gives (take (moved r) (now (buf .exit))) ⌝ }
+{
+    libc::read(STDIN_FILENO, buf)
+}
 
 // Writes all of buf. A write that takes a part of it, or that a signal interrupts, is gone on with; one that takes nothing
 // has failed. Nothing is promised of interrupted writes, so a counter that no run uses up shows that the loop ends.
-fn write_out(buf: &[u8]) -> bool {
+fn write_out(buf: &[u8]) -> bool
+    ensures { λ r. ⌜ Wrote (now (buf .entry)) r ⌝ }
+{
     let mut done: usize = 0;
     let mut turns = u64::MAX;
     while turns > 0 {
@@ -25,7 +45,8 @@ fn write_out(buf: &[u8]) -> bool {
             return true;
         }
         let part = &buf[done..];
-        let put = libc::write(STDOUT_FILENO, part);
+        let put = write_once(part);
+        done += io::count(put, part);
         if put == 0 {
             return false;
         }
@@ -33,173 +54,174 @@ fn write_out(buf: &[u8]) -> bool {
             if os::errno() != libc::EINTR {
                 return false;
             }
-        } else {
-            done += io::count(put, part);
         }
         turns -= 1;
     }
     false
 }
 
-// How far the answers have come in the buffer, whether it begins inside a line that has been answered,
-// whether there may be more of them, and whether they were written.
-struct Left {
-    at: usize,
-    skip: bool,
-    more: bool,
-    ok: bool,
-}
-
-// One run of answers, written out.
-fn answer_some(
-    classes: &[u8; 256],
-    input: &[u8],
-    at: usize,
-    skip: bool,
-    t: &mut [u8],
-    out: &mut [u8],
-) -> Left
-    requires { ⌜ Classes (now classes) × (at ≤ length (now input)) × (programBytes ≤ length (now t)) × (answerRoom ≤ length (now out)) ⌝ }
-    ensures { λ r. ⌜ (r .at ≤ length (now (input .entry))) × (r .more ≡ true → at < r .at) × (r .more ≡ false → length (now (input .entry)) ≤ r .at + longestLine) ⌝ }
+// The same, with a message if it fails.
+fn wrote(buf: &[u8]) -> bool
+    ensures { λ r. ⌜ Wrote (now (buf .entry)) r ⌝ }
 {
-    let r = program_stream::consume(classes, input, at, skip, t, out);
-    let n = r.made;
-    let ok = write_out(&out[..n]);
-    Left {
-        at: r.at,
-        skip: r.skip,
-        more: r.full,
-        ok,
-    }
-}
-
-// The answers to all whole lines of the buffer, written out.
-fn answer_all(classes: &[u8; 256], input: &[u8], skip: bool, t: &mut [u8], out: &mut [u8]) -> Left
-    requires { ⌜ Classes (now classes) × (programBytes ≤ length (now t)) × (answerRoom ≤ length (now out)) ⌝ }
-    ensures { λ r. ⌜ (r .at ≤ length (now (input .entry))) × (r .ok ≡ true → length (now (input .entry)) ≤ r .at + longestLine) ⌝ }
-{
-    let mut r = answer_some(classes, input, 0, skip, t, out);
-    while r.more & r.ok {
-        r = answer_some(classes, input, r.at, r.skip, t, out);
-    }
-    r
-}
-
-// What one read gave: bytes, the end of the input, nothing because of a signal, or an error.
-enum More {
-    Bytes(usize),
-    End,
-    Again,
-    Failed,
-}
-
-// Reads into buf from `have` on.
-fn read_more(buf: &mut [u8], have: usize) -> More
-    requires { ⌜ have ≤ length (now buf) ⌝ }
-    ensures { λ r. ⌜ ((n : ℕ) → r ≡ more.Bytes n → have + n ≤ length (now (buf .entry))) ⌝ }
-{
-    let part = &mut buf[have..];
-    let got = libc::read(STDIN_FILENO, part);
-    if got < 0 {
-        if os::errno() == libc::EINTR {
-            return More::Again;
-        }
-        return More::Failed;
-    }
-    let n = io::count(got, part);
-    if n == 0 {
-        return More::End;
-    }
-    More::Bytes(n)
-}
-
-// What is kept from one read to the next: how many bytes stand at the start of the buffer, whether they begin
-// inside a line that has been answered, and whether to read on.
-struct Next {
-    have: usize,
-    skip: bool,
-    go: bool,
-}
-
-// The run ends.
-const END: Next = Next {
-    have: 0,
-    skip: false,
-    go: false,
-};
-
-// The end of the input: the answer to a last line that lacks its line feed, written out.
-fn last_line(classes: &[u8; 256], input: &[u8], skip: bool, t: &mut [u8], out: &mut [u8]) -> Next
-    requires { ⌜ Classes (now classes) × (programBytes ≤ length (now t)) × (answerRoom ≤ length (now out)) ⌝ }
-    ensures { λ r. ⌜ r .have ≤ longestLine ⌝ }
-{
-    let n = program_stream::finish(classes, input, skip, t, out);
-    if !write_out(&out[..n]) {
+    let ok = write_out(buf);
+    if !ok {
         os::fail(b"write");
     }
-    END
+    ok
 }
 
-// The answers to the whole lines among the first `end` bytes of buf. What follows the last line feed moves to
-// the start: no more than a line, so that there is room for the next read.
-fn answer_read(
-    classes: &[u8; 256],
-    buf: &mut [u8],
+// Where the loop stands. buf[at..end] has been read and is not answered yet; `skip` says that it begins inside a line that
+// has been answered. out[..made] is due. Then: whether to read before more can be answered, whether to go on, and whether
+// the input has ended.
+struct State {
+    at: usize,
     end: usize,
     skip: bool,
-    t: &mut [u8],
-    out: &mut [u8],
-) -> Next
-    requires { ⌜ Classes (now classes) × (end ≤ length (now buf)) × (programBytes ≤ length (now t)) × (answerRoom ≤ length (now out)) ⌝ }
-    ensures { λ r. ⌜ r .have ≤ longestLine ⌝ }
+    made: usize,
+    read: bool,
+    go: bool,
+    ended: bool,
+}
+
+// Nothing has been read.
+const START: State = State {
+    at: 0,
+    end: 0,
+    skip: false,
+    made: 0,
+    read: false,
+    go: true,
+    ended: false,
+};
+
+// Answers whole lines of buf[at..end] into out until that is full, or until they are all answered. Then what is left moves
+// to the start of buf: no more than a line, so that there is room for the next read.
+fn answer(classes: &[u8; 256], buf: &mut [u8], t: &mut [u8], out: &mut [u8], s: State) -> State
+    requires { ⌜ Classes (now classes) × Placed s (now buf) × (programBytes ≤ length (now t)) × (answerRoom ≤ length (now out)) ⌝ }
+    ensures { λ r. ⌜ Answered s (now (buf .entry)) (now (t .entry)) r (now (buf .exit)) (now (t .exit)) (now (out .exit)) ⌝ }
 {
-    let r = answer_all(classes, &buf[..end], skip, t, out);
-    if !r.ok {
-        os::fail(b"write");
-        return END;
+    let at = s.at;
+    let end = s.end;
+    let r = program_stream::consume(classes, &buf[..end], at, s.skip, t, out);
+    let from = r.at;
+    let past = r.skip;
+    if r.full {
+        return State {
+            at: from,
+            end: end,
+            skip: past,
+            made: r.made,
+            read: false,
+            go: true,
+            ended: false,
+        };
     }
-    let at = r.at;
-    let have = program_stream::keep(buf, at, end);
-    Next {
-        have,
-        skip: r.skip,
+    let have = program_stream::keep(buf, from, end);
+    State {
+        at: 0,
+        end: have,
+        skip: past,
+        made: r.made,
+        read: true,
         go: true,
+        ended: false,
     }
 }
 
-// One read, and what is due because of it. After an error the bytes that are left over may be a part of a line,
-// so they are not answered.
-fn one_read(classes: &[u8; 256], buf: &mut [u8], t: &mut [u8], out: &mut [u8], s: Next) -> Next
-    requires { ⌜ Classes (now classes) × (s .have ≤ longestLine) × (longestLine < length (now buf)) × (programBytes ≤ length (now t)) × (answerRoom ≤ length (now out)) ⌝ }
-    ensures { λ r. ⌜ r .have ≤ longestLine ⌝ }
+// What one read gave: n bytes; whether to go on, and whether the input has ended.
+struct Got {
+    n: usize,
+    go: bool,
+    ended: bool,
+}
+
+// One read to the start of buf, which is not empty, so that no bytes are the end of the input. A read that a signal interrupts
+// is made again.
+fn read_some(buf: &mut [u8]) -> Got
+    requires { ⌜ 0 < length (now buf) ⌝ }
+    ensures { λ r. ⌜ (r .n ≤ length (now (buf .entry))) × (r .ended ≡ true → r .n ≡ 0) × Gives (take (r .n) (now (buf .exit))) ⌝ }
+    ensures { λ r. ⌜ (r .go ≡ false → (r .ended ≡ true) ⊎ Erred) ⌝ }
 {
-    let have = s.have;
-    let skip = s.skip;
-    match read_more(buf, have) {
-        More::Bytes(n) => answer_read(classes, buf, have + n, skip, t, out),
-        More::End => last_line(classes, &buf[..have], skip, t, out),
-        More::Again => s,
-        More::Failed => {
+    let got = read_once(buf);
+    let n = io::count(got, buf);
+    if got < 0 {
+        let again = os::errno() == libc::EINTR;
+        if !again {
             os::fail(b"read");
-            END
         }
+        return Got {
+            n: n,
+            go: again,
+            ended: false,
+        };
+    }
+    Got {
+        n: n,
+        go: n > 0,
+        ended: n == 0,
     }
 }
 
-// Reads and answers until the input ends, or until an error, from a new table on. Nothing is promised of what a read
-// gives, so here too a counter shows that the loop ends.
-fn run(classes: &[u8; 256], buf: &mut [u8], t: &mut [u8], out: &mut [u8])
-    requires { ⌜ Classes (now classes) × (longestLine < length (now buf)) × (programBytes ≤ length (now t)) × (answerRoom ≤ length (now out)) × (now t ≡ newTable) ⌝ }
+// Reads into buf from `end` on. After an error what is left may be a part of a line, and is not answered.
+fn read_more(buf: &mut [u8], s: State) -> State
+    requires { ⌜ (s .at ≤ s .end) × (s .end < length (now buf)) ⌝ }
+    ensures { λ r. ⌜ Read s (now (buf .entry)) r (now (buf .exit)) ⌝ }
 {
-    let mut s = Next {
-        have: 0,
-        skip: false,
-        go: true,
-    };
+    let from = s.end;
+    let got = read_some(&mut buf[from..]);
+    State {
+        at: s.at,
+        end: from + got.n,
+        skip: s.skip,
+        made: 0,
+        read: false,
+        go: got.go,
+        ended: got.ended,
+    }
+}
+
+// Reads and answers from a new table on, until the input ends, or until an error. Nothing is promised of what a read gives,
+// so here too a counter shows that the loop ends.
+fn answer_input(classes: &[u8; 256], buf: &mut [u8], t: &mut [u8], out: &mut [u8]) -> State
+    requires { ⌜ Classes (now classes) × (longestLine < length (now buf)) × (programBytes ≤ length (now t)) × (answerRoom ≤ length (now out)) × (now t ≡ newTable) ⌝ }
+    ensures { λ r. ⌜ Ends r (now (buf .exit)) (now (t .exit)) ⌝ }
+{
+    let mut s = START;
     let mut turns = u64::MAX;
     while s.go & (turns > 0) {
-        s = one_read(classes, buf, t, out, s);
+        s = answer(classes, buf, t, out, s);
+        let made = s.made;
+        if !wrote(&out[..made]) {
+            return s;
+        }
+        if s.read {
+            s = read_more(buf, s);
+        }
         turns -= 1;
+    }
+    s
+}
+
+// The end of the input: the answer to a last line that lacks its line feed, written out.
+fn last_line(classes: &[u8; 256], buf: &[u8], t: &mut [u8], out: &mut [u8], s: State) -> bool
+    requires { ⌜ Classes (now classes) × Placed s (now buf) × Waits (unanswered s (now buf)) × (programBytes ≤ length (now t)) × (answerRoom ≤ length (now out)) ⌝ }
+    ensures { λ r. ⌜ Wrote (due (now (t .entry)) (s .skip) (unanswered s (now (buf .entry)))) r ⌝ }
+{
+    let at = s.at;
+    let end = s.end;
+    let n = program_stream::finish(classes, &buf[at..end], s.skip, t, out);
+    wrote(&out[..n])
+}
+
+// The whole run.
+fn run(classes: &[u8; 256], buf: &mut [u8], t: &mut [u8], out: &mut [u8])
+    requires { ⌜ Classes (now classes) × (longestLine < length (now buf)) × (programBytes ≤ length (now t)) × (answerRoom ≤ length (now out)) × (now t ≡ newTable) ⌝ }
+    ensures { λ _. ⌜ Ran ⌝ }
+{
+    let s = answer_input(classes, buf, t, out);
+    if s.ended {
+        last_line(classes, buf, t, out, s);
     }
 }
 

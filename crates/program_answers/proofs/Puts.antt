@@ -1,11 +1,11 @@
 -- Texts put one behind the other.
 use mathlib.Core.Path.{_≡_, refl, sym, ap, _∙_}
 use mathlib.Core.List.{List, [], _∷_, _++_, append-assoc}
-use Prim.Native.Nat.{ℕ, suc, _+_, _≤_, _<_}
+use Prim.Native.Nat.{ℕ, suc, _+_, _-_, _≤_, _<_}
 use native.Mathlib.Numerals.{add-one}
 use native.Mathlib.Omega.{arith}
-use lib.ListN.{length, getD, set, take, length-append}
-use lib.Seq.{take-suc, take-suc-set}
+use lib.ListN.{length, getD, set, take, drop, length-append}
+use lib.Seq.{take-suc, take-suc-set, drop-drop, drop-set-lt}
 use Rattle.laws.specs.Lists.{take-stored}
 use Rattle.settings.specs.declared.refusal.Refusal.{Refusal}
 use Rattle.settings.specs.Reply.{Reply, reply, answering, Gives}
@@ -14,9 +14,15 @@ use Rattle.table.specs.declared.answers.Answer.{Answer}
 use Rattle.program_answers.specs.Answer.{answerRoom, refusedText, answerText}
 use Rattle.program_answers.specs.Steps.{Put, Wrote, Answered}
 
+-- lists that agree from n on agree from any later place on
+pub rest-more : (n m : ℕ) (a b : List ℕ) → n ≤ m → drop n a ≡ drop n b → drop m a ≡ drop m b
+rest-more n m a b h e =
+    let k : n + (m - n) ≡ m = omega arith in
+    ap (λ (j : ℕ). drop j a) (sym k) ∙ sym (drop-drop (m - n) n a) ∙ ap (drop (m - n)) e ∙ drop-drop (m - n) n b ∙ ap (λ (j : ℕ). drop j b) k
+
 -- one byte
 pub put-byte : (out : List ℕ) (at x : ℕ) → at < length out → Put (x ∷ []) out at (set out at x) (at + 1)
-put-byte out at x h = record { end = refl; is = take-stored out at x h }
+put-byte out at x h = record { end = refl; is = take-stored out at x h; rest = drop-set-lt (at + 1) out at x (omega arith) }
 
 -- one byte more of a text
 pub put-more : (text out₀ out : List ℕ) (at i : ℕ) → i < length text → at + i < length out → take (at + i) out ≡ take at out₀ ++ take i text
@@ -33,6 +39,7 @@ put-then {a} {b} {out} {out₁} {out₂} {at} {r₁} {r₂} p q =
     record {
       end = omega (arith, p .end, q .end, length-append a b);
       is = q .is ∙ ap (λ (l : List ℕ). l ++ b) (p .is) ∙ append-assoc (take at out) a b;
+      rest = q .rest ∙ rest-more r₁ r₂ out₁ out (omega (arith, q .end)) (p .rest);
     }
 
 -- the same text, by another name

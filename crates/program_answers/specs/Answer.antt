@@ -1,4 +1,4 @@
--- Document 01, "The program": "Output, a line for each: address, word, label, compared, or "refused" and the number, parted by single spaces."
+-- Clause 10.5: the line that answers a line.
 use Prim.Native.Nat.{ℕ}
 use mathlib.Core.List.{List, [], _∷_, _++_}
 use mathlib.Core.Option.{Option, none, some}
@@ -17,7 +17,7 @@ use Rattle.program_commands.specs.Command.{Command, commandOf}
 use Rattle.program_answers.specs.Decimal.{decimalText}
 use Rattle.program_answers.specs.Outcome.{commandCall}
 
--- "The four words added, held, gone and none are printed so"
+-- the words, with the spaces around them
 unfoldable pub wordText : Word → List ℕ
 wordText word.Added = ascii " added "
 wordText word.Held = ascii " held "
@@ -38,7 +38,7 @@ numbersText label compared = decimalText label ++ 32 ∷ decimalText compared ++
 unfoldable pub saidText : List ℕ → Word → ℕ → ℕ → List ℕ
 saidText address w label compared = address ++ wordText w ++ numbersText label compared
 
--- "address, word, label, compared, or "refused" and the number"
+-- the address, the word, the label and compared; or the refusal
 unfoldable pub answerText : Key → Answer → List ℕ
 answerText k (answer.Said label w compared) = saidText (written (k .high) (k .low)) w label compared
 answerText k (answer.Refused why) = refusedText why

@@ -2,7 +2,7 @@
 use mathlib.Core.Path.{_≡_}
 use mathlib.Core.List.{List, _++_}
 use Prim.Native.Nat.{ℕ, _+_, _≤_}
-use lib.ListN.{length, take}
+use lib.ListN.{length, take, drop}
 use Rattle.keys.specs.declared.Key.{Key}
 use Rattle.settings.specs.Reply.{Reply, answering}
 use Rattle.table.specs.Calls.{keyCall}
@@ -17,10 +17,11 @@ use Rattle.program_answers.specs.Answer.{answerRoom, answerText}
 abbrev pub Change : Word → Type 0
 Change w = (w ≡ word.Held → ⊥) × (w ≡ word.None → ⊥)
 
--- text was put at the place `at` of out, which is now out′, and r is the place behind it
+-- text was put at the place `at` of out, which is now out′, and r is the place behind it; what stands from there on stays
 pub record Put (text out : List ℕ) (at : ℕ) (out′ : List ℕ) (r : ℕ) : Type 0 where
   pub end : r ≡ at + length text
   pub is : take r out′ ≡ take at out ++ text
+  pub rest : drop r out′ ≡ drop r out
 
 -- text was put at the start of what is now out, and r is its length
 pub record Wrote (text out : List ℕ) (r : ℕ) : Type 0 where

@@ -13,7 +13,7 @@ use table::Word;
 use text_read::Parsed;
 ghost use mathlib.Core.Path.{_≡_};
 ghost use Prim.Native.Nat.{_+_, _≤_};
-ghost use lib.ListN.{length};
+ghost use lib.ListN.{length, drop};
 ghost use Rattle.text_read.specs.ReaderSteps.{Classes};
 ghost use Rattle.text_write.specs.Writing.{written};
 ghost use Rattle.program_answers.specs.Program.{programBytes};
@@ -57,10 +57,10 @@ fn put_word(w: Word, out: &mut [u8], at: usize) -> usize
     }
 }
 
-// "refused" and the number.
+// "refused" and the number. The bytes of `out` behind them stay.
 pub fn refuse(why: Refusal, out: &mut [u8]) -> usize
     requires { ⌜ answerRoom ≤ length (now out) ⌝ }
-    ensures { λ r. ⌜ Wrote (refusedText why) (now (out .exit)) r ⌝ }
+    ensures { λ r. ⌜ Wrote (refusedText why) (now (out .exit)) r × (drop r (now (out .exit)) ≡ drop r (now (out .entry))) ⌝ }
 {
     let n = put(b"refused ", out, 0);
     let m = put_decimal(why.number(), out, n);
@@ -104,7 +104,8 @@ fn answer_key(q: Request, key: Key, t: &mut [u8], out: &mut [u8]) -> usize
     }
 }
 
-// The answer to a line, and what the line does to the table.
+// The answer to a line, and what the line does to the table. Left free: the bytes of `out` behind the answer, since an
+// address is put with four digits a group where fewer count, and nobody reads them. Its length stays.
 pub fn answer_line(classes: &[u8; 256], line: &[u8], t: &mut [u8], out: &mut [u8]) -> usize
     requires { ⌜ Classes (now classes) × (programBytes ≤ length (now t)) × (answerRoom ≤ length (now out)) ⌝ }
     ensures { λ r. ⌜ Answered (lineReply (now (t .entry)) (now (line .entry))) (now (t .exit)) (now (out .exit)) r ⌝ }

@@ -1,4 +1,4 @@
--- Document 01, "The program": ""+ ADDRESS LABEL", "- ADDRESS", "? ADDRESS" for add, delete, find; one space between fields."
+-- Clause 10.3: the command in a line.
 use Prim.Native.Nat.{ℕ}
 use mathlib.Core.Bool.{cond, _&&_}
 use mathlib.Core.List.{List, [], _∷_}
@@ -22,11 +22,11 @@ mkCommand o x n = record { op = o; address = x; label = n }
 unfoldable pub opOf : ℕ → Option Op
 opOf c = cond (eqb c 43) (some op.Add) (cond (eqb c 45) (some op.Delete) (cond (eqb c 63) (some op.Find) none))
 
--- "LABEL is 1 to 3 decimal digits without leading zero, 0 itself allowed"
+-- one to three decimal digits without a leading zero, or 0
 unfoldable pub labelOf : List ℕ → Option ℕ
 labelOf y = cond (digits 10 y && leb 1 (length y) && leb (length y) 3 && noLeadingZero y) (some (number 10 0 y)) none
 
--- "ADDRESS is one or more bytes, none a space."
+-- one or more bytes, none a space
 abbrev pub addressed : List ℕ → Option Command → Option Command
 addressed [] c = none
 addressed (b ∷ x) c = c
@@ -39,7 +39,7 @@ abbrev pub withLabel : List ℕ → Option ℕ → Option Command
 withLabel x none = none
 withLabel x (some n) = some (mkCommand op.Add x n)
 
--- the command of the byte c and the fields behind it; "if [LABEL] and its space are missing it is 0"
+-- the command of the byte c and the fields behind it; without a label and its space the label is 0
 unfoldable pub asked : ℕ → List (List ℕ) → Option Command
 asked c [] = none
 asked c (x ∷ []) = addressed x (withOp (opOf c) x 0)
@@ -51,7 +51,7 @@ spelled [] = none
 spelled (c ∷ []) = none
 spelled (c ∷ d ∷ s) = cond (eqb d space) (asked c (fields s)) none
 
--- "at most 64 bytes before the line feed"
+-- clause 10.3: a command has at most 64 bytes
 abbrev pub longestLine : ℕ
 longestLine = 64
 

@@ -1,4 +1,4 @@
--- Document 01, "The program": "one space between fields".
+-- Clause 10.3: fields, parted by one space.
 use Prim.Native.Nat.{ℕ}
 use mathlib.Core.Bool.{cond}
 use mathlib.Core.List.{List, [], _∷_}

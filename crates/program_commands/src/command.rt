@@ -97,7 +97,9 @@ fn parse_add(line: &[u8]) -> Asked
     })
 }
 
-// The command in a line. Whether the address has a space is left to its reader, who meets one anyway.
+// The command in a line. Whether the address has a space is left to its reader, who meets one anyway: left free is
+// what a line is that would be a command but for a space in its address. Whatever is answered, it stands for no
+// command then (`requested`), and the bytes from 2 to its `end` lie within the line.
 pub fn parse(line: &[u8]) -> Asked
     ensures { λ r. ⌜ Asks (now (line .entry)) r ⌝ }
 {

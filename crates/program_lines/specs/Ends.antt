@@ -27,7 +27,3 @@ pickSpan false x y = y
 -- what stands at a position
 unfoldable pub spanAt : List ℕ → ℕ → Span
 spanAt s at = pickSpan (ltb (firstFrom lineFeed s at) (length s)) (Line (firstFrom lineFeed s at)) Rest
-
--- the place behind the line at a position
-unfoldable pub afterAt : List ℕ → ℕ → ℕ
-afterAt s at = cond (ltb (firstFrom lineFeed s at) (length s)) (firstFrom lineFeed s at + 1) (firstFrom lineFeed s at)

@@ -3,7 +3,7 @@ ghost use mathlib.Core.Path.{_≡_};
 ghost use mathlib.Core.Bool.{true};
 ghost use Prim.Native.Nat.{_+_, _≤_};
 ghost use lib.ListN.{length};
-ghost use Rattle.program_lines.specs.Ends.{firstFrom, spanAt, afterAt};
+ghost use Rattle.program_lines.specs.Ends.{firstFrom, spanAt};
 
 // What stands at a position: a line that ends at the line feed at that place, or bytes with no line feed.
 pub enum Span {
@@ -75,44 +75,29 @@ fn span_at(s: &[u8], at: usize) -> Span
     }
 }
 
-// The place behind the line at `at`, or the slice's length where no line feed is left.
-fn after_at(s: &[u8], at: usize) -> usize
-    ensures { λ r. ⌜ r ≡ afterAt (now (s .entry)) at ⌝ }
-{
-    let end = find_byte(s, b'\n', at);
-    if end < s.len() { end + 1 } else { end }
-}
-
 // The command reader: the lent input, and how far it has come.
 pub struct Lines<'a> {
     pub src: &'a [u8],
     pub at: usize,
 }
 
-fn lines_at<'a>(src: &'a [u8], at: usize) -> Lines<'a>
+// A reader at a place of the input.
+pub fn lines_at<'a>(src: &'a [u8], at: usize) -> Lines<'a>
     ensures { λ r. ⌜ (r .src ≡ src .entry) × (r .at ≡ at) ⌝ }
 {
     Lines { src, at }
 }
 
 // What stands where the reader has come.
-fn next_line<'a>(l: Lines<'a>) -> Span
+pub fn next_line<'a>(l: Lines<'a>) -> Span
     ensures { λ s. ⌜ s ≡ spanAt (now (l .entry .src)) (l .entry .at) ⌝ }
 {
     span_at(l.src, l.at)
 }
 
-// The reader, past the line.
-pub fn advanced<'a>(l: Lines<'a>) -> Lines<'a>
-    ensures { λ q. ⌜ (q .src ≡ l .entry .src) × (q .at ≡ afterAt (now (l .entry .src)) (l .entry .at)) ⌝ }
+// The reader, moved on to a place that is known: the line feed is not searched again.
+pub fn moved<'a>(l: Lines<'a>, at: usize) -> Lines<'a>
+    ensures { λ r. ⌜ (r .src ≡ l .entry .src) × (r .at ≡ at) ⌝ }
 {
-    let at = after_at(l.src, l.at);
     Lines { src: l.src, at }
-}
-
-// The same for a slice and a position: who calls this one needs no walk by hand.
-pub fn next_in(s: &[u8], at: usize) -> Span
-    ensures { λ r. ⌜ r ≡ spanAt (now (s .entry)) at ⌝ }
-{
-    next_line(lines_at(s, at))
 }

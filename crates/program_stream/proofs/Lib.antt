@@ -1,4 +1,6 @@
 -- Laws that only the proofs of this crate use.
-mod Lines
 mod Turns
 mod Copies
+mod Again
+mod Reader
+mod Rounds

@@ -15,7 +15,7 @@ use Rattle.program_commands.specs.Command.{longestLine}
 use Rattle.program_answers.specs.Answer.{answerRoom, refusedText, lineReply}
 use Rattle.program_stream.specs.Output.{outputOf}
 use Rattle.program_stream.specs.Steps.{pastLine, Turned}
-use Rattle.program_stream.proofs.Lines.{past-ends, past-goes-on, output-ends, output-long}
+use Rattle.program_stream.specs.theory.Lines.{past-ends, past-goes-on, output-ends, output-long}
 
 -- what stood in the buffer and what is put behind it are what stands there now
 behind : (a b x o : List ℕ) → o ≡ a ++ b → a ++ (b ++ x) ≡ o ++ x

@@ -1,4 +1,4 @@
--- Document 01, "The program": what is written for the bytes of standard input.
+-- Clauses 10.2 and 10.6: what is written for the bytes of standard input.
 use Prim.Native.Nat.{ℕ}
 use mathlib.Core.Bool.{cond}
 use mathlib.Core.List.{List, [], _∷_, _++_}
@@ -10,12 +10,12 @@ use Rattle.table.specs.Calls.{makeCall}
 use Rattle.program_answers.specs.Program.{program, programBytes}
 use Rattle.program_answers.specs.Answer.{lineReply}
 
--- "Lines of standard input, [..] before the line feed (the last may lack it)": nothing follows a final line feed
+-- clause 10.2: the last line may lack its line feed, and nothing follows a final one
 unfoldable pub linesOf : List ℕ → List (List ℕ)
 linesOf [] = []
 linesOf (b ∷ s) = cond (eqb b lineFeed) ([] ∷ linesOf s) (onFirst b (linesOf s))
 
--- "Output, a line for each"
+-- every line is answered, in their order
 unfoldable pub answersTo : List ℕ → List (List ℕ) → List ℕ
 answersTo t [] = []
 answersTo t (l ∷ ls) = lineReply t l .answer ++ answersTo (lineReply t l .bytes) ls

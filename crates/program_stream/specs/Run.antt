@@ -1,11 +1,10 @@
--- The program's run over the pieces that its reads give.
-use Prim.Native.Nat.{ℕ, _≤_}
-use mathlib.Core.Bool.{Bool}
+-- The program's run over the pieces that its reads give. Each step is the contract of a function of the program's loop.
+use Prim.Native.Nat.{ℕ}
+use mathlib.Core.Path.{_≡_}
+use mathlib.Core.Bool.{Bool, false}
 use mathlib.Core.List.{List, [], _∷_, _++_}
-use lib.ListN.{length, take, drop}
-use Rattle.program_lines.specs.Ends.{lineFeed, before}
-use Rattle.program_stream.specs.Steps.{Consumed, Finished}
-use Rattle.program_stream.specs.declared.Step.{Step}
+use Rattle.program_stream.specs.Output.{newTable}
+use Rattle.program_stream.specs.Steps.{due, Answers, Waits}
 
 -- all pieces, one after the other
 unfoldable pub joined : List (List ℕ) → List ℕ
@@ -15,16 +14,22 @@ joined (c ∷ cs) = c ++ joined cs
 -- a run that writes `out` in all: on the table t, with the bytes `left` that are read and not yet answered, where `skip` says
 -- that they begin inside a line that has been answered, and with the pieces that are yet to be read
 pub data Run : (t : List ℕ) (skip : Bool) (left : List ℕ) (pieces : List (List ℕ)) (out : List ℕ) → Type 0 where
-  -- the input ends: what `finish` answers is written
-  ended : {t : List ℕ} {skip : Bool} {left out′ : List ℕ} {r : ℕ}
-      → length left ≤ before lineFeed left → Finished left skip t out′ r
-      → Run t skip left [] (take r out′)
-  -- a read puts one piece more behind what is left
+  -- the answers to what is left are written, as far as they can be known
+  answered : {t : List ℕ} {skip : Bool} {left w t′ : List ℕ} {skip′ : Bool} {left′ : List ℕ} {cs : List (List ℕ)} {out : List ℕ}
+      → Answers t skip left w t′ skip′ left′
+      → Run t′ skip′ left′ cs out
+      → Run t skip left cs (w ++ out)
+  -- then a read puts one piece more behind what is left
   read : {t : List ℕ} {skip : Bool} {left c : List ℕ} {cs : List (List ℕ)} {out : List ℕ}
+      → Waits left
       → Run t skip (left ++ c) cs out
       → Run t skip left (c ∷ cs) out
-  -- what `consume` answers from `at` on is written, and what it leaves is left
-  answered : {t : List ℕ} {skip : Bool} {input : List ℕ} {at : ℕ} {cs : List (List ℕ)} {r : Step} {t′ out′ out : List ℕ}
-      → Consumed input at skip t r t′ out′
-      → Run t′ (r .skip) (drop (r .at) input) cs out
-      → Run t skip (drop at input) cs (take (r .made) out′ ++ out)
+  -- or the input ends: what is left is answered as a last line
+  ended : {t : List ℕ} {skip : Bool} {left out : List ℕ}
+      → Waits left
+      → out ≡ due t skip left
+      → Run t skip left [] out
+
+-- a run of the program that has come so far: it has read the pieces and written `out`, and from here on it runs as any that stands here
+pub record Sofar (pieces : List (List ℕ)) (out t : List ℕ) (skip : Bool) (left : List ℕ) : Type 0 where
+  pub goes : (cs : List (List ℕ)) (more : List ℕ) → Run t skip left cs more → Run newTable false [] (pieces ++ cs) (out ++ more)

@@ -22,6 +22,16 @@ abbrev pub due : List ℕ → Bool → List ℕ → List ℕ
 due t false s = outputOf t s
 due t true s = outputOf t (pastLine s)
 
+-- the bytes s are answered by the bytes w as far as that can be known, and s′ is what is left: what is due for s and whatever follows is w,
+-- and then what is due for s′ and the same
+pub record Answers (t : List ℕ) (skip : Bool) (s w t′ : List ℕ) (skip′ : Bool) (s′ : List ℕ) : Type 0 where
+  pub says : (rest : List ℕ) → due t skip (s ++ rest) ≡ w ++ due t′ skip′ (s′ ++ rest)
+
+-- the bytes s are answered no further before more is read: they have no line feed, and a line may be as long
+pub record Waits (s : List ℕ) : Type 0 where
+  pub none : length s ≤ before lineFeed s
+  pub short : length s ≤ longestLine
+
 -- the bytes from `at` on, with whatever follows, are answered by what the turn wrote and by what the rest is answered with
 pub record Turned (input : List ℕ) (at : ℕ) (skip : Bool) (t out : List ℕ) (made : ℕ) (r : Turn) (t′ out′ : List ℕ) : Type 0 where
   pub within : r .at ≤ length input

@@ -114,22 +114,21 @@ fn rest_turn(input: &[u8], at: usize, skip: bool, out: &mut [u8], made: usize) -
     }
 }
 
-// One line, or the start of one that is too long.
+// One line, or the start of one that is too long: `span` is what the reader found.
 fn one_turn(
     classes: &[u8; 256],
     input: &[u8],
     at: usize,
+    span: Span,
     skip: bool,
     t: &mut [u8],
     out: &mut [u8],
     made: usize,
 ) -> Turn
-    requires { ⌜ at ≤ length (now input) ⌝ }
-    requires { ⌜ Classes (now classes) × (programBytes ≤ length (now t)) ⌝ }
-    requires { ⌜ made + answerRoom ≤ length (now out) ⌝ }
+    requires { ⌜ (at ≤ length (now input)) × (span ≡ spanAt (now input) at) × Classes (now classes) × (programBytes ≤ length (now t)) × (made + answerRoom ≤ length (now out)) ⌝ }
     ensures { λ r. ⌜ Turned (now (input .entry)) at skip (now (t .entry)) (now (out .entry)) made r (now (t .exit)) (now (out .exit)) ⌝ }
 {
-    match program_lines::next_in(input, at) {
+    match span {
         Span::Line(e) => line_turn(classes, input, at, e, skip, t, out, made),
         Span::Rest => rest_turn(input, at, skip, out, made),
     }
@@ -143,7 +142,9 @@ pub struct Step {
     pub full: bool,
 }
 
-// All whole lines from `at` on, until the output has no room for one more answer.
+// All whole lines from `at` on, until the output has no room for one more answer. Left free: where it stops when the
+// output is full (a line further at least, if there was room for an answer), the bytes of the output behind what was
+// made, which nobody reads, and the table's bytes: of these it is said what is due on them, whatever follows.
 pub fn consume(
     classes: &[u8; 256],
     input: &[u8],
@@ -156,32 +157,29 @@ pub fn consume(
     requires { ⌜ Classes (now classes) × (programBytes ≤ length (now t)) ⌝ }
     ensures { λ r. ⌜ Consumed (now (input .entry)) at skip (now (t .entry)) r (now (t .exit)) (now (out .exit)) ⌝ }
 {
-    let mut i = at;
-    let mut made: usize = 0;
-    let mut past = skip;
-    while ANSWER_MAX <= out.len() - made {
-        let turn = one_turn(classes, input, i, past, t, out, made);
-        i = turn.at;
-        made = turn.made;
-        past = turn.skip;
-        if !turn.more {
-            return Step {
-                at: i,
-                made: made,
-                skip: past,
-                full: false,
-            };
-        }
+    let mut l = program_lines::lines_at(input, at);
+    let mut turn = Turn {
+        at: at,
+        made: 0,
+        skip: skip,
+        more: true,
+    };
+    while turn.more & (ANSWER_MAX <= out.len() - turn.made) {
+        let span = program_lines::next_line(l);
+        turn = one_turn(classes, l.src, l.at, span, turn.skip, t, out, turn.made);
+        l = program_lines::moved(l, turn.at);
     }
     Step {
-        at: i,
-        made: made,
-        skip: past,
-        full: true,
+        at: l.at,
+        made: turn.made,
+        skip: turn.skip,
+        full: turn.more,
     }
 }
 
-// The end of the input: a last line that lacks its line feed.
+// The end of the input: a last line that lacks its line feed. Left free: the answer to an input with a line feed, which
+// `consume` never leaves, but that it fits; and, since the run ends here, the table and the bytes of the output behind
+// the answer, but for their lengths.
 pub fn finish(classes: &[u8; 256], input: &[u8], skip: bool, t: &mut [u8], out: &mut [u8]) -> usize
     requires { ⌜ Classes (now classes) × (programBytes ≤ length (now t)) × (answerRoom ≤ length (now out)) ⌝ }
     ensures { λ r. ⌜ Finished (now (input .entry)) skip (now (t .entry)) (now (out .exit)) r ⌝ }
@@ -195,11 +193,10 @@ pub fn finish(classes: &[u8; 256], input: &[u8], skip: bool, t: &mut [u8], out: 
     program_answers::answer_line(classes, input, t, out)
 }
 
-// Moves buf[at..end] to the start of buf, and answers how many bytes that is.
+// Moves buf[at..end] to the start of buf, and answers how many bytes that is. The bytes behind them stay.
 pub fn keep(buf: &mut [u8], at: usize, end: usize) -> usize
     requires { ⌜ (at ≤ end) × (end ≤ length (now buf)) ⌝ }
-    ensures { λ r. ⌜ r ≡ end - at ⌝ }
-    ensures { λ r. ⌜ take r (now (buf .exit)) ≡ take (end - at) (drop at (now (buf .entry))) ⌝ }
+    ensures { λ r. ⌜ (r ≡ end - at) × (take r (now (buf .exit)) ≡ take (end - at) (drop at (now (buf .entry)))) × (drop r (now (buf .exit)) ≡ drop r (now (buf .entry))) ⌝ }
 {
     let mut i = at;
     let mut j: usize = 0;

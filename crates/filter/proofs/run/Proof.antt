@@ -1,91 +1,66 @@
--- At each read no more than a line is left over, so that the read has room. The measure is the turns that are left.
-use mathlib.Core.Path.{_≡_, refl, _∙_}
-use mathlib.Core.Bool.{and-eq-true-iff}
-use mathlib.Core.List.{List}
-use Prim.Native.Nat.{ℕ, _≤_, _<_}
+-- The run so far, and its end where the input has ended.
 use native.Mathlib.Omega.{arith}
-use lib.ListN.{length}
-use lib.Dec.{ltb}
+use Rattle.filter.proofs.Standing.{ends-stands, ran-whole, ran-stopped}
 use borrow.Author.Needs.{needs}
-use borrow.Author.Tests.{ltb-true}
-use Rattle.program_commands.specs.Command.{longestLine}
-use Rattle.filter.specs.declared.Next.{Next}
 use Rattle.filter.proofs.run.Statement.{statement}
 use Rattle.filter.proofs.run.Tie as tie
 
-record Inv (buf₀ t₀ out₀ buf t out : List ℕ) (s : Next) : Type 0 where
-  left : s .have ≤ longestLine
-  input : length buf ≡ length buf₀
-  table : length t ≡ length t₀
-  room : length out ≡ length out₀
+abbrev answered : tie.After-slice-known6 → tie.After-answer-input
+answered k = k .before .before .before .before .before .before
 
-abbrev Inv-loop : tie.InvT-loop
-Inv-loop classes buf₀ t₀ out₀ s₀ turns₀ buf t out s turns = Inv buf₀ t₀ out₀ buf t out s
+abbrev known : tie.After-answer-input → tie.After-slice-known3
+known a = a .before .before .before .before
 
-abbrev μ-loop : tie.MeasureT-loop
-μ-loop classes buf₀ t₀ out₀ s₀ turns₀ buf t out s turns = turns
+answer-input-requires : tie.Need-answer-input-requires
+answer-input-requires c κs = search needs
 
-abbrev entered : tie.After-one-read Inv-loop μ-loop → tie.Then1 Inv-loop μ-loop
-entered o = o .before .before .before .before
+last-line-requires : tie.Need-last-line-requires
+last-line-requires c κs =
+    let h = c .before .before .before in
+    let a = answered (h .before) in
+    let s = known a .before .before .before in
+    let f = ends-stands (a .answer-input .ensures) (h .if1 .taken) in
+    (s .pre .0, f .placed, f .waits (h .if1 .taken), omega (arith, s .pre .2, a .answer-input .kept .1 .1 .0), omega (arith, s .pre .3, a .answer-input .kept .1 .1 .1 .0))
 
-abbrev head : tie.Then1 Inv-loop μ-loop → tie.At-loop Inv-loop μ-loop
-head t = t .before .before
-
-some-left : (t : tie.Then1 Inv-loop μ-loop) → 0 < head t .loop .turns
-some-left t =
-    let l = head t .loop in
-    ltb-true 0 (l .turns) (and-eq-true-iff (l .s .go) (ltb 0 (l .turns)) .0 (t .if1 .taken) .1)
-
-loop-holds : tie.Need-loop-holds Inv-loop μ-loop
-loop-holds c = record { left = omega arith; input = refl; table = refl; room = refl }
-
-one-read-requires : tie.Need-one-read-requires Inv-loop μ-loop
-one-read-requires c κs =
-    let l = c .before .before .before .before .before in
-    let s = l .before .before .before .before in
-    (s .pre .0, l .loop .inv .left, omega (arith, s .pre .1, l .loop .inv .input), omega (arith, s .pre .2, l .loop .inv .table), omega (arith, s .pre .3, l .loop .inv .room))
-
-sub-turns : tie.Need-sub-turns Inv-loop μ-loop
-sub-turns c = omega (arith, some-left (entered (c .before .before .before .before .before .before)))
-
-loop-less : tie.Need-loop-less Inv-loop μ-loop
-loop-less c = omega (arith, some-left (entered (c .before .before .before .before .before .before)))
-
-loop-again : tie.Need-loop-again Inv-loop μ-loop
-loop-again c =
-    let o = c .before .before .before .before .before .before in
-    let l = head (entered o) in
-    record {
-      left = o .one-read .ensures;
-      input = o .one-read .kept .1 .0 ∙ l .loop .inv .input;
-      table = o .one-read .kept .1 .1 .0 ∙ l .loop .inv .table;
-      room = o .one-read .kept .1 .1 .1 .0 ∙ l .loop .inv .room;
-    }
-
-same-length : tie.Need-same-length Inv-loop μ-loop
+same-length : tie.Need-same-length
 same-length c = search needs
 
-same-length-2 : tie.Need-same-length-2 Inv-loop μ-loop
+same-length-2 : tie.Need-same-length-2
 same-length-2 c = search needs
 
-same-length-3 : tie.Need-same-length-3 Inv-loop μ-loop
+same-length-3 : tie.Need-same-length-3
 same-length-3 c = search needs
 
-returns : tie.Need-returns Inv-loop μ-loop
-returns c = search needs
+returns : tie.Need-returns
+returns c =
+    let l = c .before .before .before .before in
+    let h = l .before .before .before .before in
+    let f = ends-stands (answered (h .before) .answer-input .ensures) (h .if1 .taken) in
+    ran-whole (l .last-line .result) f (h .if1 .taken) (l .last-line .ensures)
+
+same-length-4 : tie.Need-same-length-4
+same-length-4 c = search needs
+
+same-length-5 : tie.Need-same-length-5
+same-length-5 c = search needs
+
+same-length-6 : tie.Need-same-length-6
+same-length-6 c = search needs
+
+returns-2 : tie.Need-returns-2
+returns-2 c = ran-stopped (answered (c .before) .answer-input .ensures) (c .if1 .left)
 
 pub run-spec : {M : Type 1} → statement M
 run-spec =
     tie.close
     (tie.spec
-    Inv-loop
-    μ-loop
-    loop-holds
-    one-read-requires
-    sub-turns
-    loop-less
-    loop-again
+    answer-input-requires
+    last-line-requires
     same-length
     same-length-2
     same-length-3
-    returns)
+    returns
+    same-length-4
+    same-length-5
+    same-length-6
+    returns-2)

@@ -50,7 +50,7 @@ pub line-none : (t l : List ℕ) → commandOf l ≡ none → lineReply t l ≡ 
 unfolding lineReply commandReply
 line-none t l e = rw e
 
--- "at most 64 bytes before the line feed"
+-- clause 10.3: a command has at most 64 bytes
 pub line-long : (t l : List ℕ) → longestLine < length l → lineReply t l ≡ reply (refusedText refusal.Line) t
 line-long t l h = line-none t l (long-none l h)
 

@@ -9,7 +9,7 @@ use Rattle.settings.specs.Legal.{inRanges, fits, belowPrime, legal}
 use Rattle.settings.specs.theory.Primes.{prime-table}
 use Rattle.program_answers.specs.Program.{program, programBytes}
 
--- "(156,935 bits)"
+-- clause 10.1: the bits of the table
 pub program-bits : tableBits program ≡ 156935
 unfolding linkBits freeStartBits basicCounterBits basicBlockBits lists overflowCounterBits overflowBlockBits overflowStart tableBits ceilLog2 leastFrom
 program-bits = refl

@@ -10,7 +10,7 @@ use lib.Dec.{eqb, ltb, lit≤}
 use borrow.Author.Tests.{eq-eqb, ne-eqb, eqb-false, not-true, lt-ltb, le-ltb, ltb-true, ltb-false}
 use Rattle.laws.specs.Cases.{cases}
 use Rattle.laws.specs.Lists.{drop-next}
-use Rattle.program_lines.specs.Ends.{before, firstFrom, lineFeed, spanAt, afterAt}
+use Rattle.program_lines.specs.Ends.{before, firstFrom, lineFeed, spanAt}
 use Rattle.program_lines.specs.declared.Span.the-variants.{Line, Rest}
 
 -- ---- a byte that is b, one that is not, and past the end
@@ -62,7 +62,7 @@ pub first-le : (b : ℕ) (s : List ℕ) (at : ℕ) → at ≤ length s → first
 unfolding firstFrom
 first-le b s at h = omega (arith, before-le b (drop at s), length-drop at s)
 
--- ---- what stands at a position, and what is behind it, by the place of the first line feed
+-- ---- what stands at a position, by the place of the first line feed
 
 module _ (s : List ℕ) (at e : ℕ) (f : e ≡ firstFrom lineFeed s at) where
   pub line-span : e < length s → Line e ≡ spanAt s at
@@ -72,14 +72,6 @@ module _ (s : List ℕ) (at e : ℕ) (f : e ≡ firstFrom lineFeed s at) where
   pub rest-span : length s ≤ e → Rest ≡ spanAt s at
   unfolding spanAt
   rest-span h = rw (← f) (simp (le-ltb e (length s) h))
-
-  pub line-after : e < length s → e + 1 ≡ afterAt s at
-  unfolding afterAt
-  line-after h = rw (← f) (simp (lt-ltb e (length s) h))
-
-  pub rest-after : length s ≤ e → e ≡ afterAt s at
-  unfolding afterAt
-  rest-after h = rw (← f) (simp (le-ltb e (length s) h))
 
 -- ---- what each answer says
 

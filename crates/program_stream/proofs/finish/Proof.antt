@@ -4,7 +4,7 @@ use Prim.Native.Nat.{_<_}
 use native.Mathlib.Omega.{arith}
 use lib.ListN.{length}
 use lib.Dec.{lit≤}
-use Rattle.program_stream.proofs.Lines.{output-none, output-last, output-past}
+use Rattle.program_stream.specs.theory.Lines.{output-none, output-last, output-past}
 use borrow.Author.Needs.{needs}
 use Rattle.program_stream.proofs.finish.Statement.{statement}
 use Rattle.program_stream.proofs.finish.Tie as tie

@@ -1,4 +1,4 @@
--- The first j bytes are those from `at` on, and the bytes from i on are as they were.
+-- The first j bytes are those from `at` on, and the bytes behind them are as they were.
 use mathlib.Core.Path.{_≡_, refl, ap, _∙_}
 use Prim.Native.Nat.{ℕ, _≤_, _-_, _+_}
 use native.Mathlib.Omega.{arith}
@@ -10,7 +10,7 @@ use Rattle.program_stream.proofs.keep.Tie as tie
 
 abbrev Inv-loop : tie.InvT-loop
 Inv-loop buf₀ at end i₀ j₀ buf i j =
-    (i ≤ end) × ((at + j ≡ i) × ((length buf ≡ length buf₀) × ((take j buf ≡ take j (drop at buf₀)) × (drop i buf ≡ drop i buf₀))))
+    (i ≤ end) × ((at + j ≡ i) × ((length buf ≡ length buf₀) × ((take j buf ≡ take j (drop at buf₀)) × (drop j buf ≡ drop j buf₀))))
 
 abbrev μ-loop : tie.MeasureT-loop
 μ-loop buf₀ at end i₀ j₀ buf i j = end - i
@@ -48,7 +48,7 @@ returns : tie.Need-returns Inv-loop μ-loop
 returns c =
     let l = c .before in
     let e : l .loop .j ≡ l .before .args .end - l .before .args .at = omega arith in
-    (e, l .loop .inv .1 .1 .1 .0 ∙ ap (λ (n : ℕ). take n (drop (l .before .args .at) (l .before .args .buf .now))) e)
+    (e, l .loop .inv .1 .1 .1 .0 ∙ ap (λ (n : ℕ). take n (drop (l .before .args .at) (l .before .args .buf .now))) e, l .loop .inv .1 .1 .1 .1)
 
 pub keep-spec : {M : Type 1} → statement M
 keep-spec = tie.close (tie.spec Inv-loop μ-loop loop-holds slice-read-buf slice-write-buf add-i add-j loop-less loop-again same-length returns)

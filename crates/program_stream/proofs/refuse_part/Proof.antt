@@ -30,9 +30,9 @@ returns c =
     let s = c .before .before .before .before .before in
     let a = s .args in
     let p = c .before .before .refuse in
-    let room : p .result ≤ length (p .last .1 .0) = omega (arith, p .ensures .room, simp (length-take, length-drop) at (p .kept .1 .0), s) in (
-      omega (arith, p .ensures .room),
-      part-written (a .out .now) (p .last .1 .0) _ _ (a .made) (p .result) (omega (arith, s)) room (p .ensures .is),
+    let room : p .result ≤ length (p .last .1 .0) = omega (arith, p .ensures .0 .room, simp (length-take, length-drop) at (p .kept .1 .0), s) in (
+      omega (arith, p .ensures .0 .room),
+      part-written (a .out .now) (p .last .1 .0) _ _ (a .made) (p .result) (omega (arith, s)) room (p .ensures .0 .is),
     )
 
 pub refuse-part-spec : {M : Type 1} → statement M

@@ -3,21 +3,20 @@ use mathlib.Core.Path.{_≡_, sym, ap, _∙_}
 use mathlib.Core.List.{List, [], _++_, append-assoc, append-nil}
 use mathlib.Core.Bool.{Bool, false}
 use Prim.Native.Nat.{ℕ}
-use lib.ListN.{take}
 use Rattle.program_stream.specs.Output.{outputOf, newTable, programOutput}
 use Rattle.program_stream.specs.Steps.{due}
-use Rattle.program_stream.specs.Run.{joined, Run, ended, read, answered}
+use Rattle.program_stream.specs.Run.{joined, Run, answered, read, ended}
 
 pub whole : {t : List ℕ} {skip : Bool} {left : List ℕ} {cs : List (List ℕ)} {out : List ℕ} → Run t skip left cs out → out ≡ due t skip (left ++ joined cs)
 unfolding joined
-whole {t} {skip} {left} (ended none f) = f .says none ∙ ap (due t skip) (sym (append-nil left))
-whole {t} {skip} {left} (read {c = c} {cs = cs} run) = whole run ∙ ap (due t skip) (append-assoc left c (joined cs))
-whole (answered {cs = cs} {r = r} {out′ = out′} k run) = ap (λ (x : List ℕ). take (r .made) out′ ++ x) (whole run) ∙ sym (k .says (joined cs))
+whole (answered {w = w} {cs = cs} k run) = ap (λ (x : List ℕ). w ++ x) (whole run) ∙ sym (k .says (joined cs))
+whole {t} {skip} {left} (read {c = c} {cs = cs} k run) = whole run ∙ ap (due t skip) (append-assoc left c (joined cs))
+whole {t} {skip} {left} (ended k e) = e ∙ ap (due t skip) (sym (append-nil left))
 
 pub whole-output : {t : List ℕ} {cs : List (List ℕ)} {out : List ℕ} → Run t false [] cs out → out ≡ outputOf t (joined cs)
 whole-output run = whole run
 
--- "The program": from a new table on
+-- the program: from a new table on
 pub whole-program : {cs : List (List ℕ)} {out : List ℕ} → Run newTable false [] cs out → out ≡ programOutput (joined cs)
 unfolding programOutput
 whole-program run = whole-output run

@@ -47,7 +47,7 @@ returns-2 c =
     let w = c .before .before .before .before .before in
     let x = w .before .before .before .before in
     let k = x .before .before .before .before .args .key in
-    answered-given k (x .apply .ensures) (ap (answerText k) (w .why .given .1)) (c .before .before .refuse .ensures)
+    answered-given k (x .apply .ensures) (ap (answerText k) (w .why .given .1)) (c .before .before .refuse .ensures .0)
 
 pub answer-key-spec : {M : Type 1} → statement M
 answer-key-spec =

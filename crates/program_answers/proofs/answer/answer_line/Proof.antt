@@ -85,7 +85,7 @@ returns-2 c =
     let s = start (q .before .before) in
     answered-refused _
     (line-unread (now (s .args .t)) (now (s .args .line)) (q .q .given .0 .0) (parsing q .is) (omega (arith, s)) (t .enum-told .given .0 .0) (sym (b .read-by .ensures) ∙ t .enum-told .given .1))
-    (rw (u .unread .ensures) at (f .refuse .ensures))
+    (rw (u .unread .ensures) at (f .refuse .ensures .0))
 
 same-length-4 : tie.Need-same-length-4
 same-length-4 c = search needs
@@ -96,7 +96,7 @@ returns-3 c =
     let t = f .before .before in
     let p = t .before .before in
     let a = start p .args in
-    answered-refused _ (line-none (now (a .t)) (now (a .line)) (asks-none (now (a .line)) (p .parse .ensures) (t .enum-told2 .given .1))) (f .refuse2 .ensures)
+    answered-refused _ (line-none (now (a .t)) (now (a .line)) (asks-none (now (a .line)) (p .parse .ensures) (t .enum-told2 .given .1))) (f .refuse2 .ensures .0)
 
 pub answer-line-spec : {M : Type 1} → statement M
 answer-line-spec =

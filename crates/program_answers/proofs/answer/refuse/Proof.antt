@@ -47,7 +47,7 @@ returns c =
     let whole =
     put-as (ap (λ (m : ℕ). ascii "refused " ++ decimalText m ++ 10 ∷ []) (n .number .ensures))
     (put-then (put-then (p .put .ensures) (d .put-decimal .ensures)) (f .put2 .ensures)) in
-    put-wrote whole (omega (arith, whole .end, p .put .ensures .end, d .put-decimal .ensures .end, f .put2 .ensures .end, decimal-short (n .number .result) (omega arith)))
+    (put-wrote whole (omega (arith, whole .end, p .put .ensures .end, d .put-decimal .ensures .end, f .put2 .ensures .end, decimal-short (n .number .result) (omega arith))), whole .rest)
 
 pub refuse-spec : {M : Type 1} → statement M
 refuse-spec =

@@ -1,0 +1,3 @@
+-- The words of the loop's contracts.
+pub mod World
+pub mod Loop
