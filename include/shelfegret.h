@@ -15,12 +15,14 @@
 #include <stddef.h>
 #include <stdint.h>
 
+#define SHELFEGRET_VERSION "0.1.0"
+
 #ifdef __cplusplus
 extern "C" {
 #endif
 
 /* The settings of a table. Every call on it must be given the same: with others, the bytes are read as the table that
- * those settings describe.
+ * those settings describe. Keep them with the bytes, which do not say what they were.
  *   w    bits of a key, 2 to 128; 128 for IPv6 addresses
  *   bii  bits of a key that choose its list and are not stored, 0 to 16, below w: there are 2^bii lists
  *   sib  entries in each list's own block, 1 to 255
@@ -70,8 +72,10 @@ enum {
     SHELFEGRET_REFUSED_TEXT = 4,     /* the text is not a legal address */
     SHELFEGRET_REFUSED_KEY = 5,      /* the key is 2^w or more */
     SHELFEGRET_REFUSED_LABEL = 6,    /* the label is 2^val or more */
-    SHELFEGRET_REFUSED_DAMAGE = 7,   /* the bytes that the call follows hold no list */
-    SHELFEGRET_REFUSED_FULL = 8,     /* a new entry needs an overflow block, and none is free */
+    SHELFEGRET_REFUSED_DAMAGE = 7,   /* the list that the call follows is damaged; or the chain of free blocks is, where
+                                        add takes a block or delete frees one */
+    SHELFEGRET_REFUSED_FULL = 8,     /* a new entry needs an overflow block, and none is free; docs/LIBRARY.md says
+                                        which deletes make room */
     SHELFEGRET_REFUSED_OUTPUT = 9,   /* fewer bytes are lent than the text has */
     SHELFEGRET_REFUSED_MARKS = 10    /* fewer mark bytes are lent than check needs */
 };
@@ -97,12 +101,14 @@ struct shelfegret_answer shelfegret_delete(struct shelfegret_settings settings, 
                                            struct shelfegret_key key);
 
 /* The nth entry of the table, from 0, list by list: RECORD with key and label, or NONE if there are not so many.
- * The order is that of the lists, and changes as entries come and go. The table is only read. Refuses 1, 2, 7. */
+ * The order is that of the lists, and changes as entries come and go. Every list up to that record's is followed, and
+ * 7 is refused if one of them is damaged. The table is only read. Refuses 1, 2, 7. */
 struct shelfegret_answer shelfegret_record(struct shelfegret_settings settings, const uint8_t *table, size_t len,
                                            uint64_t n);
 
-/* Whether the lent bytes are a sound table: SOUND or UNSOUND, whatever the bytes are. marks is scratch, a bit for
- * each overflow block: its first (nob + 7) / 8 bytes are zero afterwards, whatever they held, and bytes behind them
+/* Whether the lent bytes are a sound table: SOUND or UNSOUND, whatever the bytes are. It does not see that a or b are
+ * not those that the table was filled with. Its time grows with the square of the longest list. marks is scratch, a bit
+ * for each overflow block: its first (nob + 7) / 8 bytes are zero afterwards, whatever they held, and bytes behind them
  * stay. The table is only read. Refuses 1, 2, 10, and then marks stay as they are. */
 struct shelfegret_answer shelfegret_check(struct shelfegret_settings settings, const uint8_t *table, size_t len,
                                           uint8_t *marks, size_t marks_len);

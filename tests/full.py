@@ -1,0 +1,81 @@
+"""full.py PROGRAM: which addresses the program refuses with 8, and which deletes make room again. The addresses are
+chosen by their list, as docs/FILTER.md gives it."""
+import ipaddress
+import subprocess
+import sys
+
+LISTS, SIB, NOB, SIO, A, B, P = 256, 4, 64, 3, 97, 31, 257
+
+
+def address(number, entry):
+    """The address with this entry in the list of this number."""
+    index = number ^ (A * entry + B) % P % LISTS
+    return str(ipaddress.IPv6Address(index << 120 | entry))
+
+
+def addresses(number, n, first=0):
+    return [address(number, first + entry) for entry in range(n)]
+
+
+def adds(lengths):
+    """Lines that fill list 0, 1, .. so far."""
+    return ["+ " + a for number, n in enumerate(lengths) for a in addresses(number, n)]
+
+
+def blocks(n):
+    return max(0, -((SIB - n) // SIO))
+
+
+def answers(lines):
+    given = "".join(line + "\n" for line in lines)
+    return subprocess.run([sys.argv[1]], input=given, capture_output=True, text=True, check=True).stdout.splitlines()
+
+
+def expect(given, due, what):
+    if given != due:
+        sys.exit(f"{what}: {due!r} is due, and {given!r} came")
+
+
+# The fewest: all addresses in one list. The refused one is found nowhere, and compared is its list's length.
+fewest = NOB * SIO + SIB
+expect(fewest, 196, "the fewest")
+one = addresses(5, fewest + 1)
+expect([a.split(" ", 1)[1] for a in answers(["+ " + a for a in one] + ["? " + one[-1]])],
+       [f"added 0 {n}" for n in range(fewest)] + ["8", f"none 0 {fewest}"], "one list")
+
+# The most: all slots. Then each list refuses.
+most = adds([fewest] + [SIB] * (LISTS - 1))
+expect(len(most), 1216, "the most")
+words = [a.split()[1] for a in answers(most + ["+ " + address(number, 1000) for number in range(LISTS)])]
+expect(words, ["added"] * len(most) + ["8"] * LISTS, "every slot")
+
+# No spread of fewer addresses does it: `least[u]` is the fewest in lists that use u blocks together, each list's last
+# block with one entry; beside them is a list without a vacant slot, which uses v.
+least = [0]
+for u in range(1, NOB + 1):
+    least.append(min(least[u - v] + SIB + SIO * (v - 1) + 1 for v in range(1, u + 1)))
+expect(min(least[NOB - v] + SIB + SIO * v for v in range(NOB + 1)), fewest, "the fewest of all spreads")
+
+# Deletes: lists of many lengths use all blocks, and one of them without a vacant slot refuses. A delete makes room
+# exactly if it is one from that list, or if it empties an overflow block: its list's last, with one entry.
+for full in (SIB, SIB + SIO, SIB + 5 * SIO):
+    lengths = [full] + list(range(1, 14))
+    left = NOB - sum(blocks(n) for n in lengths)
+    lengths.append(SIB + SIO * left)
+    table = adds(lengths)
+    new = address(0, 1000)
+    expect(answers(table + ["+ " + new, "? " + new])[-2:], ["refused 8", f"{new} none 0 {full}"], "a full list")
+    for number, n in enumerate(lengths):
+        room = number == 0 or n > SIB and n % SIO == (SIB + 1) % SIO
+        for entry in {0, n // 2, n - 1}:
+            old = address(number, entry)
+            gone, added, back = [a.split() for a in answers(table + ["- " + old, "+ " + new, "+ " + old])[-3:]]
+            expect(gone[1], "gone", f"delete from {n}")
+            expect(added[1], "added" if room else "8", f"room after a delete from {n} beside a list of {full}")
+            if not room:  # then what was deleted can come back
+                expect(back[1], "added", f"{old} again")
+
+# Addresses whose entries differ by multiples of p and whose first bytes are equal are in one list, for all a, b.
+same = [str(ipaddress.IPv6Address(0x20 << 120 | 0xdb8 + P * k)) for k in range(fewest + 1)]
+expect([a.split(" ", 1)[1] for a in answers(["+ " + a for a in same])], [f"added 0 {n}" for n in range(fewest)] + ["8"],
+       "entries that are equal modulo p")
