@@ -7,7 +7,7 @@ use Rattle.settings.specs.declared.settings.Settings.{Settings}
 use Rattle.settings.specs.declared.refusal.Refusal.{Refusal}
 use Rattle.settings.specs.Reply.{Reply}
 use Rattle.keys.specs.declared.Key.{Key}
-use Rattle.table.specs.Calls.{Verb, add, delete, makeCall, keyCall, recordCall, checkCall}
+use Rattle.table.specs.Calls.{add, delete, makeCall, recordCall, checkCall}
 use Rattle.table.specs.declared.answers.Answer as table
 use Rattle.table.specs.declared.answers.Answer.the-variants as answer
 use Rattle.table.specs.declared.answers.Word.{Word}
@@ -25,22 +25,18 @@ use Rattle.text_write.specs.Writing.{written}
 use Rattle.text_write.specs.Answers.{writeCall}
 use Rattle.text_write.specs.declared.Written.{Written}
 use Rattle.text_write.specs.declared.Written.the-variants as writing
-use Rattle.text_calls.specs.TextCalls.{textCall}
+use Rattle.text_calls.specs.Asked.{Asked, verbAsked, tableCall}
 
 -- The calls of the specification ------------------------------------------------------------------------------------------------
 
-pub data Given : Type 0 where
-  key : Key → Given
-  text : List ℕ → Given
-
-pub data Asked : Type 0 where
-  make : Asked
+pub data Call : Type 0 where
+  make : Call
   -- add, find and delete, with a key or a text
-  onKey : Verb → Given → Asked
-  recordAt : ℕ → Asked
-  check : Asked
-  readText : List ℕ → Asked
-  writeText : Key → Asked
+  ask : Asked → Call
+  recordAt : ℕ → Call
+  check : Call
+  readText : List ℕ → Call
+  writeText : Key → Call
 
 -- what a call is lent: the table, and check's marks or the buffer for a text
 pub record Lent : Type 0 where
@@ -100,10 +96,9 @@ module _ (s : Settings) (l : Lent) where
   abbrev pub onNothing : Said → Outcome
   onNothing a = record { said = a; after = l }
 
-  abbrev pub outcome : Asked → Outcome
+  abbrev pub outcome : Call → Outcome
   outcome make = onTable ofMake (makeCall s (l .table))
-  outcome (onKey v (key k)) = onTable ofKey (keyCall s (l .table) v k)
-  outcome (onKey v (text x)) = onTable (λ a. ofKey (a .answer)) (textCall s (l .table) v x)
+  outcome (ask q) = onTable ofKey (tableCall s (l .table) q)
   outcome (recordAt n) = onNothing (ofRecord (recordCall s (l .table) n))
   outcome check = onBuffer ofCheck (checkCall s (l .table) (l .buffer))
   outcome (readText x) = onNothing (ofRead (readingOf x))
@@ -112,15 +107,15 @@ module _ (s : Settings) (l : Lent) where
 -- The words of the claim -----------------------------------------------------------------------------------------------------
 
 -- clause 6.13: what writes the table
-pub data Writes : Asked → Said → Type 0 where
+pub data Writes : Call → Said → Type 0 where
   makes : Writes make made
-  adds : (label : ℕ) (g : Given) → Writes (onKey (add label) g) (worded word.Added)
-  deletes : (g : Given) → Writes (onKey delete g) (worded word.Gone)
+  adds : (q : Asked) (label : ℕ) → verbAsked q ≡ add label → Writes (ask q) (worded word.Added)
+  deletes : (q : Asked) → verbAsked q ≡ delete → Writes (ask q) (worded word.Gone)
 
 -- how many bytes of the buffer a call may write: the marks of clause 6.11, or those of the text
-abbrev pub bufferBytes : Settings → Asked → ℕ
+abbrev pub bufferBytes : Settings → Call → ℕ
 bufferBytes s make = 0
-bufferBytes s (onKey v g) = 0
+bufferBytes s (ask q) = 0
 bufferBytes s (recordAt n) = 0
 bufferBytes s check = (s .nob + 7) / 8
 bufferBytes s (readText x) = 0

@@ -5,42 +5,25 @@ use mathlib.Core.Option.{Option, none, some}
 use Prim.Native.Nat.{ℕ}
 use lib.ListN.{length, take, drop}
 use Rattle.settings.specs.declared.settings.Settings.{Settings}
-use Rattle.keys.specs.declared.Key.{Key}
 use Rattle.keys.specs.Key.{keyNumber}
 use Rattle.plain_set.specs.Rebuilt.{Pair}
 use Rattle.plain_set.specs.Set.{Call, call, Step, setStep}
 use Rattle.plain_set.specs.Set as set
 use Rattle.plain_set.specs.Holds.{Holds}
 use Rattle.plain_set.specs.Plain.{plain}
-use Rattle.settings.specs.Reply.{Reply, answering}
-use Rattle.table.specs.Calls.{Verb, keyCall}
-use Rattle.table.specs.declared.answers.Answer as table
 use Rattle.text_read.specs.Answers.{readingOf}
 use Rattle.text_read.specs.declared.Parsed.{Parsed}
 use Rattle.text_read.specs.declared.Parsed.the-variants as parsed
-use Rattle.text_calls.specs.TextCalls.{textCall}
-
--- A call as the router makes it: with a key or a text, whatever it is, and any label -----------------------------------------
-
-pub data Asked : Type 0 where
-  byKey : Verb → Key → Asked
-  byText : Verb → List ℕ → Asked
+use Rattle.text_calls.specs.Asked.{Asked, byKey, byText, tableCall}
 
 -- a call, and how many of the table's bytes it is lent
 pub record Lending : Type 0 where
   pub call : Asked
   pub lent : ℕ
 
--- What the table does: the answer and the bytes that the contracts of the calls cite ----------------------------------------
-
-module _ (s : Settings) where
-  abbrev pub tableCall : List ℕ → Asked → Reply table.Answer
-  tableCall t (byKey v k) = keyCall s t v k
-  tableCall t (byText v x) = answering (λ a. a .answer) (textCall s t v x)
-
-  -- the memory after a call that was lent its first bytes
-  abbrev pub memoryAfter : List ℕ → Lending → List ℕ
-  memoryAfter t c = tableCall (take (c .lent) t) (c .call) .bytes ++ drop (c .lent) t
+-- the memory after a call that was lent its first bytes
+abbrev pub memoryAfter : Settings → List ℕ → Lending → List ℕ
+memoryAfter s t c = tableCall s (take (c .lent) t) (c .call) .bytes ++ drop (c .lent) t
 
 -- What the set is given (clause 8.1): a text as the key that is read from it, or as not legal ------------------------------
 

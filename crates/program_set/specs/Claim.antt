@@ -18,7 +18,8 @@ use Rattle.program_answers.specs.Outcome.{verbOf}
 use Rattle.program_answers.specs.Answer.{refusedText, saidText, lineReply}
 use Rattle.plain_set.specs.Set.{Call, keyGiven, Answer, said, refused, Step, step, setStep}
 use Rattle.plain_set.specs.Holds.{Holds}
-use Rattle.demand3.specs.Claim.{byText, given}
+use Rattle.text_calls.specs.Asked.{byText}
+use Rattle.demand3.specs.Claim.{given}
 
 -- What the set answers to a line ---------------------------------------------------------------------------------------------
 

@@ -1,5 +1,6 @@
 -- Definitions: what a reader must believe.
 pub mod TextCalls
+pub mod Asked
 pub mod Canonical
 pub mod Ascii
 -- Words of private contracts.

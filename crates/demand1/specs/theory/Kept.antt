@@ -49,7 +49,8 @@ use Rattle.text_write.specs.declared.Written.{Written}
 use Rattle.text_write.specs.declared.Written.the-variants as writing
 use Rattle.text_calls.specs.TextCalls.{keyRead, textDue, forKey, textCall}
 use Rattle.text_calls.specs.declared.calls.TextAnswer.{TextAnswer}
-use Rattle.demand1.specs.Claim.{Given, Said, refused, told, ofMake, ofKey, ofCheck, ofWritten, make, onKey, Writes, makes, adds, deletes, Untouched}
+use Rattle.text_calls.specs.Asked.{Asked, byKey, byText, verbAsked, tableCall}
+use Rattle.demand1.specs.Claim.{Said, refused, told, ofMake, ofKey, ofCheck, ofWritten, make, ask, Writes, makes, adds, deletes, Untouched}
 
 -- Bytes beyond -----------------------------------------------------------------------------------------------------------------
 
@@ -116,71 +117,75 @@ module _ (s : Settings) (t : List ℕ) where
 
   -- Add, find and delete ---------------------------------------------------------------------------------------------------
 
-  module _ (g : Given) where
+  module _ (q : Asked) where
     -- what a change leaves that answers x if it is done
-    done-kept : (v : Verb) (x : table.Answer) → Writes (onKey v g) (ofKey x) → (d : Done)
-        → Kept (tableBytes s) t (Writes (onKey v g)) (answering ofKey (replied (layoutOf s) t (answered x d)))
-    done-kept v x w damage = stays (refused refusal.Damage)
-    done-kept v x w noBlock = stays (refused refusal.NoBlock)
-    done-kept v x w (done st) = writes w (written-untouched s t st)
+    done-kept : (x : table.Answer) → Writes (ask q) (ofKey x) → (d : Done)
+        → Kept (tableBytes s) t (Writes (ask q)) (answering ofKey (replied (layoutOf s) t (answered x d)))
+    done-kept x w damage = stays (refused refusal.Damage)
+    done-kept x w noBlock = stays (refused refusal.NoBlock)
+    done-kept x w (done st) = writes w (written-untouched s t st)
 
-    add-kept : (i e label : ℕ) (o : Option Content)
-        → Kept (tableBytes s) t (Writes (onKey (add label) g))
+    add-kept : (i e label : ℕ) → verbAsked q ≡ add label → (o : Option Content)
+        → Kept (tableBytes s) t (Writes (ask q))
         (answering ofKey (replied (layoutOf s) t (addFollowed (layoutOf s) (held s t) i e label o)))
     unfolding addFollowed
-    add-kept i e label none = stays (refused refusal.Damage)
-    add-kept i e label (some v) =
-        either (λ a. Kept (tableBytes s) t (Writes (onKey (add label) g)) (answering ofKey (replied (layoutOf s) t a)))
-        (isHeld (layoutOf s) e (v .slots)) (λ q. stays _)
-        (λ q.
-        done-kept (add label) (said word.Added label (comparedIn (layoutOf s) e (v .slots))) (adds label g)
+    add-kept i e label h none = stays (refused refusal.Damage)
+    add-kept i e label h (some v) =
+        either (λ a. Kept (tableBytes s) t (Writes (ask q)) (answering ofKey (replied (layoutOf s) t a)))
+        (isHeld (layoutOf s) e (v .slots)) (λ b. stays _)
+        (λ b.
+        done-kept (said word.Added label (comparedIn (layoutOf s) e (v .slots))) (adds q label h)
         (append (layoutOf s) (held s t) i (v .blocks) (slotOf (layoutOf s) e label)))
 
-    delete-kept : (i e : ℕ) (o : Option Content)
-        → Kept (tableBytes s) t (Writes (onKey delete g))
+    delete-kept : (i e : ℕ) → verbAsked q ≡ delete → (o : Option Content)
+        → Kept (tableBytes s) t (Writes (ask q))
         (answering ofKey (replied (layoutOf s) t (deleteFollowed (layoutOf s) (held s t) i e o)))
     unfolding deleteFollowed
-    delete-kept i e none = stays (refused refusal.Damage)
-    delete-kept i e (some v) =
-        either (λ a. Kept (tableBytes s) t (Writes (onKey delete g)) (answering ofKey (replied (layoutOf s) t a)))
+    delete-kept i e h none = stays (refused refusal.Damage)
+    delete-kept i e h (some v) =
+        either (λ a. Kept (tableBytes s) t (Writes (ask q)) (answering ofKey (replied (layoutOf s) t a)))
         (isHeld (layoutOf s) e (v .slots))
-        (λ q.
-        done-kept delete (said word.Gone (labelAt (layoutOf s) e (v .slots)) (comparedIn (layoutOf s) e (v .slots))) (deletes g)
+        (λ b.
+        done-kept (said word.Gone (labelAt (layoutOf s) e (v .slots)) (comparedIn (layoutOf s) e (v .slots))) (deletes q h)
         (takeOut (layoutOf s) (held s t) i v (position (layoutOf s) e (v .slots))))
-        (λ q. stays _)
+        (λ b. stays _)
 
-    list-kept : (i e : ℕ) (v : Verb)
-        → Kept (tableBytes s) t (Writes (onKey v g)) (answering ofKey (replied (layoutOf s) t (listCall (layoutOf s) (held s t) i e v)))
+    list-kept : (i e : ℕ) (v : Verb) → verbAsked q ≡ v
+        → Kept (tableBytes s) t (Writes (ask q)) (answering ofKey (replied (layoutOf s) t (listCall (layoutOf s) (held s t) i e v)))
     unfolding listCall addIn deleteIn
-    list-kept i e find = stays _
-    list-kept i e (add label) = add-kept i e label (content (layoutOf s) (held s t) i)
-    list-kept i e delete = delete-kept i e (content (layoutOf s) (held s t) i)
+    list-kept i e find h = stays _
+    list-kept i e (add label) h = add-kept i e label h (content (layoutOf s) (held s t) i)
+    list-kept i e delete h = delete-kept i e h (content (layoutOf s) (held s t) i)
 
-    pub key-kept : (v : Verb) (k : Key) → Kept (tableBytes s) t (Writes (onKey v g)) (answering ofKey (keyCall s t v k))
+    key-kept : (v : Verb) (k : Key) → verbAsked q ≡ v → Kept (tableBytes s) t (Writes (ask q)) (answering ofKey (keyCall s t v k))
     unfolding keyCall
-    key-kept v k =
+    key-kept v k h =
         let i : ℕ = listNumber s (keyNumber k) in
         let e : ℕ = entry s (keyNumber k) in
         by-dues (λ choose.
-        Kept (tableBytes s) t (Writes (onKey v g))
+        Kept (tableBytes s) t (Writes (ask q))
         (answering ofKey
         (choose (Reply table.Answer) (λ why. reply (answer.Refused why) t)
         (replied (layoutOf s) t (listCall (layoutOf s) (held s t) i e v)))))
         (settingsDue s ∷ shortDue s (length t) ∷ keyDue s (keyNumber k) ∷ verbDue s v)
         (λ why. stays (refused why))
-        (λ d. list-kept i e v)
+        (λ d. list-kept i e v h)
 
-    pub text-kept : (v : Verb) (x : List ℕ) → Kept (tableBytes s) t (Writes (onKey v g)) (answering (λ a. ofKey (a .answer)) (textCall s t v x))
+    text-kept : (v : Verb) (x : List ℕ) → verbAsked q ≡ v → Kept (tableBytes s) t (Writes (ask q)) (answering ofKey (tableCall s t (byText v x)))
     unfolding textCall
-    text-kept v x =
+    text-kept v x h =
         let k : Key = keyRead (readingOf x) in
         by-dues (λ choose.
-        Kept (tableBytes s) t (Writes (onKey v g))
+        Kept (tableBytes s) t (Writes (ask q))
         (answering (λ a. ofKey (a .answer))
         (choose (Reply TextAnswer) (λ why. reply (forKey noKey (answer.Refused why)) t) (answering (forKey k) (keyCall s t v k)))))
         (settingsDue s ∷ shortDue s (length t) ∷ widthDue s ∷ textDue x ∷ [])
         (λ why. stays (refused why))
-        (λ d. key-kept v k)
+        (λ d. key-kept v k h)
+
+  pub ask-kept : (q : Asked) → Kept (tableBytes s) t (Writes (ask q)) (answering ofKey (tableCall s t q))
+  ask-kept (byKey v k) = key-kept (byKey v k) v k refl
+  ask-kept (byText v x) = text-kept (byText v x) v x refl
 
 -- Marks and text buffers --------------------------------------------------------------------------------------------------------
 

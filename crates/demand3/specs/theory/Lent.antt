@@ -28,7 +28,8 @@ use Rattle.plain_set.specs.theory.Refusals.{legalCall, key-refused, none-due}
 use Rattle.settings.specs.theory.Dues.{by-dues}
 use Rattle.plain_set.specs.theory.Agree.{Agree}
 use Rattle.plain_set.specs.theory.Longer.{bytes-take, bytes-drop, agree-append, agree-front}
-use Rattle.demand3.specs.Claim.{Asked, byKey, byText, Lending, tableCall, memoryAfter, asRead, given, setAfter}
+use Rattle.text_calls.specs.Asked.{Asked, byKey, byText, tableCall}
+use Rattle.demand3.specs.Claim.{Lending, memoryAfter, asRead, given, setAfter}
 use Rattle.demand3.specs.theory.KeySteps.{Follows, legal-follows}
 
 -- Keys and texts -------------------------------------------------------------------------------------------------------------

@@ -12,7 +12,8 @@ use Rattle.text_read.specs.Answers.{readingOf}
 use Rattle.text_calls.specs.TextCalls.{textCall}
 use Rattle.plain_set.specs.Set.{Answer}
 use Rattle.plain_set.specs.Plain.{plain}
-use Rattle.demand3.specs.Claim.{Asked, byText, Lending, tableCall, memoryAfter}
+use Rattle.text_calls.specs.Asked.{Asked, byText, tableCall}
+use Rattle.demand3.specs.Claim.{Lending, memoryAfter}
 
 -- Lists of calls that differ only in spellings ----------------------------------------------------------------------------------
 

@@ -37,7 +37,7 @@ use Rattle.program_answers.specs.Outcome.{verbOf, commandCall}
 use Rattle.program_answers.specs.Answer.{answerText, commandReply}
 use Rattle.program_answers.specs.theory.Applies.{text-key, text-unread}
 use Rattle.plain_set.specs.Plain.{plain}
-use Rattle.demand3.specs.Claim.{byText, tableCall}
+use Rattle.text_calls.specs.Asked.{byText, tableCall}
 use Rattle.program_set.specs.Claim.{keyNamed, comparedOn, printed}
 
 -- `compared` is counted on the key's list, on any table ------------------------------------------------------------------------

@@ -38,7 +38,8 @@ use Rattle.plain_set.specs.Set.{Call, refused, lookup, noVacantSlot, listLength
 use Rattle.plain_set.specs.Plain.{plain}
 use Rattle.plain_set.specs.theory.Agree.{Agree, agree-holds}
 use Rattle.plain_set.specs.theory.Start.{new-agree}
-use Rattle.demand3.specs.Claim.{Asked, byText, tableCall, given}
+use Rattle.text_calls.specs.Asked.{Asked, byText, tableCall}
+use Rattle.demand3.specs.Claim.{given}
 use Rattle.demand3.specs.theory.Lent.{lent-follows}
 use Rattle.program_set.specs.Claim.{callOf, commandStep, lineStep, keyNamed, printed, Behaves, setLines, Line, says, refuses-text, refuses-label, refuses-block, refuses-line}
 use Rattle.program_set.specs.theory.Printed.{command-printed}
