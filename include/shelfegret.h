@@ -1,9 +1,9 @@
 /* Shelfegret: a block list of IPv6 addresses, each with a label, bit-packed into memory that the caller lends.
  *
- * The library keeps nothing between calls: no allocation, no global state. Every call takes the settings and the
- * lent bytes, checks both, and answers with one struct. Whatever is passed, a call ends, stays within the buffers
- * that it is lent, and answers or refuses with a number; a refused call changes no lent byte. Each call's contract
- * is proved; docs/ARCHITECTURE.md says where.
+ * The library keeps nothing between calls: no allocation, no global state. A call on a table takes the settings and
+ * the lent bytes, and checks both; every call answers with one struct. Whatever is passed, a call ends, stays within
+ * the buffers that it is lent, and answers or refuses with a number; a refused call changes no lent byte. Each call's
+ * contract is proved; docs/ARCHITECTURE.md in the source says where.
  *
  * A buffer is a pointer and its length in bytes. The pointer may be NULL only if the length is 0. Buffers that one
  * call takes must not overlap. Calls on one table must not run at the same time, unless none of them writes to it.
@@ -122,7 +122,7 @@ struct shelfegret_answer shelfegret_find_text(struct shelfegret_settings setting
 struct shelfegret_answer shelfegret_delete_text(struct shelfegret_settings settings, uint8_t *table, size_t len,
                                                 const uint8_t *text, size_t text_len);
 
-/* Reads an address as RFC 4291, section 2.2, gives it, into key. Refuses 4. */
+/* Reads an address as RFC 4291, section 2.2, gives it, decimals without leading zeros, into key. Refuses 4. */
 struct shelfegret_answer shelfegret_read_text(const uint8_t *text, size_t text_len);
 
 /* Writes the address in RFC 5952 form, at most 39 bytes, without a terminator; number is its length, and the rest of

@@ -53,7 +53,7 @@ answerReply key a =
 abbrev pub textReply : TextAnswer → Answer
 textReply a = answerReply (a .key) (a .answer)
 
--- clause 6.9; the words from 5 on are those of record and check
+-- clauses 6.9 and 6.14; the words from 5 on are those of record and check
 abbrev pub recordReply : RecordAnswer → Answer
 recordReply (recording.Record key label) = saying 5 key label 0
 recordReply recording.None = saying (wordNumber word.None) noKey 0 0

@@ -11,7 +11,7 @@ use Rattle.table.specs.declared.answers.Word.the-variants as word
 abbrev pub said : Word → ℕ → ℕ → Answer
 said w label compared = answer.Said label w compared
 
--- the words, numbered; 0 is none
+-- clause 6.14: the words, numbered; 0 is no word
 abbrev pub wordNumber : Word → ℕ
 wordNumber word.Added = 1
 wordNumber word.Held = 2

@@ -16,6 +16,6 @@ module _ (g : Layout) where
   unfoldable pub newState : State
   newState = mkState 0 (tabulate (g .lists) (λ i. emptyBasic)) (tabulate (g .nob) newOverflow)
 
-  -- the new table in the lent bytes t: the fill is zero (4.7), bytes behind the size stay (6.2)
+  -- the new table in the lent bytes t: the fill is zero (clause 4.7), bytes behind the size stay (clause 6.13)
   unfoldable pub newBytes : List ℕ → List ℕ
   newBytes t = written g (cleared (g .bytes) t) newState

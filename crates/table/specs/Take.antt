@@ -34,6 +34,6 @@ module _ (g : Layout) where
   abbrev pub linkFree : ℕ → ℕ → ℕ
   linkFree f l = cond (eqb f (g .nob)) l f
 
-  -- clause 5.4: block j at the front of the free chain, zeroed
+  -- clause 5.4: block l at the front of the free chain, zeroed
   abbrev pub freed : ℕ → State → State
   freed l st = withFree l (overOverflow l (λ o. emptyBlock g (linkFree (st .free) l)) st)
