@@ -54,7 +54,8 @@ pub record Stands (s : State) (buf t : List ℕ) : Type 0 where
   pub stops : s .go ≡ false → (s .ended ≡ true) ⊎ Erred
   pub placed : Placed s buf
 
--- `run`: for the pieces that reads have given, writes have taken all that is due; or the beginning of it, if there was an error
+-- `run`: for pieces that reads have given, writes have taken all that is due; or the beginning of it, if there was an error. That these are all the
+-- pieces is the loop's invariant, and not said here
 pub data Ran : Type 0 where
   whole : (pieces : List (List ℕ)) → Given pieces → Taken (programOutput (joined pieces)) → Ran
   stopped : (pieces : List (List ℕ)) (v u : List ℕ) → Erred → Given pieces → Taken v → v ++ u ≡ programOutput (joined pieces) → Ran

@@ -1,7 +1,9 @@
--- What reads give and writes take. No contract of the kit says which bytes these are, and no value of the program holds them all. So `Given` and `Taken`
--- are shut: only the rules below lead to them. Of these the proof of `read_once` alone cites `given-more`, and that of `write_once` alone `taken-more`:
--- who knows what read and write do sees in these two functions, of one call each, that the words mean what they say. Of bytes that neither function has
--- been called with, the words cannot be said. They do not say how often a call was made, nor that nothing else was read or written.
+-- Words for what reads give and writes take. No contract of the kit says which bytes these are, and no value of the program holds them all. So `Given`
+-- and `Taken` are shut: outside this file only the rules below lead to them. `given-more` is cited by the proof of `read_once` alone, `taken-more` by that
+-- of `write_once` alone, the beginnings and `erred` by the proofs that tests/run lists: who knows what read and write do sees in these two functions, of
+-- one call each, that the words mean what they say. What they do not say: that nothing else was read or written, how often and in which order calls were
+-- made, that the input has ended. And they are never used up: a contract that only says that there are such pieces and bytes can be met with none. What
+-- holds the loop is its invariant, `Stands`, which the proof of `answer_input` carries from call to call, and the equations `Answered` and `Read`.
 use Prim.Native.Nat.{ℕ}
 use mathlib.Core.Path.{_≡_}
 use mathlib.Core.Bool.{Bool, true, false}
@@ -9,11 +11,11 @@ use mathlib.Core.List.{List, [], _∷_, _++_}
 use lib.ListN.{take}
 use lib.IntN.{ℤ, pos, negsuc}
 
--- reads of standard input have given these pieces, one after the other
+-- reads of standard input have given these pieces
 pub Given : List (List ℕ) → Type 0
 Given cs = Unit
 
--- writes to standard output have taken these bytes, one after the other
+-- writes to standard output have taken these bytes
 pub Taken : List ℕ → Type 0
 Taken w = Unit
 

@@ -26,4 +26,5 @@ pub mod Stored
 pub mod Longer
 pub mod StateSteps
 pub mod Start
+pub mod Answers
 pub mod Nth

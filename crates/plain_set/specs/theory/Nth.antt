@@ -1,40 +1,34 @@
 -- Record n of a table without damage is the nth of the pairs that are rebuilt from it, and beyond the last it is "none".
 use mathlib.Core.Path.{_≡_, refl, sym, ap, _∙_}
 use mathlib.Core.Logic.{_≢_}
-use mathlib.Core.Bool.{true, cond, not}
+use mathlib.Core.Bool.{true}
 use mathlib.Core.List.{List, [], _∷_, _++_}
 use mathlib.Core.Option.{Option, none, some}
 use Prim.Native.Nat.{ℕ, zero, suc, _-_, _≤_, _<_}
 use native.Mathlib.Omega.{arith}
 use lib.ListN.{length, getD}
-use lib.Dec.{ltb, leb}
+use lib.Dec.{ltb}
 use borrow.Author.Tests.{ltb-true, ltb-false, le-leb}
 use Rattle.laws.specs.Cases.{cases}
 use Rattle.laws.specs.Options.{nothing}
 use Rattle.settings.specs.declared.settings.Settings.{Settings}
-use Rattle.settings.specs.declared.refusal.Refusal.{Refusal}
-use Rattle.settings.specs.declared.refusal.Refusal.the-variants as refusal
 use Rattle.settings.specs.Sizes.{tableBytes}
-use Rattle.settings.specs.Legal.{legal, Legal}
+use Rattle.settings.specs.Legal.{Legal}
 use Rattle.settings.specs.Layout.{layoutOf}
-use Rattle.settings.specs.Due.{due, settingsDue, shortDue}
-use Rattle.settings.specs.Reply.{Reply, reply}
 use Rattle.settings.specs.theory.Legal.{legal-if}
-use Rattle.settings.specs.theory.Dues.{by-dues, passed}
 use Rattle.table.specs.State.{Basic, Overflow, basicAt}
 use Rattle.table.specs.Decode.{decode}
 use Rattle.table.specs.Follow.{Content, contentOf, content}
 use Rattle.table.specs.Record.{recordOf, recordFrom, recordIn}
 use Rattle.plain_set.specs.Rebuilt.{Pair, pair, pairsOf, rebuiltFrom, rebuiltPairs}
 use Rattle.table.specs.Calls.{recordCall, checkCall}
-use Rattle.table.specs.Check.{tableSound, markBytes, marksAfter}
+use Rattle.table.specs.Check.{tableSound}
 use Rattle.table.specs.theory.Formed.{decode-formed}
-use Rattle.table.specs.theory.FormedCalls.{either}
 use Rattle.table.specs.theory.Sound.{test-sound}
 use Rattle.table.specs.declared.answers.RecordAnswer.the-variants as answer
-use Rattle.table.specs.declared.answers.CheckAnswer.{CheckAnswer}
 use Rattle.table.specs.declared.answers.CheckAnswer.the-variants as checking
 use Rattle.plain_set.specs.Nth.{recordOfPair, nthRecord, Undamaged}
+use Rattle.plain_set.specs.theory.Answers.{sound-opened}
 
 -- The nth of some pairs --------------------------------------------------------------------------------------------------------
 
@@ -103,37 +97,10 @@ module _ (s : Settings) (t : List ℕ) where
   unfolding recordCall
   record-nth right room u n = rw (legal-if s right, le-leb (tableBytes s) (length t) room) (record-in-nth u n)
 
-  -- what check's answer tells of settings and bytes
-  record Checked : Type 0 where
-    lawful : legal s ≡ true
-    room : leb (tableBytes s) (length t) ≡ true
-    sound : tableSound (layoutOf s) t ≡ true
-
-  refused-sound : (why : Refusal) → checking.Refused why ≡ checking.Sound → Checked
-  refused-sound why e = absurd (let z : _≡_ {A = ℕ} 0 1 = cc in omega arith)
-
-  unsound-sound : checking.Unsound ≡ checking.Sound → Checked
-  unsound-sound e = absurd (let z : _≡_ {A = ℕ} 0 1 = cc in omega arith)
-
-  checked : (m : List ℕ) → checkCall s t m .answer ≡ checking.Sound → Checked
-  unfolding checkCall
-  checked m =
-      by-dues (λ choose.
-      choose (Reply CheckAnswer) (λ why. reply (checking.Refused why) m)
-      (reply (cond (tableSound (layoutOf s) t) checking.Sound checking.Unsound) (marksAfter (layoutOf s) m)) .answer
-      ≡ checking.Sound → Checked)
-      (settingsDue s ∷ shortDue s (length t) ∷ due (not (leb (markBytes (layoutOf s)) (length m))) refusal.Marks ∷ [])
-      (λ why e. refused-sound why e)
-      (λ d.
-      either (λ (a : CheckAnswer). a ≡ checking.Sound → Checked) (tableSound (layoutOf s) t)
-      (λ q e. record { lawful = passed (d .0); room = passed (d .1 .0); sound = q })
-      (λ q e. unsound-sound e))
-
   undamaged : tableSound (layoutOf s) t ≡ true → Undamaged (layoutOf s) (decode (layoutOf s) t)
   undamaged e i h n = nothing (sym n ∙ test-sound (layoutOf s) e .state .undamaged i h)
 
   -- and so on every table that check finds sound, whatever marks it was lent
   pub sound-record-nth : (m : List ℕ) → checkCall s t m .answer ≡ checking.Sound → (n : ℕ)
       → recordCall s t n ≡ nthRecord (rebuiltPairs s (decode (layoutOf s) t)) n
-  unfolding recordCall
-  sound-record-nth m e n = let c = checked m e in rw (c .lawful, c .room) (record-in-nth (undamaged (c .sound)) n)
+  sound-record-nth m e n = let o = sound-opened s t m e in record-nth (o .0 .right) (o .0 .room) (undamaged (o .1)) n
