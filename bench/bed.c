@@ -24,7 +24,7 @@ static void fill(Bed *bed, unsigned n)
         Key key = random_key(bed->settings.w);
         Answer a[LIBRARIES];
         for (int k = 0; k < LIBRARIES; k++)
-            a[k] = libraries[k].add(bed->settings, bed->table[k], bed->size, key, label_of(bed, bed->n));
+            a[k] = libraries[k].enter(bed->settings, bed->table[k], bed->size, key, label_of(bed, bed->n));
         if (memcmp(&a[PRODUCT], &a[BASELINE], sizeof a[PRODUCT]) != 0) fail("the answers differ");
         if (a[PRODUCT].word == SHELFEGRET_ADDED) bed->in[bed->n++] = key;
         if (tries > 2 * n) fail("the table is too small");
@@ -84,11 +84,18 @@ static inline void find_all(Bed *bed, int k, const Key *keys, int late)
         bed->got[k][i] = libraries[k].find(settings_of(bed, late), bed->table[k], bed->size, keys[i]);
 }
 
-static inline void add_all(Bed *bed, int k, unsigned at, int late)
+static inline void enter_all(Bed *bed, int k, unsigned at, int late)
 {
     for (unsigned i = 0; i < CHUNK; i++)
-        bed->got[k][i] = libraries[k].add(settings_of(bed, late), bed->table[k], bed->size, bed->in[at + i],
-                                          label_of(bed, at + i));
+        bed->got[k][i] = libraries[k].enter(settings_of(bed, late), bed->table[k], bed->size, bed->in[at + i],
+                                            label_of(bed, at + i));
+}
+
+static inline void relabel_all(Bed *bed, int k, unsigned at, int late)
+{
+    for (unsigned i = 0; i < CHUNK; i++)
+        bed->got[k][i] = libraries[k].relabel(settings_of(bed, late), bed->table[k], bed->size, bed->in[at + i],
+                                              bed->labels[i]);
 }
 
 static inline void delete_all(Bed *bed, int k, unsigned at, int late)
@@ -99,18 +106,28 @@ static inline void delete_all(Bed *bed, int k, unsigned at, int late)
 
 void op_find_hit(Bed *bed, int k, unsigned at) { find_all(bed, k, bed->in + at, 0); }
 void op_find_miss(Bed *bed, int k, unsigned at) { find_all(bed, k, bed->out + at, 0); }
-void op_add(Bed *bed, int k, unsigned at) { add_all(bed, k, at, 0); }
+void op_enter(Bed *bed, int k, unsigned at) { enter_all(bed, k, at, 0); }
+void op_relabel(Bed *bed, int k, unsigned at) { relabel_all(bed, k, at, 0); }
 void op_delete(Bed *bed, int k, unsigned at) { delete_all(bed, k, at, 0); }
 
 void late_find_hit(Bed *bed, int k, unsigned at) { find_all(bed, k, bed->in + at, 1); }
 void late_find_miss(Bed *bed, int k, unsigned at) { find_all(bed, k, bed->out + at, 1); }
-void late_add(Bed *bed, int k, unsigned at) { add_all(bed, k, at, 1); }
+void late_enter(Bed *bed, int k, unsigned at) { enter_all(bed, k, at, 1); }
+void late_relabel(Bed *bed, int k, unsigned at) { relabel_all(bed, k, at, 1); }
 void late_delete(Bed *bed, int k, unsigned at) { delete_all(bed, k, at, 1); }
 
 void op_check(Bed *bed, int k, unsigned at)
 {
     (void)at;
     bed->got[k][0] = libraries[k].check(bed->settings, bed->table[k], bed->size, bed->marks, bed->marks_size);
+}
+
+void draw_labels(Bed *bed, int k, unsigned at)
+{
+    (void)at;
+    if (k != PRODUCT) return; /* once for both */
+    for (unsigned i = 0; i < CHUNK; i++)
+        bed->labels[i] = bed->settings.val == 0 ? 0 : random_bits() >> (64 - bed->settings.val);
 }
 
 static void run_both(Bed *bed, Operation *operation, unsigned at)

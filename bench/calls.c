@@ -23,15 +23,16 @@ static const struct {
 };
 enum { TABLES = sizeof tables / sizeof tables[0] };
 
-/* An add needs its keys out of the table first, and a delete puts them back. */
+/* An enter needs its keys out of the table first, a relabel new labels, and after a delete the keys come back. */
 static const struct {
     const char *name;
     Operation *before, *timed, *late, *after;
 } operations[] = {
     { "find, hit", NULL, op_find_hit, late_find_hit, NULL },
     { "find, miss", NULL, op_find_miss, late_find_miss, NULL },
-    { "add", op_delete, op_add, late_add, NULL },
-    { "delete", NULL, op_delete, late_delete, op_add },
+    { "enter", op_delete, op_enter, late_enter, NULL },
+    { "relabel", draw_labels, op_relabel, late_relabel, NULL },
+    { "delete", NULL, op_delete, late_delete, op_enter },
     { "check, an entry", NULL, op_check, NULL, NULL },
 };
 enum { OPERATIONS = sizeof operations / sizeof operations[0] };
@@ -75,7 +76,7 @@ static void time_all(unsigned rounds, int late)
 
 enum { COUNTED = 20 };
 
-/* The chunks are spread over all keys, since those added early stand first in their lists. */
+/* The chunks are spread over all keys, since those entered early stand first in their lists. */
 static void count(int library, const char *name)
 {
     for (unsigned t = 0; t < TABLES; t++) {
@@ -86,7 +87,9 @@ static void count(int library, const char *name)
             op_find_hit(bed, library, at);
             op_find_miss(bed, library, at);
             op_delete(bed, library, at);
-            op_add(bed, library, at);
+            op_enter(bed, library, at);
+            draw_labels(bed, PRODUCT, at);
+            op_relabel(bed, library, at);
         }
         op_check(bed, library, 0);
         printf("calls %u\nentries %u\n", COUNTED * CHUNK, bed->n);

@@ -9,7 +9,8 @@
 /* The baseline's calls, which bench/run renames so that both libraries fit into one program. */
 Answer baseline_size(Settings);
 Answer baseline_make(Settings, uint8_t *, size_t);
-Answer baseline_add(Settings, uint8_t *, size_t, Key, uint64_t);
+Answer baseline_enter(Settings, uint8_t *, size_t, Key, uint64_t);
+Answer baseline_relabel(Settings, uint8_t *, size_t, Key, uint64_t);
 Answer baseline_find(Settings, const uint8_t *, size_t, Key);
 Answer baseline_delete(Settings, uint8_t *, size_t, Key);
 Answer baseline_check(Settings, const uint8_t *, size_t, uint8_t *, size_t);
@@ -18,10 +19,10 @@ Answer baseline_read_text(const uint8_t *, size_t);
 Answer baseline_write_text(Key, uint8_t *, size_t);
 
 const Library libraries[LIBRARIES] = {
-    { "product", shelfegret_size, shelfegret_make, shelfegret_add, shelfegret_find, shelfegret_delete,
-      shelfegret_check, shelfegret_find_text, shelfegret_read_text, shelfegret_write_text },
-    { "baseline", baseline_size, baseline_make, baseline_add, baseline_find, baseline_delete,
-      baseline_check, baseline_find_text, baseline_read_text, baseline_write_text },
+    { "product", shelfegret_size, shelfegret_make, shelfegret_enter, shelfegret_relabel, shelfegret_find,
+      shelfegret_delete, shelfegret_check, shelfegret_find_text, shelfegret_read_text, shelfegret_write_text },
+    { "baseline", baseline_size, baseline_make, baseline_enter, baseline_relabel, baseline_find,
+      baseline_delete, baseline_check, baseline_find_text, baseline_read_text, baseline_write_text },
 };
 
 int library_named(const char *name)

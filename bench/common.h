@@ -19,7 +19,8 @@ typedef struct {
     const char *name;
     Answer (*size)(Settings);
     Answer (*make)(Settings, uint8_t *, size_t);
-    Answer (*add)(Settings, uint8_t *, size_t, Key, uint64_t);
+    Answer (*enter)(Settings, uint8_t *, size_t, Key, uint64_t);
+    Answer (*relabel)(Settings, uint8_t *, size_t, Key, uint64_t);
     Answer (*find)(Settings, const uint8_t *, size_t, Key);
     Answer (*remove)(Settings, uint8_t *, size_t, Key);
     Answer (*check)(Settings, const uint8_t *, size_t, uint8_t *, size_t);

@@ -9,7 +9,8 @@ quick = sys.argv[2:] == ["quick"]
 CALLS = {
     "op_find_hit": "find, hit",
     "op_find_miss": "find, miss",
-    "op_add": "add",
+    "op_enter": "enter",
+    "op_relabel": "relabel",
     "op_delete": "delete",
     "op_check": "check, an entry",
     "op_find_text_hit": "find_text, hit",

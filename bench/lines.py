@@ -1,5 +1,5 @@
-"""lines.py N SEED [rough]: N lines for the program: 20 % add, 15 % delete, 65 % find, over 900 addresses in several
-spellings. With "rough", one line in ten is broken in some way."""
+"""lines.py N SEED [rough]: N lines for the program: 20 % enter, 15 % delete, 65 % find, over 900 addresses in several
+spellings. With "rough", one find in five is a relabel, and one line in ten is broken in some way."""
 import ipaddress
 import random
 import sys
@@ -27,11 +27,15 @@ def spelling(key):
     return ":".join("%x" % (key >> 112 - 16 * i & 65535) for i in range(8))
 
 
+def labelled(command, key):
+    return "%s %s %d" % (command, spelling(key), random.randrange(256))
+
+
 def broken(line):
     r = random.randrange(6)
     at = random.randrange(len(line) + 1)
     if r == 0:
-        return line[:at] + random.choice(" :.\t\r\0gF09+-?") + line[at:]
+        return line[:at] + random.choice(" :.\t\r\0gF09+-=?") + line[at:]
     if r == 1:
         return line[:at] + line[at + 1:]
     if r == 2:
@@ -40,7 +44,7 @@ def broken(line):
         return line + " " + str(random.randrange(1100))
     if r == 4:
         return line + random.choice("0 :") * random.randrange(40)
-    return random.choice("+-? x") * random.randrange(70)
+    return random.choice("+-=? x") * random.randrange(70)
 
 
 keys = [address() for _ in range(900)]
@@ -48,9 +52,11 @@ for _ in range(count):
     key = random.choice(keys)
     r = random.random()
     if r < 0.2:
-        line = "+ %s %d" % (spelling(key), random.randrange(256))
+        line = labelled("+", key)
     elif r < 0.35:
         line = "- " + spelling(key)
+    elif rough and r < 0.48:
+        line = labelled("=", key)
     else:
         line = "? " + spelling(key)
     if rough and random.random() < 0.1:

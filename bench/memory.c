@@ -1,4 +1,4 @@
-/* Memory: how many random keys a table holds when an add is first refused 8, and what an entry costs then.
+/* Memory: how many random keys a table holds when an enter is first refused 8, and what an entry costs then.
  *   memory ipv6 ROUNDS    the program's table, and the smallest found for some numbers of addresses
  *   memory paper          Table 1 of Geldenhuys and Valmari, as far as it has 10 and 100 thousand bytes and w above 24
  *   memory find N BII     the smallest table found for N addresses in 2^BII lists */
@@ -22,18 +22,20 @@ static size_t size_of(Settings s)
     return libraries[PRODUCT].size(s).number; /* 0 if the settings are refused */
 }
 
-/* Adds random keys to the tables of the first `sides` libraries; the number held when one is refused. */
+/* Enters random keys into the tables of the first `sides` libraries; the number held when one is refused 8. Short keys
+ * come again, and then are known. */
 static unsigned fill(Settings s, uint8_t *table[], size_t size, int sides)
 {
     for (int k = 0; k < sides; k++) libraries[k].make(s, table[k], size);
     for (unsigned n = 0;;) {
         Key key = random_key(s.w);
         Answer a[LIBRARIES];
-        for (int k = 0; k < sides; k++) a[k] = libraries[k].add(s, table[k], size, key, 0);
+        for (int k = 0; k < sides; k++) a[k] = libraries[k].enter(s, table[k], size, key, 0);
         if (sides > 1 && memcmp(&a[PRODUCT], &a[BASELINE], sizeof a[PRODUCT]) != 0) fail("the answers differ");
         if (a[PRODUCT].code == SHELFEGRET_REFUSED_FULL) return n;
-        if (a[PRODUCT].code != 0) fail("an add is refused, and the table is not full");
-        if (a[PRODUCT].word == SHELFEGRET_ADDED) n++;
+        if (a[PRODUCT].code == SHELFEGRET_REFUSED_KNOWN) continue;
+        if (a[PRODUCT].word != SHELFEGRET_ADDED) fail("an enter is refused, and the table is not full");
+        n++;
     }
 }
 

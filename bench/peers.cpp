@@ -155,7 +155,7 @@ public:
     {
         shelfegret_make(settings, table.data(), table.size());
         for (size_t i = 0; i < e.keys.size(); i++) {
-            Answer a = shelfegret_add(settings, table.data(), table.size(), e.keys[i], (uint64_t)e.labels[i]);
+            Answer a = shelfegret_enter(settings, table.data(), table.size(), e.keys[i], (uint64_t)e.labels[i]);
             if (a.word != SHELFEGRET_ADDED) fail("the product's table is too small");
         }
     }

@@ -35,40 +35,48 @@ static uint8_t *top; /* the first byte above the return address */
 #pragma GCC diagnostic ignored "-Wunused-parameter"
 STUB(stub_size, settings s)
 STUB(stub_make, settings s, uint8_t *t, size_t n)
-STUB(stub_add, settings s, uint8_t *t, size_t n, key k, uint64_t l)
+STUB(stub_enter, settings s, uint8_t *t, size_t n, key k, uint64_t l)
+STUB(stub_relabel, settings s, uint8_t *t, size_t n, key k, uint64_t l)
 STUB(stub_find, settings s, const uint8_t *t, size_t n, key k)
 STUB(stub_delete, settings s, uint8_t *t, size_t n, key k)
 STUB(stub_record, settings s, const uint8_t *t, size_t n, uint64_t i)
 STUB(stub_check, settings s, const uint8_t *t, size_t n, uint8_t *m, size_t mn)
-STUB(stub_add_text, settings s, uint8_t *t, size_t n, const uint8_t *x, size_t xn, uint64_t l)
+STUB(stub_enter_text, settings s, uint8_t *t, size_t n, const uint8_t *x, size_t xn, uint64_t l)
+STUB(stub_relabel_text, settings s, uint8_t *t, size_t n, const uint8_t *x, size_t xn, uint64_t l)
 STUB(stub_find_text, settings s, const uint8_t *t, size_t n, const uint8_t *x, size_t xn)
 STUB(stub_delete_text, settings s, uint8_t *t, size_t n, const uint8_t *x, size_t xn)
 STUB(stub_read_text, const uint8_t *x, size_t xn)
 STUB(stub_write_text, key k, uint8_t *o, size_t on)
 
-enum { SIZE, MAKE, ADD, FIND, DELETE, RECORD, CHECK, ADD_TEXT, FIND_TEXT, DELETE_TEXT, READ_TEXT, WRITE_TEXT, CALLS };
-static const char *const names[CALLS] = {"size",  "make",     "add",       "find",        "delete",    "record",
-                                         "check", "add_text", "find_text", "delete_text", "read_text", "write_text"};
+enum {
+    SIZE, MAKE, ENTER, RELABEL, FIND, DELETE, RECORD, CHECK,
+    ENTER_TEXT, RELABEL_TEXT, FIND_TEXT, DELETE_TEXT, READ_TEXT, WRITE_TEXT, CALLS
+};
+static const char *const names[CALLS] = {
+    "size",       "make",         "enter",     "relabel",     "find",      "delete",    "record", "check",
+    "enter_text", "relabel_text", "find_text", "delete_text", "read_text", "write_text"};
 
 static const struct {
     answer (*size)(settings);
     answer (*make)(settings, uint8_t *, size_t);
-    answer (*add)(settings, uint8_t *, size_t, key, uint64_t);
+    answer (*enter)(settings, uint8_t *, size_t, key, uint64_t);
+    answer (*relabel)(settings, uint8_t *, size_t, key, uint64_t);
     answer (*find)(settings, const uint8_t *, size_t, key);
     answer (*delete)(settings, uint8_t *, size_t, key);
     answer (*record)(settings, const uint8_t *, size_t, uint64_t);
     answer (*check)(settings, const uint8_t *, size_t, uint8_t *, size_t);
-    answer (*add_text)(settings, uint8_t *, size_t, const uint8_t *, size_t, uint64_t);
+    answer (*enter_text)(settings, uint8_t *, size_t, const uint8_t *, size_t, uint64_t);
+    answer (*relabel_text)(settings, uint8_t *, size_t, const uint8_t *, size_t, uint64_t);
     answer (*find_text)(settings, const uint8_t *, size_t, const uint8_t *, size_t);
     answer (*delete_text)(settings, uint8_t *, size_t, const uint8_t *, size_t);
     answer (*read_text)(const uint8_t *, size_t);
     answer (*write_text)(key, uint8_t *, size_t);
 } volatile ways[2] = {
-    {stub_size, stub_make, stub_add, stub_find, stub_delete, stub_record, stub_check, stub_add_text, stub_find_text,
-     stub_delete_text, stub_read_text, stub_write_text},
-    {shelfegret_size, shelfegret_make, shelfegret_add, shelfegret_find, shelfegret_delete, shelfegret_record,
-     shelfegret_check, shelfegret_add_text, shelfegret_find_text, shelfegret_delete_text, shelfegret_read_text,
-     shelfegret_write_text},
+    {stub_size, stub_make, stub_enter, stub_relabel, stub_find, stub_delete, stub_record, stub_check, stub_enter_text,
+     stub_relabel_text, stub_find_text, stub_delete_text, stub_read_text, stub_write_text},
+    {shelfegret_size, shelfegret_make, shelfegret_enter, shelfegret_relabel, shelfegret_find, shelfegret_delete,
+     shelfegret_record, shelfegret_check, shelfegret_enter_text, shelfegret_relabel_text, shelfegret_find_text,
+     shelfegret_delete_text, shelfegret_read_text, shelfegret_write_text},
 };
 
 static struct {
@@ -88,12 +96,14 @@ static void ask(void)
     switch (now.what) {
     case SIZE: last = ways[way].size(now.s); break;
     case MAKE: last = ways[way].make(now.s, t, now.size); break;
-    case ADD: last = ways[way].add(now.s, t, now.size, now.k, now.label); break;
+    case ENTER: last = ways[way].enter(now.s, t, now.size, now.k, now.label); break;
+    case RELABEL: last = ways[way].relabel(now.s, t, now.size, now.k, now.label); break;
     case FIND: last = ways[way].find(now.s, t, now.size, now.k); break;
     case DELETE: last = ways[way].delete(now.s, t, now.size, now.k); break;
     case RECORD: last = ways[way].record(now.s, t, now.size, now.n); break;
     case CHECK: last = ways[way].check(now.s, t, now.size, marks, sizeof marks); break;
-    case ADD_TEXT: last = ways[way].add_text(now.s, t, now.size, text, now.text_len, now.label); break;
+    case ENTER_TEXT: last = ways[way].enter_text(now.s, t, now.size, text, now.text_len, now.label); break;
+    case RELABEL_TEXT: last = ways[way].relabel_text(now.s, t, now.size, text, now.text_len, now.label); break;
     case FIND_TEXT: last = ways[way].find_text(now.s, t, now.size, text, now.text_len); break;
     case DELETE_TEXT: last = ways[way].delete_text(now.s, t, now.size, text, now.text_len); break;
     case READ_TEXT: last = ways[way].read_text(text, now.text_len); break;
@@ -172,8 +182,8 @@ static void new_table(void)
 
 static void some_call(int damaged)
 {
-    now.what = one_in(3) ? ADD : (int)below(CALLS);
-    if (now.what == MAKE) now.what = ADD_TEXT;
+    now.what = one_in(3) ? ENTER : (int)below(CALLS);
+    if (now.what == MAKE) now.what = ENTER_TEXT;
     now.k = keys[below(KEYS)];
     now.label = random_bits() >> (64 - now.s.val) % 64;
     if (now.s.val == 0) now.label = 0;

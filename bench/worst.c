@@ -3,7 +3,7 @@
  *     worst           some seconds
  *     worst whole     with the check of the longest list to its end: some hours
  *
- * The tables with long lists are written bit by bit, as docs/SPECIFICATION.md gives the format, since adding so many
+ * The tables with long lists are written bit by bit, as docs/SPECIFICATION.md gives the format, since entering so many
  * entries to one list would take as long as the check. Times are the processor's for one call, the least of several
  * where it is short. */
 #include <stdio.h>
@@ -219,7 +219,7 @@ static void filled(const char *name, settings given, uint64_t n)
     expect(shelfegret_make(s, table, size).code == 0, "the settings are refused");
     for (uint64_t i = 0; i < n; i++) {
         key k = {random_bits(), random_bits()};
-        expect(shelfegret_add(s, table, size, k, i % 256).word == SHELFEGRET_ADDED, "an address is not taken");
+        expect(shelfegret_enter(s, table, size, k, i % 256).word == SHELFEGRET_ADDED, "an address is not taken");
     }
     double took = 1e9;
     for (int i = 0; i < 5; i++) took = least(took, whole_check(SHELFEGRET_SOUND));

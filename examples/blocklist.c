@@ -14,9 +14,10 @@ static const struct shelfegret_settings settings = {
 static uint8_t table[1464]; /* what shelfegret_size asks for; the library uses no other memory */
 static uint8_t marks[1];    /* scratch for check: a bit for each shared block */
 
-static const char *const words[] = {"-", "added", "held", "gone", "none", "record", "sound", "unsound"};
-static const char *const refusals[] = {"-",     "settings", "short", "width",  "text", "key",
-                                       "label", "damage",   "full",  "output", "marks"};
+static const char *const words[] = {"-",      "added", "held",    "gone",      "none",
+                                    "record", "sound", "unsound", "relabelled"};
+static const char *const refusals[] = {"-",      "settings", "short",  "width", "text", "key", "label",
+                                       "damage", "full",     "output", "marks", "-",    "known"};
 
 /* Prints an address. The library writes it into our buffer, without a terminator. */
 static void print_address(struct shelfegret_key key)
@@ -40,7 +41,13 @@ static void print_answer(struct shelfegret_answer answer)
 static void block(const char *text, uint64_t label)
 {
     printf("block %s -> ", text);
-    print_answer(shelfegret_add_text(settings, table, sizeof table, (const uint8_t *)text, strlen(text), label));
+    print_answer(shelfegret_enter_text(settings, table, sizeof table, (const uint8_t *)text, strlen(text), label));
+}
+
+static void relabel(const char *text, uint64_t label)
+{
+    printf("relabel %s -> ", text);
+    print_answer(shelfegret_relabel_text(settings, table, sizeof table, (const uint8_t *)text, strlen(text), label));
 }
 
 static void unblock(const char *text)
@@ -87,9 +94,10 @@ int main(void)
     printf("size: %u bytes, %u lent\n", (unsigned)size.number, (unsigned)sizeof table);
     if (size.code != 0 || shelfegret_make(settings, table, sizeof table).code != 0) return 1;
 
-    block("2001:DB8:0:0::1", 7); /* three spellings of one address: one entry, */
-    block("2001:db8::1", 8);     /* which keeps the label of the first */
-    block("2001:0db8:0000:0000:0000:0000:0.0.0.1", 9);
+    block("2001:DB8:0:0::1", 7); /* three spellings of one address: one entry */
+    block("2001:db8::1", 8);     /* refused: it is known, and keeps its label */
+    relabel("2001:0db8:0000:0000:0000:0000:0.0.0.1", 9);
+    relabel("2001:db8::2", 9);   /* one that is not blocked has no label */
     block("fe80::1", 1);
     block("::ffff:192.0.2.1", 2);
     print_all();

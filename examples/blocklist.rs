@@ -32,7 +32,12 @@ fn print_answer(result: Result<Answer, Refusal>) {
 
 fn block(table: &mut [u8], text: &str, label: u64) {
     print!("block {text} -> ");
-    print_answer(shelfegret::add_text(SETTINGS, table, text.as_bytes(), label));
+    print_answer(shelfegret::enter_text(SETTINGS, table, text.as_bytes(), label));
+}
+
+fn relabel(table: &mut [u8], text: &str, label: u64) {
+    print!("relabel {text} -> ");
+    print_answer(shelfegret::relabel_text(SETTINGS, table, text.as_bytes(), label));
 }
 
 fn unblock(table: &mut [u8], text: &str) {
@@ -68,9 +73,10 @@ fn main() -> Result<(), Refusal> {
     println!("size: {} bytes, {} lent", shelfegret::size(SETTINGS)?.number, table.len());
     shelfegret::make(SETTINGS, &mut table)?;
 
-    block(&mut table, "2001:DB8:0:0::1", 7); // three spellings of one address: one entry,
-    block(&mut table, "2001:db8::1", 8); // which keeps the label of the first
-    block(&mut table, "2001:0db8:0000:0000:0000:0000:0.0.0.1", 9);
+    block(&mut table, "2001:DB8:0:0::1", 7); // three spellings of one address: one entry
+    block(&mut table, "2001:db8::1", 8); // refused: it is known, and keeps its label
+    relabel(&mut table, "2001:0db8:0000:0000:0000:0000:0.0.0.1", 9);
+    relabel(&mut table, "2001:db8::2", 9); // one that is not blocked has no label
     block(&mut table, "fe80::1", 1);
     block(&mut table, "::ffff:192.0.2.1", 2);
     print_all(&table);

@@ -45,7 +45,7 @@ static struct shelfegret_key key_of(uint32_t list)
 
 /* ---- the salvage */
 
-/* Adds the records of `from` to `to`, up to the first that cannot be read. */
+/* Enters the records of `from` into `to`, up to the first that cannot be read; a key that `to` holds keeps its label. */
 static void copy_records(const uint8_t *from, uint8_t *to)
 {
     for (unsigned n = 0;; n++) {
@@ -54,7 +54,8 @@ static void copy_records(const uint8_t *from, uint8_t *to)
             printf("%u records, then %s\n", n, r.code == 0 ? "the end" : "refused 7");
             return;
         }
-        if (shelfegret_add(settings, to, sizeof table, r.key, r.label).code != 0) printf("record %u does not fit\n", n);
+        uint32_t code = shelfegret_enter(settings, to, sizeof table, r.key, r.label).code;
+        if (code != 0 && code != SHELFEGRET_REFUSED_KNOWN) printf("record %u does not fit\n", n);
     }
 }
 
@@ -94,7 +95,7 @@ static const char *soundness(const uint8_t *bytes)
 int main(void)
 {
     shelfegret_make(settings, table, sizeof table);
-    for (uint64_t i = 1; i <= 40; i++) shelfegret_add(settings, table, sizeof table, address(i), i);
+    for (uint64_t i = 1; i <= 40; i++) shelfegret_enter(settings, table, sizeof table, address(i), i);
     printf("%u addresses, %s\n", found(table), soundness(table));
 
     set_counter(table, 6, 7); /* no list: a counter is at most sib + 1 */

@@ -55,6 +55,7 @@ pub enum Word {
     Record,
     Sound,
     Unsound,
+    Relabelled,
 }
 
 #[derive(Clone, Copy, Debug, PartialEq, Eq)]
@@ -69,13 +70,15 @@ pub enum Refusal {
     Full,
     Output,
     Marks,
+    Known = 12, // 11 is the program's alone
 }
 
 impl Answer {
     /// What the call says; nothing where it has no word.
     pub fn word(&self) -> Option<Word> {
         use Word::*;
-        [Added, Held, Gone, None, Record, Sound, Unsound].get((self.word as usize).wrapping_sub(1)).copied()
+        let all = [Added, Held, Gone, None, Record, Sound, Unsound, Relabelled];
+        all.get((self.word as usize).wrapping_sub(1)).copied()
     }
 
     fn or_refusal(self) -> Result<Answer, Refusal> {
@@ -83,6 +86,7 @@ impl Answer {
         let all = [Settings, Short, Width, Text, Key, Label, Damage, Full, Output, Marks];
         match self.code {
             0 => Ok(self),
+            12 => Err(Known),
             code => Err(all[code as usize - 1]),
         }
     }
@@ -94,12 +98,21 @@ mod c {
     extern "C" {
         pub fn shelfegret_size(s: Settings) -> Answer;
         pub fn shelfegret_make(s: Settings, table: *mut u8, len: usize) -> Answer;
-        pub fn shelfegret_add(s: Settings, table: *mut u8, len: usize, key: Key, label: u64) -> Answer;
+        pub fn shelfegret_enter(s: Settings, table: *mut u8, len: usize, key: Key, label: u64) -> Answer;
+        pub fn shelfegret_relabel(s: Settings, table: *mut u8, len: usize, key: Key, label: u64) -> Answer;
         pub fn shelfegret_find(s: Settings, table: *const u8, len: usize, key: Key) -> Answer;
         pub fn shelfegret_delete(s: Settings, table: *mut u8, len: usize, key: Key) -> Answer;
         pub fn shelfegret_record(s: Settings, table: *const u8, len: usize, n: u64) -> Answer;
         pub fn shelfegret_check(s: Settings, table: *const u8, len: usize, marks: *mut u8, marks_len: usize) -> Answer;
-        pub fn shelfegret_add_text(
+        pub fn shelfegret_enter_text(
+            s: Settings,
+            table: *mut u8,
+            len: usize,
+            text: *const u8,
+            text_len: usize,
+            label: u64,
+        ) -> Answer;
+        pub fn shelfegret_relabel_text(
             s: Settings,
             table: *mut u8,
             len: usize,
@@ -137,8 +150,12 @@ pub fn make(s: Settings, table: &mut [u8]) -> Result<Answer, Refusal> {
     unsafe { c::shelfegret_make(s, table.as_mut_ptr(), table.len()) }.or_refusal()
 }
 
-pub fn add(s: Settings, table: &mut [u8], key: Key, label: u64) -> Result<Answer, Refusal> {
-    unsafe { c::shelfegret_add(s, table.as_mut_ptr(), table.len(), key, label) }.or_refusal()
+pub fn enter(s: Settings, table: &mut [u8], key: Key, label: u64) -> Result<Answer, Refusal> {
+    unsafe { c::shelfegret_enter(s, table.as_mut_ptr(), table.len(), key, label) }.or_refusal()
+}
+
+pub fn relabel(s: Settings, table: &mut [u8], key: Key, label: u64) -> Result<Answer, Refusal> {
+    unsafe { c::shelfegret_relabel(s, table.as_mut_ptr(), table.len(), key, label) }.or_refusal()
 }
 
 pub fn find(s: Settings, table: &[u8], key: Key) -> Result<Answer, Refusal> {
@@ -157,8 +174,14 @@ pub fn check(s: Settings, table: &[u8], marks: &mut [u8]) -> Result<Answer, Refu
     unsafe { c::shelfegret_check(s, table.as_ptr(), table.len(), marks.as_mut_ptr(), marks.len()) }.or_refusal()
 }
 
-pub fn add_text(s: Settings, table: &mut [u8], text: &[u8], label: u64) -> Result<Answer, Refusal> {
-    unsafe { c::shelfegret_add_text(s, table.as_mut_ptr(), table.len(), text.as_ptr(), text.len(), label) }.or_refusal()
+pub fn enter_text(s: Settings, table: &mut [u8], text: &[u8], label: u64) -> Result<Answer, Refusal> {
+    unsafe { c::shelfegret_enter_text(s, table.as_mut_ptr(), table.len(), text.as_ptr(), text.len(), label) }
+        .or_refusal()
+}
+
+pub fn relabel_text(s: Settings, table: &mut [u8], text: &[u8], label: u64) -> Result<Answer, Refusal> {
+    unsafe { c::shelfegret_relabel_text(s, table.as_mut_ptr(), table.len(), text.as_ptr(), text.len(), label) }
+        .or_refusal()
 }
 
 pub fn find_text(s: Settings, table: &[u8], text: &[u8]) -> Result<Answer, Refusal> {

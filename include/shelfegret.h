@@ -45,26 +45,28 @@ struct shelfegret_key {
 /* What every call answers. If code is 0 the call was accepted; else code is the refusal and all else is 0. */
 struct shelfegret_answer {
     uint32_t code;             /* 0, or SHELFEGRET_REFUSED_.. */
-    uint32_t word;             /* SHELFEGRET_ADDED .. SHELFEGRET_UNSOUND, or 0 where a call has no word */
+    uint32_t word;             /* SHELFEGRET_ADDED .. SHELFEGRET_RELABELLED, or 0 where a call has no word */
     struct shelfegret_key key; /* the key asked for, read, or recorded; 0 where a call has none */
-    uint32_t label;            /* the entry's label; 0 with NONE, and where a call has none */
-    uint32_t compared;         /* add, find, delete: entries compared, up to and including the match, or the list's
-                                  length if there is none (for ADDED, before it); else 0 */
+    uint32_t label;            /* the entry's label, with RELABELLED the one before; 0 with NONE, and where a call has
+                                  none */
+    uint32_t compared;         /* enter, relabel, find, delete: entries compared, up to and including the match, or the
+                                  list's length if there is none (with ADDED, before it); else 0 */
     uint64_t number;           /* size, write_text: bytes; else 0 */
 };
 
 /* words */
 enum {
-    SHELFEGRET_ADDED = 1,   /* add: it was not there, and is now */
-    SHELFEGRET_HELD = 2,    /* add, find: it is there; label is the one stored */
-    SHELFEGRET_GONE = 3,    /* delete: it was there, and is no more; label is the one it had */
-    SHELFEGRET_NONE = 4,    /* find, delete: it is not there; record: there is no such record */
-    SHELFEGRET_RECORD = 5,  /* record: key and label are those of the record */
-    SHELFEGRET_SOUND = 6,   /* check */
-    SHELFEGRET_UNSOUND = 7  /* check */
+    SHELFEGRET_ADDED = 1,     /* enter: it was not there, and is now; label is the one given */
+    SHELFEGRET_HELD = 2,      /* find: it is there; label is the one stored */
+    SHELFEGRET_GONE = 3,      /* delete: it was there, and is no more; label is the one it had */
+    SHELFEGRET_NONE = 4,      /* relabel, find, delete: it is not there; record: there is no such record */
+    SHELFEGRET_RECORD = 5,    /* record: key and label are those of the record */
+    SHELFEGRET_SOUND = 6,     /* check */
+    SHELFEGRET_UNSOUND = 7,   /* check */
+    SHELFEGRET_RELABELLED = 8 /* relabel: it is there, and has the label given; label is the one it had */
 };
 
-/* Refusals. Where several are due, the lowest number is given. */
+/* Refusals. Each function below lists its own in their order: where several are due, the first of them is given. */
 enum {
     SHELFEGRET_REFUSED_SETTINGS = 1, /* a range or rule of the settings is broken */
     SHELFEGRET_REFUSED_SHORT = 2,    /* the lent table is smaller than its size */
@@ -73,11 +75,12 @@ enum {
     SHELFEGRET_REFUSED_KEY = 5,      /* the key is 2^w or more */
     SHELFEGRET_REFUSED_LABEL = 6,    /* the label is 2^val or more */
     SHELFEGRET_REFUSED_DAMAGE = 7,   /* the list that the call follows is damaged; or the chain of free blocks is, where
-                                        add takes a block or delete frees one */
+                                        enter takes a block or delete frees one */
     SHELFEGRET_REFUSED_FULL = 8,     /* a new entry needs an overflow block, and none is free; docs/LIBRARY.md says
                                         which deletes make room */
     SHELFEGRET_REFUSED_OUTPUT = 9,   /* fewer bytes are lent than the text has */
-    SHELFEGRET_REFUSED_MARKS = 10    /* fewer mark bytes are lent than check needs */
+    SHELFEGRET_REFUSED_MARKS = 10,   /* fewer mark bytes are lent than check needs */
+    SHELFEGRET_REFUSED_KNOWN = 12    /* the key that is to be entered is there already (11 is the program's own) */
 };
 
 /* The bytes that a table with these settings needs, in number. Refuses 1. */
@@ -86,10 +89,16 @@ struct shelfegret_answer shelfegret_size(struct shelfegret_settings settings);
 /* Makes the lent bytes an empty table. Bytes behind the table's size stay. Refuses 1, 2. */
 struct shelfegret_answer shelfegret_make(struct shelfegret_settings settings, uint8_t *table, size_t len);
 
-/* Adds the key with a label: ADDED; or HELD with the label that it has already, and nothing changes. key is the
- * key asked for. Refuses 1, 2, 5, 6, 7, 8. */
-struct shelfegret_answer shelfegret_add(struct shelfegret_settings settings, uint8_t *table, size_t len,
-                                        struct shelfegret_key key, uint64_t label);
+/* Enters a key that is not there, with a label: ADDED. key is the key asked for. Refuses 1, 2, 5, 6, 7, 12, 8; the 7 in
+ * this place is for the key's list. Only where a key that is not there needs a block is the chain of free blocks looked
+ * at: then 8 can be due, or 7 for the chain, never both. */
+struct shelfegret_answer shelfegret_enter(struct shelfegret_settings settings, uint8_t *table, size_t len,
+                                          struct shelfegret_key key, uint64_t label);
+
+/* Gives a key that is there another label: RELABELLED with the label that it had; or NONE, and nothing changes. key is
+ * the key asked for. Refuses 1, 2, 5, 6, 7. */
+struct shelfegret_answer shelfegret_relabel(struct shelfegret_settings settings, uint8_t *table, size_t len,
+                                            struct shelfegret_key key, uint64_t label);
 
 /* Finds the key: HELD with its label, or NONE. key is the key asked for. The table is only read. Refuses 1, 2, 5, 7. */
 struct shelfegret_answer shelfegret_find(struct shelfegret_settings settings, const uint8_t *table, size_t len,
@@ -114,9 +123,12 @@ struct shelfegret_answer shelfegret_check(struct shelfegret_settings settings, c
                                           uint8_t *marks, size_t marks_len);
 
 /* The same with the address that a text spells, for a table with w 128. A text is bytes without a terminator. key
- * is the key as read. add_text refuses 1, 2, 3, 4, 6, 7, 8; find_text and delete_text 1, 2, 3, 4, 7. */
-struct shelfegret_answer shelfegret_add_text(struct shelfegret_settings settings, uint8_t *table, size_t len,
-                                             const uint8_t *text, size_t text_len, uint64_t label);
+ * is the key as read. enter_text refuses 1, 2, 3, 4, 6, 7, 12, 8; relabel_text 1, 2, 3, 4, 6, 7; find_text and
+ * delete_text 1, 2, 3, 4, 7. */
+struct shelfegret_answer shelfegret_enter_text(struct shelfegret_settings settings, uint8_t *table, size_t len,
+                                               const uint8_t *text, size_t text_len, uint64_t label);
+struct shelfegret_answer shelfegret_relabel_text(struct shelfegret_settings settings, uint8_t *table, size_t len,
+                                                 const uint8_t *text, size_t text_len, uint64_t label);
 struct shelfegret_answer shelfegret_find_text(struct shelfegret_settings settings, const uint8_t *table, size_t len,
                                               const uint8_t *text, size_t text_len);
 struct shelfegret_answer shelfegret_delete_text(struct shelfegret_settings settings, uint8_t *table, size_t len,

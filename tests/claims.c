@@ -1,12 +1,13 @@
-/* claims.c - what docs/LIBRARY.md says of refusals 7 and 8 and of check, on tables small enough to try every case.
+/* claims.c - what docs/LIBRARY.md says of refusals 7, 8 and 12 and of check, on tables small enough to try every case.
  *
  *     claims [SEED]
  *
- * The tables are damaged bit by bit, as the format puts them. Prints how many tables and cases were tried. */
+ * The tables are damaged bit by bit, as format.c puts them. Prints how many tables and cases were tried. */
 #include <stdio.h>
 #include <stdlib.h>
 #include <string.h>
 
+#include "format.h"
 #include "input.h"
 #include "shelfegret.h"
 
@@ -39,59 +40,23 @@ static void new_table(settings given)
     tables++;
 }
 
-static answer add(uint8_t *t, key k) { return shelfegret_add(s, t, size, k, 0); }
+static answer enter(uint8_t *t, key k) { return shelfegret_enter(s, t, size, k, 0); }
+static answer relabel(uint8_t *t, key k, uint32_t label) { return shelfegret_relabel(s, t, size, k, label); }
 static answer find(const uint8_t *t, key k) { return shelfegret_find(s, t, size, k); }
 static answer gone(uint8_t *t, key k) { return shelfegret_delete(s, t, size, k); }
 static answer record(const uint8_t *t, uint64_t n) { return shelfegret_record(s, t, size, n); }
 static answer check(const uint8_t *t) { return shelfegret_check(s, t, size, marks, sizeof marks); }
 
-/* ---- the format */
-
-static uint32_t log2_up(uint32_t n)
-{
-    uint32_t bits = 0;
-    while ((uint32_t)1 << bits < n) bits++;
-    return bits;
-}
-
-static void put(uint8_t *t, size_t at, uint32_t bits, uint32_t value)
-{
-    for (; bits; bits--, at++) {
-        uint8_t bit = (uint8_t)(0x80 >> at % 8);
-        t[at / 8] = (uint8_t)((value >> (bits - 1) & 1) ? t[at / 8] | bit : t[at / 8] & ~bit);
-    }
-}
-
-static uint32_t get(const uint8_t *t, size_t at, uint32_t bits)
-{
-    uint32_t value = 0;
-    for (; bits; bits--, at++) value = value << 1 | (t[at / 8] >> (7 - at % 8) & 1);
-    return value;
-}
-
-static uint32_t free_bits(void) { return log2_up(1 + s.nob); }
-static uint32_t slot(void) { return s.w - s.bii + s.val; }
-static size_t basic(uint32_t list) { return free_bits() + (size_t)list * (log2_up(2 + s.sib) + s.sib * slot()); }
-static size_t link_of(uint32_t block)
-{
-    return basic((uint32_t)1 << s.bii) + (size_t)block * (log2_up(1 + s.sio) + log2_up(s.nob) + s.sio * slot()) +
-           log2_up(1 + s.sio);
-}
-
-/* Key n of the list, where w is at most 64: its entry is n. */
+/* Key n of the list: its entry is n. */
 static key key_of(uint32_t list, uint64_t n)
 {
-    static const uint32_t prime_above[9] = {2, 3, 5, 11, 17, 37, 67, 131, 257};
-    uint32_t p = prime_above[s.bii];
-    uint64_t index = list ^ ((s.a * (n % p) + s.b) % p & (((uint64_t)1 << s.bii) - 1));
-    key k = {0, index << (s.w - s.bii) | n};
-    return k;
+    return key_in_list(s, (key){0, n}, list);
 }
 
 static void fill(uint32_t list, uint32_t n)
 {
     for (uint32_t i = 0; i < n; i++)
-        expect(add(table, key_of(list, i)).word == SHELFEGRET_ADDED, "an entry is not taken");
+        expect(enter(table, key_of(list, i)).word == SHELFEGRET_ADDED, "an entry is not taken");
 }
 
 /* ---- refusal 8: which deletes make room */
@@ -99,6 +64,25 @@ static void fill(uint32_t list, uint32_t n)
 static uint32_t overflow_blocks(uint32_t n)
 {
     return n <= s.sib ? 0 : (n - s.sib + s.sio - 1) / s.sio;
+}
+
+/* Only a key that is not there needs a block: each one that is there is known to enter, and can be relabelled. */
+static void full_for_enter_alone(uint32_t list, const uint32_t *length)
+{
+    memcpy(other, table, size);
+    for (uint32_t i = 0; i < (uint32_t)1 << s.bii; i++)
+        for (uint32_t n = 0; n < length[i]; n++) {
+            expect(enter(other, key_of(i, n)).code == SHELFEGRET_REFUSED_KNOWN, "known in a full table");
+            answer a = relabel(other, key_of(i, n), 1 + n % 7);
+            expect(a.word == SHELFEGRET_RELABELLED && a.compared == n + 1, "relabelled in a full table");
+            expect(a.label == 0, "the label before");
+        }
+    answer miss = relabel(other, key_of(list, length[list]), 1);
+    expect(miss.word == SHELFEGRET_NONE && miss.compared == length[list], "relabel of what was refused");
+    for (uint32_t i = 0; i < (uint32_t)1 << s.bii; i++)
+        for (uint32_t n = 0; n < length[i]; n++)
+            expect(find(other, key_of(i, n)).label == 1 + n % 7, "every label is the new one");
+    expect(check(other).word == SHELFEGRET_SOUND, "sound with other labels");
 }
 
 static void full_table(void)
@@ -109,7 +93,7 @@ static void full_table(void)
     new_table(given);
     for (;;) { /* until the first refusal */
         list = (uint32_t)below(lists);
-        answer a = add(table, key_of(list, length[list]));
+        answer a = enter(table, key_of(list, length[list]));
         if (a.code == SHELFEGRET_REFUSED_FULL) break;
         expect(a.word == SHELFEGRET_ADDED && a.compared == length[list], "added, and compared is the length");
         length[list]++;
@@ -120,13 +104,14 @@ static void full_table(void)
     expect(length[list] >= s.sib && (length[list] - s.sib) % s.sio == 0, "the refused list has no vacant slot");
     for (uint32_t i = 0; i < lists; i++) used += overflow_blocks(length[i]);
     expect(used == s.nob, "all blocks are in use");
+    full_for_enter_alone(list, length);
     for (uint32_t i = 0; i < lists; i++)
         for (uint32_t n = 0; n < length[i]; n++) {
             int room = i == list || (length[i] > s.sib && length[i] % s.sio == (s.sib + 1) % s.sio);
             memcpy(other, table, size);
             expect(gone(other, key_of(i, n)).word == SHELFEGRET_GONE, "a delete");
-            expect(add(other, new).code == (room ? 0 : SHELFEGRET_REFUSED_FULL), "which delete makes room");
-            if (!room) expect(add(other, key_of(i, n)).word == SHELFEGRET_ADDED, "what was deleted can come back");
+            expect(enter(other, new).code == (room ? 0 : SHELFEGRET_REFUSED_FULL), "which delete makes room");
+            if (!room) expect(enter(other, key_of(i, n)).word == SHELFEGRET_ADDED, "what was deleted can come back");
         }
 }
 
@@ -139,26 +124,30 @@ static void two_lists(void)
     new_table((settings){16, 1, 2, 5, 2, 0, 1, 1});
     fill(0, 4);
     fill(1, 1);
-    expect(get(table, 0, free_bits()) == 1, "block 1 is the first free one");
+    expect(get_bits(table, 0, start_bits(s)) == 1, "block 1 is the first free one");
 }
 
 /* All that needs no free block is as before, and all records can be read. */
 static void rest_works(void)
 {
-    for (uint32_t n = 0; n < 4; n++)
+    for (uint32_t n = 0; n < 4; n++) {
         expect(find(table, key_of(0, n)).word == SHELFEGRET_HELD, "a find beside a broken chain");
+        expect(enter(table, key_of(0, n)).code == SHELFEGRET_REFUSED_KNOWN, "known beside a broken chain");
+        expect(relabel(table, key_of(0, n), 0).word == SHELFEGRET_RELABELLED, "a relabel beside a broken chain");
+    }
+    expect(relabel(table, key_of(0, 4), 0).word == SHELFEGRET_NONE, "none to relabel beside a broken chain");
     for (uint32_t n = 0; n < 5; n++)
         expect(record(table, n).word == SHELFEGRET_RECORD, "a record beside a broken chain");
     expect(record(table, 5).word == SHELFEGRET_NONE, "the end beside a broken chain");
     expect(check(table).word == SHELFEGRET_UNSOUND, "a broken chain is unsound");
     memcpy(other, table, size);
-    expect(add(other, key_of(1, 1)).word == SHELFEGRET_ADDED, "an add that takes no block");
+    expect(enter(other, key_of(1, 1)).word == SHELFEGRET_ADDED, "an enter that takes no block");
     expect(gone(other, key_of(0, 0)).word == SHELFEGRET_GONE, "a delete that frees no block");
 }
 
-static void add_is_refused(const char *what)
+static void enter_is_refused(const char *what)
 {
-    expect(add(table, key_of(0, 4)).code == SHELFEGRET_REFUSED_DAMAGE, what);
+    expect(enter(table, key_of(0, 4)).code == SHELFEGRET_REFUSED_DAMAGE, what);
     rest_works();
 }
 
@@ -166,19 +155,19 @@ static void broken_chain(void)
 {
     for (uint32_t bad = 6; bad < 8; bad++) {
         two_lists();
-        put(table, 0, free_bits(), bad);
-        add_is_refused("a block is taken, and the free start is above nob");
+        put_bits(table, 0, start_bits(s), bad);
+        enter_is_refused("a block is taken, and the free start is above nob");
         memcpy(other, table, size);
         expect(gone(other, key_of(0, 0)).word == SHELFEGRET_GONE, "the block has one entry left");
         expect(gone(other, key_of(0, 1)).code == SHELFEGRET_REFUSED_DAMAGE, "a block is freed, free start above nob");
     }
     two_lists();
-    put(table, 0, free_bits(), 0);
-    add_is_refused("the first free block is in this same list");
+    put_bits(table, 0, start_bits(s), 0);
+    enter_is_refused("the first free block is in this same list");
     for (uint32_t bad = 5; bad < 8; bad++) {
         two_lists();
-        put(table, link_of(1), 3, bad);
-        add_is_refused("the first free block's link is nob or more");
+        put_bits(table, link_at(s, 1), 3, bad);
+        enter_is_refused("the first free block's link is nob or more");
     }
 }
 
@@ -191,12 +180,16 @@ static void broken_list(void)
     for (uint32_t i = 0; i < 8; i++) fill(i, length[i] = (uint32_t)below(8));
     uint32_t bad = (uint32_t)below(8), before = 0, all = 0, n = 0;
     if (length[bad] > s.sib && one_in(2))
-        put(table, basic(bad) + log2_up(2 + s.sib), log2_up(s.nob), s.nob + (uint32_t)below(12)); /* its first block */
+        put_bits(table, basic_at(s, bad) + basic_counter_bits(s), link_bits(s), s.nob + below(12)); /* its first block */
     else
-        put(table, basic(bad), log2_up(2 + s.sib), s.sib + 2 + (uint32_t)below(3)); /* its counter */
+        put_bits(table, basic_at(s, bad), basic_counter_bits(s), s.sib + 2 + below(3)); /* its counter */
     for (uint32_t i = 0; i < 8; i++) {
         uint32_t code = i == bad ? SHELFEGRET_REFUSED_DAMAGE : 0;
+        uint32_t known = length[i] ? SHELFEGRET_REFUSED_KNOWN : 0;
         expect(find(table, key_of(i, 0)).code == code, "a find refuses 7 exactly in the damaged list");
+        expect(relabel(table, key_of(i, 0), 0).code == code, "a relabel refuses 7 exactly in the damaged list");
+        memcpy(other, table, size);
+        expect(enter(other, key_of(i, 0)).code == (code ? code : known), "7 of the list comes before 12");
         for (uint32_t j = 0; j < length[i] && !code; j++)
             expect(find(table, key_of(i, j)).word == SHELFEGRET_HELD, "an entry of another list");
         if (i < bad) before += length[i];
@@ -205,7 +198,7 @@ static void broken_list(void)
     while (record(table, n).word == SHELFEGRET_RECORD) n++;
     expect(n == before, "record reads all before the damaged list");
     expect(record(table, n).code == SHELFEGRET_REFUSED_DAMAGE, "and none behind it");
-    put(table, basic(bad), log2_up(2 + s.sib), 0);
+    put_bits(table, basic_at(s, bad), basic_counter_bits(s), 0);
     for (n = 0; record(table, n).word == SHELFEGRET_RECORD;) n++;
     expect(n == all && record(table, n).code == 0, "with the damaged list empty, record reads all others");
 }
@@ -220,7 +213,7 @@ static unsigned other_spread(void)
     new_table((settings){128, 8, 4, 64, 3, 8, 97, 31});
     for (int i = 0; i < 700; i++) {
         keys[i] = (key){random_bits(), random_bits()};
-        expect(add(table, keys[i]).word == SHELFEGRET_ADDED, "an address is not taken");
+        expect(enter(table, keys[i]).word == SHELFEGRET_ADDED, "an address is not taken");
     }
     s.a = 98;
     s.b = 30;
@@ -237,7 +230,7 @@ static void no_secret(void)
         for (uint32_t b = 1; b < 257; b += 15) {
             new_table((settings){128, 8, 4, 64, 3, 8, a, b});
             for (uint32_t n = 0; n < 20; n++)
-                expect(add(table, (key){0, 5 + 257 * (uint64_t)n}).compared == n, "entries equal modulo p: one list");
+                expect(enter(table, (key){0, 5 + 257 * (uint64_t)n}).compared == n, "entries equal modulo p: one list");
         }
 }
 

@@ -1,5 +1,5 @@
-"""full.py PROGRAM: which addresses the program refuses with 8, and which deletes make room again. The addresses are
-chosen by their list, as docs/FILTER.md gives it."""
+"""full.py PROGRAM: which addresses the program refuses with 8, which deletes make room again, and that addresses which
+are held need no room. The addresses are chosen by their list, as docs/FILTER.md gives it."""
 import ipaddress
 import subprocess
 import sys
@@ -17,7 +17,7 @@ def addresses(number, n, first=0):
     return [address(number, first + entry) for entry in range(n)]
 
 
-def adds(lengths):
+def enters(lengths):
     """Lines that fill list 0, 1, .. so far."""
     return ["+ " + a for number, n in enumerate(lengths) for a in addresses(number, n)]
 
@@ -43,11 +43,24 @@ one = addresses(5, fewest + 1)
 expect([a.split(" ", 1)[1] for a in answers(["+ " + a for a in one] + ["? " + one[-1]])],
        [f"added 0 {n}" for n in range(fewest)] + ["8", f"none 0 {fewest}"], "one list")
 
+# An address that is held is refused with 12, not 8, and keeps its label; it can be relabelled, each in its place. One
+# that is not held has nothing to relabel.
+held = [f"{a} relabelled {(n + 1) % 256} {n + 1}" for n, a in enumerate(one[:-1])]
+given = ([f"+ {a} {(n + 1) % 256}" for n, a in enumerate(one[:-1])] + [f"+ {a} 7" for a in one]
+         + [f"= {a} {n}" for n, a in enumerate(one)] + ["= " + one[-1], f"= {one[-1]} 256"])
+expect(answers(given)[fewest:], ["refused 12"] * fewest + ["refused 8"] + held
+       + [f"{one[-1]} none 0 {fewest}"] * 2 + ["refused 6"], "one list, and all its addresses again")
+expect([a.split(" ", 1)[1] for a in answers(given + ["? " + a for a in one[:-1]])[-fewest:]],
+       [f"held {n} {n + 1}" for n in range(fewest)], "the new labels")
+
 # The most: all slots. Then each list refuses.
-most = adds([fewest] + [SIB] * (LISTS - 1))
+most = enters([fewest] + [SIB] * (LISTS - 1))
 expect(len(most), 1216, "the most")
 words = [a.split()[1] for a in answers(most + ["+ " + address(number, 1000) for number in range(LISTS)])]
 expect(words, ["added"] * len(most) + ["8"] * LISTS, "every slot")
+again = answers(most + most + [line.replace("+", "=") + " 255" for line in most])[len(most):]
+expect(again[:len(most)], ["refused 12"] * len(most), "every address again")
+expect([a.split()[1:3] for a in again[len(most):]], [["relabelled", "0"]] * len(most), "every label")
 
 # No spread of fewer addresses does it: `least[u]` is the fewest in lists that use u blocks together, each list's last
 # block with one entry; beside them is a list without a vacant slot, which uses v.
@@ -62,7 +75,7 @@ for full in (SIB, SIB + SIO, SIB + 5 * SIO):
     lengths = [full] + list(range(1, 14))
     left = NOB - sum(blocks(n) for n in lengths)
     lengths.append(SIB + SIO * left)
-    table = adds(lengths)
+    table = enters(lengths)
     new = address(0, 1000)
     expect(answers(table + ["+ " + new, "? " + new])[-2:], ["refused 8", f"{new} none 0 {full}"], "a full list")
     for number, n in enumerate(lengths):

@@ -5,8 +5,10 @@
  * Both libraries get the same calls on equal buffers. After each call every field of the two answers must be equal,
  * and every byte of every buffer: those that the call may write must be equal in both, all others as before. Each
  * buffer lies between two pages without access, against one of them or with guard bytes on both sides, so that reads
- * outside are caught as well. The settings are legal and not, the tables new, in use, damaged and random. At the end
- * each call must have given each of its refusals and words many times, and no other.
+ * outside are caught as well. The settings are legal and not, the tables new, in use, damaged and random. Behind each
+ * relabel the table must be the one before with the label's bits changed, each where format.c finds it. At the end
+ * each call must have given each of its refusals and words many times, and no other; and labels of every kind must have
+ * been changed, such as those that lie where a block's number is.
  *
  * The baseline is compiled with base_ in the place of shelfegret_ in its names. */
 #define _DEFAULT_SOURCE /* MAP_ANONYMOUS */
@@ -19,6 +21,7 @@
 #include <sys/mman.h>
 #include <unistd.h>
 
+#include "format.h"
 #include "input.h"
 #include "shelfegret.h"
 
@@ -31,12 +34,14 @@ typedef struct shelfegret_answer answer;
 struct library {
     answer (*size)(settings);
     answer (*make)(settings, uint8_t *, size_t);
-    answer (*add)(settings, uint8_t *, size_t, key, uint64_t);
+    answer (*enter)(settings, uint8_t *, size_t, key, uint64_t);
+    answer (*relabel)(settings, uint8_t *, size_t, key, uint64_t);
     answer (*find)(settings, const uint8_t *, size_t, key);
     answer (*delete)(settings, uint8_t *, size_t, key);
     answer (*record)(settings, const uint8_t *, size_t, uint64_t);
     answer (*check)(settings, const uint8_t *, size_t, uint8_t *, size_t);
-    answer (*add_text)(settings, uint8_t *, size_t, const uint8_t *, size_t, uint64_t);
+    answer (*enter_text)(settings, uint8_t *, size_t, const uint8_t *, size_t, uint64_t);
+    answer (*relabel_text)(settings, uint8_t *, size_t, const uint8_t *, size_t, uint64_t);
     answer (*find_text)(settings, const uint8_t *, size_t, const uint8_t *, size_t);
     answer (*delete_text)(settings, uint8_t *, size_t, const uint8_t *, size_t);
     answer (*read_text)(const uint8_t *, size_t);
@@ -45,12 +50,14 @@ struct library {
 
 answer base_size(settings);
 answer base_make(settings, uint8_t *, size_t);
-answer base_add(settings, uint8_t *, size_t, key, uint64_t);
+answer base_enter(settings, uint8_t *, size_t, key, uint64_t);
+answer base_relabel(settings, uint8_t *, size_t, key, uint64_t);
 answer base_find(settings, const uint8_t *, size_t, key);
 answer base_delete(settings, uint8_t *, size_t, key);
 answer base_record(settings, const uint8_t *, size_t, uint64_t);
 answer base_check(settings, const uint8_t *, size_t, uint8_t *, size_t);
-answer base_add_text(settings, uint8_t *, size_t, const uint8_t *, size_t, uint64_t);
+answer base_enter_text(settings, uint8_t *, size_t, const uint8_t *, size_t, uint64_t);
+answer base_relabel_text(settings, uint8_t *, size_t, const uint8_t *, size_t, uint64_t);
 answer base_find_text(settings, const uint8_t *, size_t, const uint8_t *, size_t);
 answer base_delete_text(settings, uint8_t *, size_t, const uint8_t *, size_t);
 answer base_read_text(const uint8_t *, size_t);
@@ -59,11 +66,11 @@ answer base_write_text(key, uint8_t *, size_t);
 enum { LIBRARY, BASELINE, BOTH };
 static const char *const names[BOTH + 1] = {"library", "baseline", "test itself"};
 static const struct library libraries[BOTH] = {
-    {shelfegret_size, shelfegret_make, shelfegret_add, shelfegret_find, shelfegret_delete, shelfegret_record,
-     shelfegret_check, shelfegret_add_text, shelfegret_find_text, shelfegret_delete_text, shelfegret_read_text,
-     shelfegret_write_text},
-    {base_size, base_make, base_add, base_find, base_delete, base_record, base_check, base_add_text, base_find_text,
-     base_delete_text, base_read_text, base_write_text},
+    {shelfegret_size, shelfegret_make, shelfegret_enter, shelfegret_relabel, shelfegret_find, shelfegret_delete,
+     shelfegret_record, shelfegret_check, shelfegret_enter_text, shelfegret_relabel_text, shelfegret_find_text,
+     shelfegret_delete_text, shelfegret_read_text, shelfegret_write_text},
+    {base_size, base_make, base_enter, base_relabel, base_find, base_delete, base_record, base_check, base_enter_text,
+     base_relabel_text, base_find_text, base_delete_text, base_read_text, base_write_text},
 };
 
 /* ---- lent buffers */
@@ -152,7 +159,22 @@ static int agree(const struct buffer *b, size_t written)
 
 /* ---- calls */
 
-enum what { SIZE, MAKE, ADD, FIND, DELETE, RECORD, CHECK, ADD_TEXT, FIND_TEXT, DELETE_TEXT, READ_TEXT, WRITE_TEXT };
+enum what {
+    SIZE,
+    MAKE,
+    ENTER,
+    RELABEL,
+    FIND,
+    DELETE,
+    RECORD,
+    CHECK,
+    ENTER_TEXT, /* the four with a text, in the order of those with a key */
+    RELABEL_TEXT,
+    FIND_TEXT,
+    DELETE_TEXT,
+    READ_TEXT,
+    WRITE_TEXT
+};
 enum { WHATS = WRITE_TEXT + 1 };
 
 struct call {
@@ -163,7 +185,7 @@ struct call {
 };
 
 enum { TAKES_TABLE = 1, TAKES_MARKS = 2, TAKES_TEXT = 4, TAKES_OUT = 8 };
-enum { CODES = 11, WORDS = 8 };
+enum { CODES = 13, WORDS = 9 };
 #define BIT(n) (1u << (n))
 
 /* what each call takes, and the refusals and words that shelfegret.h gives it; word 0 is no word */
@@ -173,15 +195,19 @@ static const struct {
 } of_call[WHATS] = {
     [SIZE] = {"size", 0, BIT(1), BIT(0)},
     [MAKE] = {"make", TAKES_TABLE, BIT(1) | BIT(2), BIT(0)},
-    [ADD] = {"add", TAKES_TABLE, BIT(1) | BIT(2) | BIT(5) | BIT(6) | BIT(7) | BIT(8),
-             BIT(SHELFEGRET_ADDED) | BIT(SHELFEGRET_HELD)},
+    [ENTER] = {"enter", TAKES_TABLE, BIT(1) | BIT(2) | BIT(5) | BIT(6) | BIT(7) | BIT(8) | BIT(12),
+               BIT(SHELFEGRET_ADDED)},
+    [RELABEL] = {"relabel", TAKES_TABLE, BIT(1) | BIT(2) | BIT(5) | BIT(6) | BIT(7),
+                 BIT(SHELFEGRET_RELABELLED) | BIT(SHELFEGRET_NONE)},
     [FIND] = {"find", TAKES_TABLE, BIT(1) | BIT(2) | BIT(5) | BIT(7), BIT(SHELFEGRET_HELD) | BIT(SHELFEGRET_NONE)},
     [DELETE] = {"delete", TAKES_TABLE, BIT(1) | BIT(2) | BIT(5) | BIT(7), BIT(SHELFEGRET_GONE) | BIT(SHELFEGRET_NONE)},
     [RECORD] = {"record", TAKES_TABLE, BIT(1) | BIT(2) | BIT(7), BIT(SHELFEGRET_RECORD) | BIT(SHELFEGRET_NONE)},
     [CHECK] = {"check", TAKES_TABLE | TAKES_MARKS, BIT(1) | BIT(2) | BIT(10),
                BIT(SHELFEGRET_SOUND) | BIT(SHELFEGRET_UNSOUND)},
-    [ADD_TEXT] = {"add_text", TAKES_TABLE | TAKES_TEXT, BIT(1) | BIT(2) | BIT(3) | BIT(4) | BIT(6) | BIT(7) | BIT(8),
-                  BIT(SHELFEGRET_ADDED) | BIT(SHELFEGRET_HELD)},
+    [ENTER_TEXT] = {"enter_text", TAKES_TABLE | TAKES_TEXT,
+                    BIT(1) | BIT(2) | BIT(3) | BIT(4) | BIT(6) | BIT(7) | BIT(8) | BIT(12), BIT(SHELFEGRET_ADDED)},
+    [RELABEL_TEXT] = {"relabel_text", TAKES_TABLE | TAKES_TEXT, BIT(1) | BIT(2) | BIT(3) | BIT(4) | BIT(6) | BIT(7),
+                      BIT(SHELFEGRET_RELABELLED) | BIT(SHELFEGRET_NONE)},
     [FIND_TEXT] = {"find_text", TAKES_TABLE | TAKES_TEXT, BIT(1) | BIT(2) | BIT(3) | BIT(4) | BIT(7),
                    BIT(SHELFEGRET_HELD) | BIT(SHELFEGRET_NONE)},
     [DELETE_TEXT] = {"delete_text", TAKES_TABLE | TAKES_TEXT, BIT(1) | BIT(2) | BIT(3) | BIT(4) | BIT(7),
@@ -202,12 +228,14 @@ static answer ask(int i, const struct call *c)
     switch (c->what) {
     case SIZE: return l->size(c->settings);
     case MAKE: return l->make(c->settings, t, table.len);
-    case ADD: return l->add(c->settings, t, table.len, c->key, c->label);
+    case ENTER: return l->enter(c->settings, t, table.len, c->key, c->label);
+    case RELABEL: return l->relabel(c->settings, t, table.len, c->key, c->label);
     case FIND: return l->find(c->settings, t, table.len, c->key);
     case DELETE: return l->delete(c->settings, t, table.len, c->key);
     case RECORD: return l->record(c->settings, t, table.len, c->n);
     case CHECK: return l->check(c->settings, t, table.len, lent(&marks, i), marks.len);
-    case ADD_TEXT: return l->add_text(c->settings, t, table.len, lent(&text, i), text.len, c->label);
+    case ENTER_TEXT: return l->enter_text(c->settings, t, table.len, lent(&text, i), text.len, c->label);
+    case RELABEL_TEXT: return l->relabel_text(c->settings, t, table.len, lent(&text, i), text.len, c->label);
     case FIND_TEXT: return l->find_text(c->settings, t, table.len, lent(&text, i), text.len);
     case DELETE_TEXT: return l->delete_text(c->settings, t, table.len, lent(&text, i), text.len);
     case READ_TEXT: return l->read_text(lent(&text, i), text.len);
@@ -221,7 +249,8 @@ static size_t written(const struct call *c, answer a, const struct buffer *b)
     if (a.code) return 0;
     if (b == &marks) return (c->settings.nob + 7) / 8;
     if (b == &out) return a.number;
-    if (b == &table && (c->what == MAKE || a.word == SHELFEGRET_ADDED || a.word == SHELFEGRET_GONE))
+    if (b == &table && (c->what == MAKE || a.word == SHELFEGRET_ADDED || a.word == SHELFEGRET_RELABELLED ||
+                        a.word == SHELFEGRET_GONE))
         return base_size(c->settings).number;
     return 0;
 }
@@ -292,21 +321,74 @@ static void on_fault(int signal_number)
 
 static uint64_t refusals[WHATS][CODES], words[WHATS][WORDS];
 
+static int same(answer a, answer b)
+{
+    return a.code == b.code && a.word == b.word && a.key.high == b.key.high && a.key.low == b.key.low &&
+           a.label == b.label && a.compared == b.compared && a.number == b.number;
+}
+
 static void count(answer a, const answer *both)
 {
     if (a.code >= CODES || a.word >= WORDS) differ("no such code or word", both);
     if (a.code && !(of_call[now.what].codes & BIT(a.code))) differ("not a refusal of this call", both);
     if (!a.code && !(of_call[now.what].words & BIT(a.word))) differ("not a word of this call", both);
+    if (a.code && !same(a, (answer){.code = a.code})) differ("a refusal with more than its number", both);
     if (a.code)
         refusals[now.what][a.code]++;
     else
         words[now.what][a.word]++;
 }
 
-static int same(answer a, answer b)
+/* Labels that were changed, by where they stood and what was special about them. */
+enum { DISPLACED_FIRST, DISPLACED_LATER, DISPLACED_IN_PART, OTHER_LINK, IN_OVERFLOW, NO_BITS, MOST_BITS, TWICE, KINDS };
+static const char *const kinds[KINDS] = {
+    [DISPLACED_FIRST] = "in slot 0, displaced",
+    [DISPLACED_LATER] = "in a later slot, displaced",
+    [DISPLACED_IN_PART] = "in part displaced",
+    [OTHER_LINK] = "displaced, and the link holds other bits than before",
+    [IN_OVERFLOW] = "in an overflow block",
+    [NO_BITS] = "of 0 bits",
+    [MOST_BITS] = "of 32 bits",
+    [TWICE] = "of the first of two equal entries",
+};
+static uint64_t relabelled[KINDS];
+
+static void count_label(settings s, const struct followed *f, uint32_t n, uint64_t changed)
 {
-    return a.code == b.code && a.word == b.word && a.key.high == b.key.high && a.key.low == b.key.low &&
-           a.label == b.label && a.compared == b.compared && a.number == b.number;
+    uint32_t bits = 0; /* of the label, displaced: its first ones */
+    while (bits < s.val && is_displaced(s, f, n, entry_bits(s) + bits)) bits++;
+    relabelled[DISPLACED_FIRST] += bits && n == 0;
+    relabelled[DISPLACED_LATER] += bits && n > 0;
+    relabelled[DISPLACED_IN_PART] += bits && bits < s.val;
+    relabelled[OTHER_LINK] += bits && changed >> (s.val - bits);
+    relabelled[IN_OVERFLOW] += n >= s.sib;
+    relabelled[NO_BITS] += s.val == 0;
+    relabelled[MOST_BITS] += s.val == 32;
+}
+
+/* The entry found is the first in its list that is the key's, the label answered is the one that it had, and the table
+ * is the one before but for that label. */
+static void expect_relabelled(const answer *both)
+{
+    static struct followed f;
+    answer a = both[LIBRARY];
+    settings s = now.settings;
+    uint32_t found = 0, n = a.compared - 1;
+    if (!follow(s, table.held, list_of(s, a.key), &f)) differ("relabelled in a damaged list", both);
+    while (found < f.length && !is_entry(s, table.held, &f, found, a.key)) found++;
+    if (found == f.length || found != n) differ("not the first entry that is equal", both);
+    uint64_t old = get_label(s, table.held, &f, n);
+    if (a.label != old) differ("not the label before", both);
+    put_label(s, table.held, &f, n, now.label);
+    int good = memcmp(table.held, table.at[LIBRARY], table.len) == 0;
+    put_label(s, table.held, &f, n, old);
+    if (!good) differ("relabel changed something other than the label", both);
+    count_label(s, &f, n, old ^ now.label);
+    for (uint32_t next = n + 1; next < f.length; next++)
+        if (is_entry(s, table.held, &f, next, a.key)) {
+            relabelled[TWICE]++;
+            break;
+        }
 }
 
 static void settle(struct buffer *b, const answer *a, const char *trouble)
@@ -325,6 +407,7 @@ static answer call_both(struct call c)
     for (asked = 0; asked < BOTH; asked++) a[asked] = ask(asked, &c);
     if (!same(a[LIBRARY], a[BASELINE])) differ("the answers differ", a);
     count(a[LIBRARY], a);
+    if (a[LIBRARY].word == SHELFEGRET_RELABELLED) expect_relabelled(a);
     if (takes & TAKES_TABLE) settle(&table, a, "bytes of the table differ");
     if (takes & TAKES_MARKS) settle(&marks, a, "bytes of the marks differ");
     if (takes & TAKES_TEXT) settle(&text, a, "bytes of the text differ");
@@ -333,9 +416,6 @@ static answer call_both(struct call c)
 }
 
 /* ---- settings */
-
-static const uint32_t prime_above[17] = {2,   3,    5,    11,   17,   37,    67,    131,  257,
-                                         521, 1031, 2053, 4099, 8209, 16411, 32771, 65537};
 
 struct shape {
     uint32_t w_least, w_most, bii_most, sib_most, nob_most, sio_most, val_most;
@@ -346,6 +426,8 @@ struct shape {
 static const struct shape shapes[] = {
     {2, 10, 3, 3, 6, 3, 3, 64, 1000},                 /* a few bytes */
     {3, 9, 3, 4, 300, 4, 1, 4096, 1000},              /* slots smaller than a block's number */
+    {6, 12, 4, 4, 48, 3, 8, 4096, 1000},              /* labels where a block's number is, in slot 0 */
+    {3, 5, 2, 3, 500, 2, 3, 4096, 1000},              /* and in later slots */
     {2, 128, 4, 8, 20, 15, 32, 16384, 1000},          /* every width */
     {128, 128, 4, 6, 40, 4, 32, 16384, 1500},         /* addresses */
     {128, 128, 2, 2, 4, 3, 8, 1024, 1500},            /* addresses, soon full */
@@ -392,8 +474,8 @@ static settings settings_of(const struct shape *shape)
     s.nob = some_blocks(shape->nob_most);
     s.sio = between(1, shape->sio_most);
     s.val = one_in(4) ? 0 : between(0, shape->val_most);
-    s.a = between(1, prime_above[s.bii] - 1);
-    s.b = between(1, prime_above[s.bii] - 1);
+    s.a = between(1, prime_above(s.bii) - 1);
+    s.b = between(1, prime_above(s.bii) - 1);
     return s;
 }
 
@@ -415,7 +497,7 @@ static uint32_t beyond(uint32_t most)
 /* the settings with one range or rule broken; now and then they are legal all the same */
 static settings spoilt(settings s)
 {
-    uint32_t p = s.bii <= 16 ? prime_above[s.bii] : 2;
+    uint32_t p = s.bii <= 16 ? prime_above(s.bii) : 2;
     switch (below(12)) {
     case 0: s.w = one_in(2) ? (uint32_t)below(2) : beyond(128); break;
     case 1: s.bii = beyond(16); break;
@@ -459,32 +541,6 @@ static settings at_size_limit(void)
 
 /* ---- keys */
 
-static key low_bits(key k, uint32_t n)
-{
-    key ones = {n <= 64 ? 0 : UINT64_MAX >> (128 - n), n >= 64 ? UINT64_MAX : ((uint64_t)1 << n) - 1};
-    k.high &= ones.high;
-    k.low &= ones.low;
-    return k;
-}
-
-/* k with the small number n in front of its last `at` bits */
-static key behind(uint64_t n, uint32_t at, key k)
-{
-    k.high |= at >= 128 ? 0 : at >= 64 ? n << (at - 64) : at ? n >> 1 >> (63 - at) : 0;
-    k.low |= at >= 64 ? 0 : n << at;
-    return k;
-}
-
-/* the key with this entry that belongs to this list */
-static key aimed(settings s, key entry, uint64_t list)
-{
-    uint64_t p = prime_above[s.bii], lists = (uint64_t)1 << s.bii;
-    uint64_t two_64 = (UINT64_MAX % p + 1) % p;
-    uint64_t rest = (entry.high % p * two_64 + entry.low % p) % p;
-    uint64_t hash = (s.a * rest + s.b) % p % lists;
-    return behind((list % lists) ^ hash, s.w - s.bii, entry);
-}
-
 static key random_key(uint32_t w)
 {
     key k = {random_bits(), random_bits()};
@@ -519,7 +575,7 @@ static void make_pool(void)
     pool_len = 1 + below(smaller(POOL_MOST, 2 * (lists * at_hand.sib + at_hand.nob * at_hand.sio)));
     for (size_t i = 0; i < pool_len; i++) {
         entry = one_in(2) ? random_key(bie) : one_bit_off(entry, bie);
-        pool[i] = aimed(at_hand, entry, first_list + below(lists));
+        pool[i] = key_in_list(at_hand, entry, first_list + below(lists));
     }
 }
 
@@ -544,26 +600,15 @@ static void new_table(const struct shape *shape)
     tables++;
 }
 
-static uint32_t bits_for(uint64_t n) /* the least k with 2^k >= n */
-{
-    uint32_t k = 0;
-    while ((uint64_t)1 << k < n) k++;
-    return k;
-}
-
 /* a bit of the table: of the free start, of a block's counter or link, or any */
 static size_t some_bit(void)
 {
     settings s = at_hand;
-    size_t slot = s.w - s.bii + s.val, link = s.nob ? bits_for(s.nob) : 0;
-    size_t start = bits_for((uint64_t)s.nob + 1), basic_counter = bits_for((uint64_t)s.sib + 2);
-    size_t counter = bits_for((uint64_t)s.sio + 1), lists = (size_t)1 << s.bii;
-    size_t basic = basic_counter + s.sib * slot, block = counter + link + s.sio * slot;
     switch (below(4)) {
-    case 0: return below(start + 1);
-    case 1: return start + basic * below(lists) + below(basic_counter + link);
+    case 0: return below(start_bits(s) + 1);
+    case 1: return basic_at(s, below((uint64_t)1 << s.bii)) + below(basic_counter_bits(s) + link_bits(s));
     case 2:
-        if (s.nob) return start + basic * lists + block * below(s.nob) + below(counter + link);
+        if (s.nob) return block_at(s, below(s.nob)) + below(counter_bits(s) + link_bits(s));
         break;
     }
     return below(8 * size_at_hand);
@@ -599,7 +644,7 @@ static key some_key(settings s)
     case 1: return one_bit_off(k, w);
     case 2: return one_bit_off(k, 128);
     case 3: return low_bits((key){UINT64_MAX, UINT64_MAX}, w < 128 ? w + (uint32_t)below(2) : w);
-    case 4: return one_in(2) ? (key){0, 0} : behind(1, w, (key){0, 0});
+    case 4: return one_in(2) ? (key){0, 0} : in_front(1, w, (key){0, 0});
     default: return k;
     }
 }
@@ -652,10 +697,10 @@ static void lend_text(settings s)
 
 enum { MOODS = 3 };
 static const unsigned weights[MOODS][WHATS] = {
-    /* size, make, add, find, delete, record, check, and the same with texts */
-    {10, 2, 320, 100, 40, 50, 40, 280, 80, 30, 30, 30}, /* grow */
-    {10, 2, 150, 120, 150, 50, 40, 140, 110, 140, 30, 30},
-    {10, 2, 40, 100, 320, 50, 40, 30, 80, 280, 30, 30}, /* shrink */
+    /* size, make, enter, relabel, find, delete, record, check, the four with texts, read text and write text */
+    {10, 2, 320, 60, 60, 40, 50, 40, 280, 60, 40, 30, 30, 30}, /* grow */
+    {10, 2, 150, 80, 80, 150, 50, 40, 140, 70, 70, 140, 30, 30},
+    {10, 2, 40, 60, 60, 320, 50, 40, 30, 60, 40, 280, 30, 30}, /* shrink */
 };
 
 static enum what some_call(void)
@@ -664,7 +709,7 @@ static enum what some_call(void)
     int what = 0;
     for (int i = 0; i < WHATS; i++) sum += weights[mood][i];
     for (uint64_t left = below(sum); left >= weights[mood][what]; what++) left -= weights[mood][what];
-    if (what >= ADD_TEXT && what <= DELETE_TEXT && at_hand.w != 128 && !one_in(6)) what -= ADD_TEXT - ADD;
+    if (what >= ENTER_TEXT && what <= DELETE_TEXT && at_hand.w != 128 && !one_in(6)) what -= ENTER_TEXT - ENTER;
     return (enum what)what;
 }
 
@@ -702,6 +747,38 @@ static void largest_table(void)
     for (int i = 0; i < 100; i++) step();
 }
 
+/* Every key of a table with slots of few bits, entered, relabelled and deleted in a list that overflows. */
+static void small_slots(settings s)
+{
+    answer a = base_size(s);
+    uint64_t entries = (uint64_t)1 << entry_bits(s), list = below((uint64_t)1 << s.bii);
+    if (a.code) return;
+    at_hand = s;
+    size_at_hand = a.number;
+    fill_table(100);
+    lend(&table, size_at_hand);
+    call_both((struct call){.what = MAKE, .settings = s});
+    for (uint64_t left = 20 * entries; left; left--) {
+        static const enum what some[] = {ENTER, ENTER, RELABEL, RELABEL, RELABEL, FIND, DELETE};
+        struct call c = {.what = some[below(sizeof some / sizeof *some)], .settings = s};
+        c.key = key_in_list(s, (key){0, below(entries)}, list);
+        c.label = below((uint64_t)1 << s.val);
+        call_both(c);
+    }
+    tables++;
+}
+
+/* Slots that are smaller than a block's number: of each kind, with labels that lie under it. */
+static void all_small_slots(void)
+{
+    for (uint32_t bie = 2; bie <= 4; bie++)
+        for (uint32_t val = 0; val <= 5; val++)
+            for (uint32_t sib = 1; sib <= 6; sib++)
+                for (uint32_t link = 1; link <= 16; link += 1 + link / 10)
+                    small_slots((settings){bie + 1, 1, sib, ((uint32_t)1 << link) - (uint32_t)below(2),
+                                           between(1, 3), val, between(1, 2), between(1, 2)});
+}
+
 /* ---- the run */
 
 static int seen_enough(const char *name, const char *kind, unsigned i, uint64_t times)
@@ -721,6 +798,7 @@ static int all_seen(void)
         for (unsigned i = 0; i < WORDS; i++)
             if (of_call[what].words & BIT(i)) good &= seen_enough(of_call[what].name, "word", i, words[what][i]);
     }
+    for (unsigned i = 0; i < KINDS; i++) good &= seen_enough(kinds[i], "labels of kind", i, relabelled[i]);
     return good;
 }
 
@@ -736,6 +814,8 @@ static void tell_counts(void)
         }
         printf("\n");
     }
+    printf("  labels changed\n");
+    for (unsigned i = 0; i < KINDS; i++) printf("    %s: %" PRIu64 "\n", kinds[i], relabelled[i]);
 }
 
 int main(int argc, char **argv)
@@ -750,10 +830,12 @@ int main(int argc, char **argv)
     make_room(&out);
     signal(SIGSEGV, on_fault);
     largest_table();
-    while (call_number < calls) {
+    all_small_slots();
+    uint64_t last = call_number + calls;
+    while (call_number < last) {
         const struct shape *shape = &shapes[one_in(2000) ? SHAPES - 1 : below(SHAPES - 1)];
         new_table(shape);
-        for (uint64_t left = 1 + below(shape->calls); left && call_number < calls; left--) step();
+        for (uint64_t left = 1 + below(shape->calls); left && call_number < last; left--) step();
     }
     tell_counts();
     return all_seen() ? 0 : 1;

@@ -42,15 +42,17 @@ int run(void)
 
     if (shelfegret_size(s).number > sizeof table) return 1;
     if (shelfegret_make(s, table, sizeof table).code) return 2;
-    if (shelfegret_add(s, table, sizeof table, key, 7).word != SHELFEGRET_ADDED) return 3;
-    if (shelfegret_add_text(s, table, sizeof table, spelt, sizeof spelt, 8).label != 7) return 4;
-    if (shelfegret_find(s, table, sizeof table, key).word != SHELFEGRET_HELD) return 5;
-    if (shelfegret_record(s, table, sizeof table, 0).key.low != 1) return 6;
-    if (shelfegret_check(s, table, sizeof table, marks, sizeof marks).word != SHELFEGRET_SOUND) return 7;
-    if (shelfegret_delete(s, table, sizeof table, key).word != SHELFEGRET_GONE) return 8;
-    if (shelfegret_find_text(s, table, sizeof table, spelt, sizeof spelt).word != SHELFEGRET_NONE) return 9;
-    if (shelfegret_delete_text(s, table, sizeof table, spelt, sizeof spelt).word != SHELFEGRET_NONE) return 10;
-    if (shelfegret_write_text(key, text, sizeof text).number != 11) return 11;
-    if (shelfegret_read_text(text, 11).key.high != key.high) return 12;
+    if (shelfegret_enter(s, table, sizeof table, key, 7).word != SHELFEGRET_ADDED) return 3;
+    if (shelfegret_enter_text(s, table, sizeof table, spelt, sizeof spelt, 8).code != 12) return 4;
+    if (shelfegret_relabel_text(s, table, sizeof table, spelt, sizeof spelt, 8).label != 7) return 5;
+    if (shelfegret_relabel(s, table, sizeof table, key, 9).label != 8) return 6;
+    if (shelfegret_find(s, table, sizeof table, key).label != 9) return 7;
+    if (shelfegret_record(s, table, sizeof table, 0).key.low != 1) return 8;
+    if (shelfegret_check(s, table, sizeof table, marks, sizeof marks).word != SHELFEGRET_SOUND) return 9;
+    if (shelfegret_delete(s, table, sizeof table, key).word != SHELFEGRET_GONE) return 10;
+    if (shelfegret_find_text(s, table, sizeof table, spelt, sizeof spelt).word != SHELFEGRET_NONE) return 11;
+    if (shelfegret_delete_text(s, table, sizeof table, spelt, sizeof spelt).word != SHELFEGRET_NONE) return 12;
+    if (shelfegret_write_text(key, text, sizeof text).number != 11) return 13;
+    if (shelfegret_read_text(text, 11).key.high != key.high) return 14;
     return 0;
 }

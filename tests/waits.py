@@ -9,10 +9,13 @@ GIVEN = [
     (b"? ::", b""),
     (b"1\n? ::2\n? :", b"::1 held 7 1\n::2 none 0 0\n"),
     (b":1\n", b"::1 held 7 1\n"),
+    (b"+ 0::1 8\n", b"refused 12\n"),
+    (b"=", b""),
+    (b" 0::1 9\n", b"::1 relabelled 7 1\n"),
     (b"x" * 64, b""),
     (b"x", b"refused 11\n"),
     (b"x" * 1000, b""),
-    (b"\n- ::1\n", b"::1 gone 7 1\n"),
+    (b"\n- ::1\n", b"::1 gone 9 1\n"),
     (b"? ::1", b""),
 ]
 

@@ -7,7 +7,7 @@ use Rattle.settings.specs.declared.settings.Settings.{Settings}
 use Rattle.settings.specs.declared.refusal.Refusal.{Refusal}
 use Rattle.settings.specs.Reply.{Reply}
 use Rattle.keys.specs.declared.Key.{Key}
-use Rattle.table.specs.Calls.{add, delete, makeCall, recordCall, checkCall}
+use Rattle.table.specs.Calls.{enter, relabel, delete, makeCall, recordCall, checkCall}
 use Rattle.table.specs.declared.answers.Answer as table
 use Rattle.table.specs.declared.answers.Answer.the-variants as answer
 use Rattle.table.specs.declared.answers.Word.{Word}
@@ -31,7 +31,7 @@ use Rattle.text_calls.specs.Asked.{Asked, verbAsked, tableCall}
 
 pub data Call : Type 0 where
   make : Call
-  -- add, find and delete, with a key or a text
+  -- find, enter, relabel and delete, with a key or a text
   ask : Asked → Call
   recordAt : ℕ → Call
   check : Call
@@ -109,7 +109,8 @@ module _ (s : Settings) (l : Lent) where
 -- clause 6.13: what writes the table
 pub data Writes : Call → Said → Type 0 where
   makes : Writes make made
-  adds : (q : Asked) (label : ℕ) → verbAsked q ≡ add label → Writes (ask q) (worded word.Added)
+  enters : (q : Asked) (label : ℕ) → verbAsked q ≡ enter label → Writes (ask q) (worded word.Added)
+  relabels : (q : Asked) (label : ℕ) → verbAsked q ≡ relabel label → Writes (ask q) (worded word.Relabelled)
   deletes : (q : Asked) → verbAsked q ≡ delete → Writes (ask q) (worded word.Gone)
 
 -- how many bytes of the buffer a call may write: the marks of clause 6.11, or those of the text

@@ -2,4 +2,5 @@
 pub mod KeySteps
 pub mod Lent
 pub mod Demand3
+pub mod OneCall
 pub mod Spellings

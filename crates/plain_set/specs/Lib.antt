@@ -5,5 +5,7 @@ pub mod Plain
 pub mod Same
 pub mod Holds
 pub mod Nth
+pub mod OwnRefusal
+pub mod OnlyLabel
 -- What is proved of them.
 pub mod theory

@@ -13,7 +13,7 @@ use Rattle.settings.specs.Sizes.{lists}
 use Rattle.settings.specs.Due.{Due, due, unlessDue, settingsDue, shortDue, widthDue, keyDue}
 use Rattle.keys.specs.Key.{listNumber}
 use Rattle.plain_set.specs.Rebuilt.{Pair, pair}
-use Rattle.table.specs.Calls.{Verb, find, add, delete, verbDue}
+use Rattle.table.specs.Calls.{Verb, find, enter, relabel, delete, verbDue}
 use Rattle.table.specs.declared.answers.Word.{Word}
 use Rattle.table.specs.declared.answers.Word.the-variants as word
 
@@ -53,6 +53,10 @@ abbrev pub erase : ℕ → List Pair → List Pair
 erase k [] = []
 erase k (p ∷ ps) = cond (hasKey k p) ps (p ∷ erase k ps)
 
+abbrev pub relabelPair : ℕ → ℕ → List Pair → List Pair
+relabelPair k l [] = []
+relabelPair k l (p ∷ ps) = cond (hasKey k p) (pair k l ∷ ps) (p ∷ relabelPair k l ps)
+
 pub record Step : Type 0 where
   pub answer : Answer
   pub after : List Pair
@@ -83,7 +87,7 @@ module _ (s : Settings) where
   abbrev pub allBlocksUsed : List Pair → Bool
   allBlocksUsed ps = eqb (blocksNeeded ps) (s .nob)
 
-  -- The steps: clauses 8.3 to 8.7 ----------------------------------------------------------------------------------------
+  -- The steps: clauses 8.3 to 8.7 and 8.11 ----------------------------------------------------------------------------------------
 
   abbrev pub findStep : List Pair → Option ℕ → Step
   findStep ps none = step (said word.None 0) ps
@@ -93,16 +97,22 @@ module _ (s : Settings) where
   deleteStep ps k none = step (said word.None 0) ps
   deleteStep ps k (some l) = step (said word.Gone l) (erase k ps)
 
-  abbrev pub addStep : List Pair → ℕ → ℕ → Option ℕ → Step
-  addStep ps k l none =
+  abbrev pub enterStep : List Pair → ℕ → ℕ → Option ℕ → Step
+  enterStep ps k l none =
       cond (noVacantSlot (listLength ps (listNumber s k)) && allBlocksUsed ps)
       (step (refused refusal.NoBlock) ps) (step (said word.Added l) (pair k l ∷ ps))
-  addStep ps k l (some m) = step (said word.Held m) ps
+  enterStep ps k l (some m) = step (refused refusal.Known) ps
+
+  -- the new label in the pair, the old one in the answer
+  abbrev pub relabelStep : List Pair → ℕ → ℕ → Option ℕ → Step
+  relabelStep ps k l none = step (said word.None 0) ps
+  relabelStep ps k l (some m) = step (said word.Relabelled m) (relabelPair k l ps)
 
   -- the call with a legal key
   abbrev pub keyStep : List Pair → Verb → ℕ → Step
   keyStep ps find k = findStep ps (lookup k ps)
-  keyStep ps (add l) k = addStep ps k l (lookup k ps)
+  keyStep ps (enter l) k = enterStep ps k l (lookup k ps)
+  keyStep ps (relabel l) k = relabelStep ps k l (lookup k ps)
   keyStep ps delete k = deleteStep ps k (lookup k ps)
 
   -- the refusals for what is given; a text that is not legal is 4

@@ -28,3 +28,4 @@ pub mod StateSteps
 pub mod Start
 pub mod Answers
 pub mod Nth
+pub mod Relabel

@@ -2,3 +2,4 @@
 mod Decimal
 mod Puts
 mod Texts
+mod Verbs

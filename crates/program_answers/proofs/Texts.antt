@@ -13,20 +13,22 @@ use Rattle.program_answers.proofs.Decimal.{decimal-short}
 use Rattle.table.specs.declared.answers.Word.{Word}
 use Rattle.table.specs.declared.answers.Word.the-variants as word
 
-pub word-short : (w : Word) → length (wordText w) ≤ 7
+pub word-short : (w : Word) → length (wordText w) ≤ 12
 unfolding wordText ascii
 word-short word.Added = lit≤ tt
 word-short word.Held = lit≤ tt
 word-short word.Gone = lit≤ tt
 word-short word.None = lit≤ tt
+word-short word.Relabelled = lit≤ tt
 
--- of the words of a change, what is not "added" is "gone"
-pub gone-text : (w : Word) → Change w → (w ≡ word.Added → ⊥) → wordText w ≡ ascii " gone "
+-- of the words of a change, what is neither "added" nor "gone" is "relabelled"
+pub relabelled-text : (w : Word) → Change w → (w ≡ word.Added → ⊥) → (w ≡ word.Gone → ⊥) → wordText w ≡ ascii " relabelled "
 unfolding wordText
-gone-text word.Added h n = absurd (n refl)
-gone-text word.Held h n = absurd (h .0 refl)
-gone-text word.Gone h n = refl
-gone-text word.None h n = absurd (h .1 refl)
+relabelled-text word.Added h n m = absurd (n refl)
+relabelled-text word.Held h n m = absurd (h .0 refl)
+relabelled-text word.Gone h n m = absurd (m refl)
+relabelled-text word.None h n m = absurd (h .1 refl)
+relabelled-text word.Relabelled h n m = refl
 
 pub numbers-short : (label compared : ℕ) → label < 2 ^ 32 → compared < 2 ^ 32 → length (numbersText label compared) ≤ 22
 unfolding numbersText

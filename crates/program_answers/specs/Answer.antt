@@ -23,8 +23,9 @@ wordText word.Added = ascii " added "
 wordText word.Held = ascii " held "
 wordText word.Gone = ascii " gone "
 wordText word.None = ascii " none "
+wordText word.Relabelled = ascii " relabelled "
 
--- an answer needs no more room: an address has at most 39 bytes, a word with its spaces 7, two numbers of ten digits with what follows them 22
+-- an answer needs no more room: an address has at most 39 bytes, a word with its spaces 12, two numbers of ten digits with what follows them 22
 abbrev pub answerRoom : ℕ
 answerRoom = 80
 

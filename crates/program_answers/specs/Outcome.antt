@@ -2,7 +2,7 @@
 use Prim.Native.Nat.{ℕ}
 use mathlib.Core.List.{List}
 use Rattle.settings.specs.Reply.{Reply}
-use Rattle.table.specs.Calls.{Verb, find, add, delete}
+use Rattle.table.specs.Calls.{Verb, find, enter, relabel, delete}
 use Rattle.text_calls.specs.TextCalls.{textCall}
 use Rattle.text_calls.specs.declared.calls.TextAnswer.{TextAnswer}
 use Rattle.program_commands.specs.Command.{Command}
@@ -11,7 +11,8 @@ use Rattle.program_commands.specs.declared.command.Op.the-variants as op
 use Rattle.program_answers.specs.Program.{program}
 
 abbrev pub verbOf : Op → ℕ → Verb
-verbOf op.Add label = add label
+verbOf op.Enter label = enter label
+verbOf op.Relabel label = relabel label
 verbOf op.Delete label = delete
 verbOf op.Find label = find
 

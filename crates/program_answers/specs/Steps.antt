@@ -13,7 +13,7 @@ use Rattle.program_answers.specs.Program.{program}
 use Rattle.program_answers.specs.Outcome.{verbOf}
 use Rattle.program_answers.specs.Answer.{answerRoom, answerText}
 
--- one of the two words that say a change
+-- one of the three words that say a change
 abbrev pub Change : Word → Type 0
 Change w = (w ≡ word.Held → ⊥) × (w ≡ word.None → ⊥)
 

@@ -24,21 +24,32 @@ ghost use Rattle.table.specs.declared.answers.Word.the-variants as word;
 // Room for any answer: an address of at most 39 bytes, a word, two numbers of at most ten digits.
 pub const ANSWER_MAX: usize = 80;
 
-// The words of a change. The four words are told apart by one test after the other: a jump through a table would be
-// mispredicted in every other line.
+// The words of a change but "added". The five words are told apart by one test after the other: a jump through a table
+// would be mispredicted in every other line.
+fn put_unadded(w: Word, out: &mut [u8], at: usize) -> usize
+    requires { ⌜ Change w × (w ≡ word.Added → ⊥) × (at + 12 ≤ length (now out)) ⌝ }
+    ensures { λ r. ⌜ Put (wordText w) (now (out .entry)) at (now (out .exit)) r ⌝ }
+{
+    match w {
+        Word::Gone => put(b" gone ", out, at),
+        _ => put(b" relabelled ", out, at),
+    }
+}
+
+// The words of a change.
 fn put_change(w: Word, out: &mut [u8], at: usize) -> usize
-    requires { ⌜ Change w × (at + 7 ≤ length (now out)) ⌝ }
+    requires { ⌜ Change w × (at + 12 ≤ length (now out)) ⌝ }
     ensures { λ r. ⌜ Put (wordText w) (now (out .entry)) at (now (out .exit)) r ⌝ }
 {
     match w {
         Word::Added => put(b" added ", out, at),
-        _ => put(b" gone ", out, at),
+        _ => put_unadded(w, out, at),
     }
 }
 
 // The words but "held".
 fn put_unheld(w: Word, out: &mut [u8], at: usize) -> usize
-    requires { ⌜ (w ≡ word.Held → ⊥) × (at + 7 ≤ length (now out)) ⌝ }
+    requires { ⌜ (w ≡ word.Held → ⊥) × (at + 12 ≤ length (now out)) ⌝ }
     ensures { λ r. ⌜ Put (wordText w) (now (out .entry)) at (now (out .exit)) r ⌝ }
 {
     match w {
@@ -48,7 +59,7 @@ fn put_unheld(w: Word, out: &mut [u8], at: usize) -> usize
 }
 
 fn put_word(w: Word, out: &mut [u8], at: usize) -> usize
-    requires { ⌜ at + 7 ≤ length (now out) ⌝ }
+    requires { ⌜ at + 12 ≤ length (now out) ⌝ }
     ensures { λ r. ⌜ Put (wordText w) (now (out .entry)) at (now (out .exit)) r ⌝ }
 {
     match w {

@@ -13,8 +13,8 @@ use Rattle.laws.specs.Cases.{cases, cond-same}
 use Rattle.program_lines.specs.Ends.{before, firstFrom}
 use Rattle.program_lines.specs.theory.Ends.{first-after, first-le}
 use Rattle.program_commands.specs.Fields.{space, fields}
-use Rattle.program_commands.specs.Command.{Command, mkCommand, opOf, labelOf, addressed, asked, spelled, longestLine, commandOf}
-use Rattle.program_commands.specs.Steps.{labelNumber, labelRoom, Begins, spaceless, addressIn, requested, Asks}
+use Rattle.program_commands.specs.Command.{Command, mkCommand, opOf, labelOf, addressed, takesLabel, withLabel, asked, spelled, longestLine, commandOf}
+use Rattle.program_commands.specs.Steps.{labelNumber, labelRoom, Begins, Labelled, spaceless, addressIn, requested, Asks}
 use Rattle.program_commands.specs.declared.command.Op.{Op}
 use Rattle.program_commands.specs.declared.command.Op.the-variants as op
 use Rattle.program_commands.specs.declared.command.Request.{Request}
@@ -66,37 +66,42 @@ module _ (c : ℕ) where
       cases (spaceless s) (λ t. rw (t, fields-one s t) (unfold asked in rw p (addressed-some s (some (mkCommand o s 0)) h)))
       (λ t. rw (t, f t))
 
-  -- only '+' has a second field
-  no-second : eqb c 43 ≡ false → (fs : List (List ℕ)) → Several fs → asked c fs ≡ none
+  -- a byte that stands for nothing, or for an op without a label, has no second field
+  no-second : ((x : List ℕ) (m : Option ℕ) → withLabel (opOf c) x m ≡ none) → (fs : List (List ℕ)) → Several fs → asked c fs ≡ none
   no-second e fs s = rw (s .is) (go (s .others))
     where
       go : (os : List (List ℕ)) → asked c (s .first ∷ s .second ∷ os) ≡ none
-      go [] = unfold asked in rw e (addressed-none (s .first))
+      go [] = unfold asked in rw (e (s .first) (labelOf (s .second))) (addressed-none (s .first))
       go (o ∷ os) = unfold asked in refl
 
   -- no command begins with c
-  no-op : opOf c ≡ none → eqb c 43 ≡ false → (fs : List (List ℕ)) → asked c fs ≡ none
-  no-op p e [] = unfold asked in refl
-  no-op p e (x ∷ []) = unfold asked in rw p (addressed-none x)
-  no-op p e (x ∷ y ∷ fs) = no-second e (x ∷ y ∷ fs) (record { first = x; second = y; others = fs; is = refl })
+  no-op : opOf c ≡ none → (fs : List (List ℕ)) → asked c fs ≡ none
+  no-op p [] = unfold asked in refl
+  no-op p (x ∷ []) = unfold asked in rw p (addressed-none x)
+  no-op p (x ∷ y ∷ fs) = no-second (λ a m. rw p) (x ∷ y ∷ fs) (record { first = x; second = y; others = fs; is = refl })
 
-module _ (x y : List ℕ) where
-  -- what a second field y of '+' asks for
-  second : labelOf y ≡ none → asked 43 (fields (x ++ space ∷ y)) ≡ none
+-- an op that takes none, with a label
+no-label-taken : (o : Op) → takesLabel o ≡ false → (x : List ℕ) (m : Option ℕ) → withLabel (some o) x m ≡ none
+no-label-taken o e x none = refl
+no-label-taken o e x (some n) = rw e
+
+-- what a second field y of an op that takes a label asks for
+module _ (c : ℕ) (o : Op) (p : opOf c ≡ some o) (x y : List ℕ) where
+  second : labelOf y ≡ none → asked c (fields (x ++ space ∷ y)) ≡ none
   second e =
       rw (fields-join x y)
       (cases (spaceless x) (λ t. rw (fields-one x t) (cases (spaceless y)
-      (λ u. rw (fields-one y u) (unfold asked in rw e (addressed-none x)))
+      (λ u. rw (fields-one y u) (unfold asked in rw (e, p) (addressed-none x)))
       (λ u. let s = fields-more y u in rw (s .is) (unfold asked in refl))))
-      (λ t. many 43 (fields x) (fields y) (fields-more x t) (fields-some y)))
+      (λ t. many c (fields x) (fields y) (fields-more x t) (fields-some y)))
 
-  labelled : (v : ℕ) → labelOf y ≡ some v → 1 ≤ length x
-      → asked 43 (fields (x ++ space ∷ y)) ≡ cond (spaceless x) (some (mkCommand op.Add x v)) none
-  labelled v e h =
+  labelled : (v : ℕ) → takesLabel o ≡ true → labelOf y ≡ some v → 1 ≤ length x
+      → asked c (fields (x ++ space ∷ y)) ≡ cond (spaceless x) (some (mkCommand o x v)) none
+  labelled v q e h =
       rw (fields-join x y)
       (cases (spaceless x)
-      (λ t. rw (t, fields-one x t, fields-one y (digits-spaceless y (label-means y v e .ten))) (unfold asked in rw e (addressed-some x (some (mkCommand op.Add x v)) h)))
-      (λ t. rw t (many 43 (fields x) (fields y) (fields-more x t) (fields-some y))))
+      (λ t. rw (t, fields-one x t, fields-one y (digits-spaceless y (label-means y v e .ten))) (unfold asked in rw (e, p, q) (addressed-some x (some (mkCommand o x v)) h)))
+      (λ t. rw t (many c (fields x) (fields y) (fields-more x t) (fields-some y))))
 
 -- The lines that are no command, by their first bytes ------------------------------------------------------------------
 
@@ -155,11 +160,11 @@ abbrev pub asks-for : Op → ℕ → ℕ → Request
 asks-for o e v = record { op = o; end = e; label = v }
 
 module _ (l : List ℕ) (c : ℕ) (b : Begins l c) where
-  -- none of the three commands
-  pub unknown-line : (c ≡ 43 → ⊥) → (c ≡ 45 → ⊥) → (c ≡ 63 → ⊥) → commandOf l ≡ none
-  unknown-line f g h =
-      let p : opOf c ≡ none = unfold opOf in rw (ne-eqb c 43 f, ne-eqb c 45 g, ne-eqb c 63 h) in
-      begun l c b ∙ no-op c p (ne-eqb c 43 f) (fields (drop 2 l))
+  -- none of the four commands
+  pub unknown-line : (c ≡ 43 → ⊥) → (c ≡ 45 → ⊥) → (c ≡ 63 → ⊥) → (c ≡ 61 → ⊥) → commandOf l ≡ none
+  unknown-line f g h i =
+      let p : opOf c ≡ none = unfold opOf in rw (ne-eqb c 43 f, ne-eqb c 61 i, ne-eqb c 45 g, ne-eqb c 63 h) in
+      begun l c b ∙ no-op c p (fields (drop 2 l))
 
   -- an address that goes to the end of the line
   alone-asks : (o : Op) (e : ℕ) → opOf c ≡ some o → e ≡ length l → (spaceless (drop 2 l) ≡ false → asked c (fields (drop 2 l)) ≡ none)
@@ -170,8 +175,10 @@ module _ (l : List ℕ) (c : ℕ) (b : Begins l c) where
   }
 
   -- without a label
-  address-asks : (o : Op) → opOf c ≡ some o → eqb c 43 ≡ false → Asks l (answer.Request (asks-for o (length l) 0))
-  address-asks o p n = alone-asks o (length l) p refl (λ t. no-second c n (fields (drop 2 l)) (fields-more (drop 2 l) t))
+  address-asks : (o : Op) → opOf c ≡ some o → takesLabel o ≡ false → Asks l (answer.Request (asks-for o (length l) 0))
+  address-asks o p n =
+      alone-asks o (length l) p refl
+      (λ t. no-second c (λ x m. rw p (no-label-taken o n x m)) (fields (drop 2 l)) (fields-more (drop 2 l) t))
 
 module _ (l : List ℕ) where
   pub delete-asks : Begins l 45 → Asks l (answer.Request (asks-for op.Delete (length l) 0))
@@ -182,11 +189,11 @@ module _ (l : List ℕ) where
   unfolding opOf
   find-asks b = address-asks l 63 b op.Find refl refl
 
--- "+ " -----------------------------------------------------------------------------------------------------------------
+-- "+ " and "= " --------------------------------------------------------------------------------------------------------
 
-module _ (l : List ℕ) (b : Begins l 43) (k e : ℕ) (r : k ≡ labelRoom (length l)) (f : e ≡ firstFrom space l k) where
+module _ (l : List ℕ) (o : Op) (a : Labelled l o) (k e : ℕ) (r : k ≡ labelRoom (length l)) (f : e ≡ firstFrom space l k) where
   roomed : Room (length l) k
-  roomed = rw r (room (length l) (b .low))
+  roomed = rw r (room (length l) (a .begins .low))
 
   after : k ≤ e
   after = rw f (first-after space l k)
@@ -195,7 +202,7 @@ module _ (l : List ℕ) (b : Begins l 43) (k e : ℕ) (r : k ≡ labelRoom (leng
   within = rw f (first-le space l k (roomed .high))
 
   -- with no space where a label's could stand, what follows the first space is too long for a label
-  too-long : e ≡ length l → spaceless (drop 2 l) ≡ false → asked 43 (fields (drop 2 l)) ≡ none
+  too-long : e ≡ length l → spaceless (drop 2 l) ≡ false → asked (a .byte) (fields (drop 2 l)) ≡ none
   unfolding firstFrom
   too-long h t =
       let s = drop 2 l in
@@ -204,11 +211,11 @@ module _ (l : List ℕ) (b : Begins l 43) (k e : ℕ) (r : k ≡ labelRoom (leng
       let q : 2 + j < k = cases (ltb (2 + j) k) (ltb-true (2 + j) k)
       (λ u. let m = ltb-false (2 + j) k u in absurd (omega (arith, first-same space l 2 k (roomed .low) m, length-drop 2 l))) in
       let n = roomed .far (omega (arith, q)) in
-      ap (asked 43) (ap fields (cut-first s p .is))
-      ∙ second (take j s) (drop (suc j) s) (label-long (drop (suc j) s) (omega (arith, length-drop (suc j) s, length-drop 2 l)))
+      ap (asked (a .byte)) (ap fields (cut-first s p .is))
+      ∙ second (a .byte) o (a .stands) (take j s) (drop (suc j) s) (label-long (drop (suc j) s) (omega (arith, length-drop (suc j) s, length-drop 2 l)))
 
-  pub add-alone : e ≡ length l → Asks l (answer.Request (asks-for op.Add e 0))
-  add-alone h = alone-asks l 43 b op.Add e (unfold opOf in refl) h (too-long h)
+  pub labelled-alone : e ≡ length l → Asks l (answer.Request (asks-for o e 0))
+  labelled-alone h = alone-asks l (a .byte) (a .begins) o e (a .stands) h (too-long h)
 
   module _ (n : e ≡ length l → ⊥) where
     below : e < length l
@@ -223,28 +230,28 @@ module _ (l : List ℕ) (b : Begins l 43) (k e : ℕ) (r : k ≡ labelRoom (leng
     pub label-fits : (e + 1 ≤ length l) × (length l ≤ e + 1 + 3)
     label-fits = (omega (arith, below), omega (arith, after, roomed .near))
 
-    add-labelled : (v : ℕ) → labelOf (drop (e + 1) l) ≡ some v → (e ≡ 2 → ⊥) → Asks l (answer.Request (asks-for op.Add e v))
-    add-labelled v p m = record {
+    labelled-with : (v : ℕ) → labelOf (drop (e + 1) l) ≡ some v → (e ≡ 2 → ⊥) → Asks l (answer.Request (asks-for o e v))
+    labelled-with v p m = record {
       is =
-          begun l 43 b ∙ ap (asked 43) (ap fields spaced)
-          ∙ (unfold requested in labelled (addressIn l e) (drop (e + 1) l) v p (omega (arith, two, address-length l e two within)));
+          begun l (a .byte) (a .begins) ∙ ap (asked (a .byte)) (ap fields spaced)
+          ∙ (unfold requested in labelled (a .byte) o (a .stands) (addressIn l e) (drop (e + 1) l) v (a .takes) p (omega (arith, two, address-length l e two within)));
       bounded = (two, within);
     }
 
     no-label : labelOf (drop (e + 1) l) ≡ none → commandOf l ≡ none
-    no-label p = begun l 43 b ∙ ap (asked 43) (ap fields spaced) ∙ second (addressIn l e) (drop (e + 1) l) p
+    no-label p = begun l (a .byte) (a .begins) ∙ ap (asked (a .byte)) (ap fields spaced) ∙ second (a .byte) o (a .stands) (addressIn l e) (drop (e + 1) l) p
 
     unaddressed : e ≡ 2 → commandOf l ≡ none
-    unaddressed p = begun l 43 b ∙ ap (asked 43) (ap fields spaced) ∙ rw p (unfold fields in no-address 43 (fields (drop (2 + 1) l)))
+    unaddressed p = begun l (a .byte) (a .begins) ∙ ap (asked (a .byte)) (ap fields spaced) ∙ rw p (unfold fields in no-address (a .byte) (fields (drop (2 + 1) l)))
 
     -- by the test of the label and the address
     module _ (v : ℕ) (m : v ≡ labelNumber (labelOf (drop (e + 1) l))) where
-      pub add-malformed : (eqb v 1000 || eqb e 2) ≡ true → Asks l answer.Malformed
-      add-malformed t =
+      pub labelled-malformed : (eqb v 1000 || eqb e 2) ≡ true → Asks l answer.Malformed
+      labelled-malformed t =
           malformed l
           (either (eqb v 1000) (eqb e 2) t (λ u. no-label (number-none (drop (e + 1) l) v m (eqb-true v 1000 u))) (λ u. unaddressed (eqb-true e 2 u)))
 
-      pub add-asks : (eqb v 1000 || eqb e 2) ≡ false → Asks l (answer.Request (asks-for op.Add e v))
-      add-asks t =
+      pub labelled-asks : (eqb v 1000 || eqb e 2) ≡ false → Asks l (answer.Request (asks-for o e v))
+      labelled-asks t =
           let p = neither (eqb v 1000) (eqb e 2) t in
-          add-labelled v (number-some (drop (e + 1) l) v m (eqb-false v 1000 (p .0))) (eqb-false e 2 (p .1))
+          labelled-with v (number-some (drop (e + 1) l) v m (eqb-false v 1000 (p .0))) (eqb-false e 2 (p .1))

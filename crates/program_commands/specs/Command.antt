@@ -1,6 +1,6 @@
 -- Clause 10.3: the command in a line.
 use Prim.Native.Nat.{ℕ}
-use mathlib.Core.Bool.{cond, _&&_}
+use mathlib.Core.Bool.{Bool, true, false, cond, _&&_}
 use mathlib.Core.List.{List, [], _∷_}
 use mathlib.Core.Option.{Option, none, some}
 use lib.ListN.{length}
@@ -18,9 +18,10 @@ pub record Command : Type 0 where
 abbrev pub mkCommand : Op → List ℕ → ℕ → Command
 mkCommand o x n = record { op = o; address = x; label = n }
 
--- '+' is 43, '-' is 45, '?' is 63
+-- '+' is 43, '-' is 45, '=' is 61, '?' is 63
 unfoldable pub opOf : ℕ → Option Op
-opOf c = cond (eqb c 43) (some op.Add) (cond (eqb c 45) (some op.Delete) (cond (eqb c 63) (some op.Find) none))
+opOf c =
+    cond (eqb c 43) (some op.Enter) (cond (eqb c 61) (some op.Relabel) (cond (eqb c 45) (some op.Delete) (cond (eqb c 63) (some op.Find) none)))
 
 -- one to three decimal digits without a leading zero, or 0
 unfoldable pub labelOf : List ℕ → Option ℕ
@@ -35,15 +36,22 @@ abbrev pub withOp : Option Op → List ℕ → ℕ → Option Command
 withOp none x n = none
 withOp (some o) x n = some (mkCommand o x n)
 
-abbrev pub withLabel : List ℕ → Option ℕ → Option Command
-withLabel x none = none
-withLabel x (some n) = some (mkCommand op.Add x n)
+abbrev pub takesLabel : Op → Bool
+takesLabel op.Enter = true
+takesLabel op.Relabel = true
+takesLabel op.Delete = false
+takesLabel op.Find = false
+
+abbrev pub withLabel : Option Op → List ℕ → Option ℕ → Option Command
+withLabel none x m = none
+withLabel (some o) x none = none
+withLabel (some o) x (some n) = cond (takesLabel o) (some (mkCommand o x n)) none
 
 -- the command of the byte c and the fields behind it; without a label and its space the label is 0
 unfoldable pub asked : ℕ → List (List ℕ) → Option Command
 asked c [] = none
 asked c (x ∷ []) = addressed x (withOp (opOf c) x 0)
-asked c (x ∷ y ∷ []) = addressed x (cond (eqb c 43) (withLabel x (labelOf y)) none)
+asked c (x ∷ y ∷ []) = addressed x (withLabel (opOf c) x (labelOf y))
 asked c (x ∷ y ∷ z ∷ f) = none
 
 unfoldable pub spelled : List ℕ → Option Command

@@ -1,6 +1,6 @@
 -- Words that only private contracts use.
 use mathlib.Core.Path.{_≡_}
-use mathlib.Core.Bool.{Bool, cond, _&&_}
+use mathlib.Core.Bool.{Bool, true, cond, _&&_}
 use mathlib.Core.List.{List}
 use mathlib.Core.Option.{Option, none, some}
 use Prim.Native.Nat.{ℕ, _-_, _≤_}
@@ -10,7 +10,8 @@ use Rattle.settings.specs.declared.refusal.Refusal.{Refusal}
 use Rattle.settings.specs.declared.refusal.Refusal.the-variants as refusal
 use Rattle.program_lines.specs.Ends.{before}
 use Rattle.program_commands.specs.Fields.{space}
-use Rattle.program_commands.specs.Command.{Command, mkCommand, longestLine, commandOf}
+use Rattle.program_commands.specs.Command.{Command, mkCommand, opOf, takesLabel, longestLine, commandOf}
+use Rattle.program_commands.specs.declared.command.Op.{Op}
 use Rattle.program_commands.specs.declared.command.Asked.{Asked}
 use Rattle.program_commands.specs.declared.command.Asked.the-variants as answer
 
@@ -32,6 +33,13 @@ pub record Begins (l : List ℕ) (c : ℕ) : Type 0 where
   pub high : length l ≤ longestLine
   pub first : getD l 0 0 ≡ c
   pub second : getD l 1 0 ≡ space
+
+-- such a line, whose first byte stands for o, which takes a label
+pub record Labelled (l : List ℕ) (o : Op) : Type 0 where
+  pub byte : ℕ
+  pub begins : Begins l byte
+  pub stands : opOf byte ≡ some o
+  pub takes : takesLabel o ≡ true
 
 -- no byte of the text is a space
 unfoldable pub spaceless : List ℕ → Bool

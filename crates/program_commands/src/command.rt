@@ -5,10 +5,11 @@ ghost use mathlib.Core.Path.{_≡_};
 ghost use Prim.Native.Nat.{_+_, _≤_, _<_};
 ghost use lib.ListN.{length, drop};
 ghost use Rattle.program_commands.specs.Command.{labelOf};
-ghost use Rattle.program_commands.specs.Steps.{isDigit, labelNumber, labelRoom, Begins, Asks, addressIn, unreadFor};
+ghost use Rattle.program_commands.specs.Steps.{isDigit, labelNumber, labelRoom, Labelled, Asks, addressIn, unreadFor};
 
 pub enum Op {
-    Add,
+    Enter,
+    Relabel,
     Delete,
     Find,
 }
@@ -72,29 +73,21 @@ fn label_room(n: usize) -> usize
     n - 4
 }
 
-// The command in a line that begins with "+ " and goes on.
-fn parse_add(line: &[u8]) -> Asked
-    requires { ⌜ Begins (now line) 43 ⌝ }
+// The command in a line that begins with "+ " or "= " and goes on: `op` is its first byte's.
+fn parse_labelled(line: &[u8], op: Op) -> Asked
+    requires { ⌜ Labelled (now line) op ⌝ }
     ensures { λ r. ⌜ Asks (now (line .entry)) r ⌝ }
 {
     let n = line.len();
     let end = find_byte(line, b' ', label_room(n));
     if end == n {
-        return Asked::Request(Request {
-            op: Op::Add,
-            end,
-            label: 0,
-        });
+        return Asked::Request(Request { op, end, label: 0 });
     }
     let label = label_from(line, end + 1);
     if (label == NO_LABEL) | (end == 2) {
         return Asked::Malformed;
     }
-    Asked::Request(Request {
-        op: Op::Add,
-        end,
-        label,
-    })
+    Asked::Request(Request { op, end, label })
 }
 
 // The command in a line. Whether the address has a space is left to its reader, who meets one anyway: left free is
@@ -112,7 +105,7 @@ pub fn parse(line: &[u8]) -> Asked
     }
     let c = line[0];
     if c == b'+' {
-        return parse_add(line);
+        return parse_labelled(line, Op::Enter);
     }
     if c == b'-' {
         return Asked::Request(Request {
@@ -127,6 +120,9 @@ pub fn parse(line: &[u8]) -> Asked
             end: n,
             label: 0,
         });
+    }
+    if c == b'=' {
+        return parse_labelled(line, Op::Relabel);
     }
     Asked::Malformed
 }

@@ -71,10 +71,11 @@ abbrev pub setLines : List ℕ → List Pair → List (List ℕ) → List (List 
 setLines t ps [] = []
 setLines t ps (l ∷ ls) = lineText t ps l ∷ setLines (lineReply t l .bytes) (lineStep ps l .after) ls
 
--- the lines that the program can write: of the refusals, only 4, 6, 8 and 11
+-- the lines that the program can write: of the refusals, only 4, 6, 8, 11 and 12
 pub data Line : List ℕ → Type 0 where
   says : (k : ℕ) (w : Word) (label compared : ℕ) → Line (saidText (addressText k) w label compared)
   refuses-text : Line (refusedText refusal.Text)
   refuses-label : Line (refusedText refusal.Label)
   refuses-block : Line (refusedText refusal.NoBlock)
   refuses-line : Line (refusedText refusal.Line)
+  refuses-known : Line (refusedText refusal.Known)

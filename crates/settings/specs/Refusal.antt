@@ -15,3 +15,4 @@ numberOf refusal.NoBlock = 8
 numberOf refusal.Output = 9
 numberOf refusal.Marks = 10
 numberOf refusal.Line = 11
+numberOf refusal.Known = 12

@@ -14,6 +14,7 @@ pub enum Refusal {
     Output,
     Marks,
     Line,
+    Known,
 }
 
 impl Refusal {
@@ -33,6 +34,7 @@ impl Refusal {
             Refusal::Output => 9,
             Refusal::Marks => 10,
             Refusal::Line => 11,
+            Refusal::Known => 12,
         }
     }
 }

@@ -43,7 +43,7 @@ abbrev pub makeReply : MakeAnswer → Answer
 makeReply making.Made = numbered 0
 makeReply (making.Refused why) = refusedReply why
 
--- add, find and delete, for the key asked for
+-- find, enter, relabel and delete, for the key asked for
 abbrev pub answerReply : Key → table.Answer → Answer
 answerReply key a =
     let v = valuesOf key a in
@@ -53,7 +53,7 @@ answerReply key a =
 abbrev pub textReply : TextAnswer → Answer
 textReply a = answerReply (a .key) (a .answer)
 
--- clauses 6.9 and 6.14; the words from 5 on are those of record and check
+-- clauses 6.9 and 6.14; the words 5 to 7 are those of record and check
 abbrev pub recordReply : RecordAnswer → Answer
 recordReply (recording.Record key label) = saying 5 key label 0
 recordReply recording.None = saying (wordNumber word.None) noKey 0 0

@@ -10,17 +10,12 @@ use table::Word;
 use text_read::Parsed;
 use text_write::Written;
 ghost use mathlib.Core.Path.{_≡_};
+ghost use Prim.Native.Nat.{_+_, _*_, _/_, _≤_};
 ghost use Rattle.table.specs.Answer.{wordNumber};
 ghost use Rattle.shelfegret.specs.Reply.{refusedReply, saying, numbered, sizeReply, makeReply, answerReply, recordReply, checkReply, readReply, writeReply};
 
-// The words' numbers; 0 is no word.
+// Numbers of words; those of find, enter, relabel and delete are computed (`number_of`). 0 is no word.
 const NO_WORD: u32 = 0;
-
-const ADDED: u32 = 1;
-
-const HELD: u32 = 2;
-
-const GONE: u32 = 3;
 
 const NONE: u32 = 4;
 
@@ -92,19 +87,29 @@ pub(crate) fn made(a: MakeAnswer) -> Answer
     }
 }
 
-// A word's number.
-fn number_of(word: Word) -> u32
-    ensures { λ r. ⌜ r ≡ wordNumber word ⌝ }
+// A word's place among the words: the number that the enum is stored as, so that nothing is left of the `match`.
+fn place_of(word: Word) -> u32
+    ensures { λ r. ⌜ (r ≤ 4) × (r + 1 + r / 4 * 3 ≡ wordNumber word) ⌝ }
 {
     match word {
-        Word::Added => ADDED,
-        Word::Held => HELD,
-        Word::Gone => GONE,
-        Word::None => NONE,
+        Word::Added => 0,
+        Word::Held => 1,
+        Word::Gone => 2,
+        Word::None => 3,
+        Word::Relabelled => 4,
     }
 }
 
-// What add, find and delete answer, for the key asked for.
+// A word's number: 1 to 4, and 8, since 5 to 7 are those of record and check. It is computed: a `match` with these numbers
+// would be a jump through a table, in every call.
+fn number_of(word: Word) -> u32
+    ensures { λ r. ⌜ r ≡ wordNumber word ⌝ }
+{
+    let n = place_of(word);
+    n + 1 + n / 4 * 3
+}
+
+// What find, enter, relabel and delete answer, for the key asked for.
 pub(crate) fn answered(key: Key, a: table::Answer) -> Answer
     ensures { λ r. ⌜ r ≡ answerReply key a ⌝ }
 {

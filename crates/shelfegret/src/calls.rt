@@ -10,7 +10,7 @@ use settings::Settings;
 ghost use mathlib.Core.Path.{_≡_};
 ghost use Rattle.settings.specs.Made.{sizeOf};
 ghost use Rattle.settings.specs.Reply.{answering, Gives};
-ghost use Rattle.table.specs.Calls.{find, add, delete, makeCall, keyCall, recordCall, checkCall};
+ghost use Rattle.table.specs.Calls.{find, enter, relabel, delete, makeCall, keyCall, recordCall, checkCall};
 ghost use Rattle.shelfegret.specs.Reply.{sizeReply, makeReply, answerReply, recordReply, checkReply};
 
 // The number of bytes that the table needs.
@@ -29,20 +29,28 @@ pub extern "C" fn shelfegret_make(s: Settings, t: &mut [u8]) -> Answer
     made(table_make::make(s, t))
 }
 
-// "added" with the label, or "held" with the old one.
-#[no_mangle]
-pub extern "C" fn shelfegret_add(s: Settings, t: &mut [u8], key: Key, label: u64) -> Answer
-    ensures { λ r. ⌜ Gives (answering (answerReply key) (keyCall s (now (t .entry)) (add label) key)) r (now (t .exit)) ⌝ }
-{
-    answered(key, table_add::add(s, t, key, label))
-}
-
 // "held" with the label, or "none".
 #[no_mangle]
 pub extern "C" fn shelfegret_find(s: Settings, t: &[u8], key: Key) -> Answer
     ensures { λ r. ⌜ r ≡ answerReply key (keyCall s (now (t .entry)) find key .answer) ⌝ }
 {
     answered(key, table_find::find(s, t, key))
+}
+
+// "added" with the label; a key that is held is refused.
+#[no_mangle]
+pub extern "C" fn shelfegret_enter(s: Settings, t: &mut [u8], key: Key, label: u64) -> Answer
+    ensures { λ r. ⌜ Gives (answering (answerReply key) (keyCall s (now (t .entry)) (enter label) key)) r (now (t .exit)) ⌝ }
+{
+    answered(key, table_enter::enter(s, t, key, label))
+}
+
+// "relabelled" with the old label, or "none".
+#[no_mangle]
+pub extern "C" fn shelfegret_relabel(s: Settings, t: &mut [u8], key: Key, label: u64) -> Answer
+    ensures { λ r. ⌜ Gives (answering (answerReply key) (keyCall s (now (t .entry)) (relabel label) key)) r (now (t .exit)) ⌝ }
+{
+    answered(key, table_relabel::relabel(s, t, key, label))
 }
 
 // "gone" with the label, or "none".

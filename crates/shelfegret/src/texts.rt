@@ -7,22 +7,11 @@ use keys::Key;
 use settings::Settings;
 ghost use mathlib.Core.Path.{_≡_};
 ghost use Rattle.settings.specs.Reply.{answering, Gives};
-ghost use Rattle.table.specs.Calls.{find, add, delete};
+ghost use Rattle.table.specs.Calls.{find, enter, relabel, delete};
 ghost use Rattle.text_read.specs.Answers.{readingOf};
 ghost use Rattle.text_write.specs.Answers.{writeCall};
 ghost use Rattle.text_calls.specs.TextCalls.{textCall};
 ghost use Rattle.shelfegret.specs.Reply.{readReply, writeReply, textReply};
-
-// "added" with the label, or "held" with the old one, and the key that the text spells.
-#[no_mangle]
-pub extern "C" fn shelfegret_add_text(s: Settings, t: &mut [u8], text: &[u8], label: u64) -> Answer
-    ensures { λ r. ⌜ Gives (answering textReply (textCall s (now (t .entry)) (add label) (now (text .entry)))) r (now (t .exit)) ⌝ }
-{
-    let a = text_calls::add_text(s, t, text, label);
-    let key = a.key;
-    let added = a.answer;
-    answered(key, added)
-}
 
 // "held" with the label, or "none", and the key that the text spells.
 #[no_mangle]
@@ -33,6 +22,38 @@ pub extern "C" fn shelfegret_find_text(s: Settings, t: &[u8], text: &[u8]) -> An
     let key = a.key;
     let found = a.answer;
     answered(key, found)
+}
+
+// "added" with the label, and the key that the text spells; one that is held is refused.
+#[no_mangle]
+pub extern "C" fn shelfegret_enter_text(
+    s: Settings,
+    t: &mut [u8],
+    text: &[u8],
+    label: u64,
+) -> Answer
+    ensures { λ r. ⌜ Gives (answering textReply (textCall s (now (t .entry)) (enter label) (now (text .entry)))) r (now (t .exit)) ⌝ }
+{
+    let a = text_calls::enter_text(s, t, text, label);
+    let key = a.key;
+    let entered = a.answer;
+    answered(key, entered)
+}
+
+// "relabelled" with the old label, or "none", and the key that the text spells.
+#[no_mangle]
+pub extern "C" fn shelfegret_relabel_text(
+    s: Settings,
+    t: &mut [u8],
+    text: &[u8],
+    label: u64,
+) -> Answer
+    ensures { λ r. ⌜ Gives (answering textReply (textCall s (now (t .entry)) (relabel label) (now (text .entry)))) r (now (t .exit)) ⌝ }
+{
+    let a = text_calls::relabel_text(s, t, text, label);
+    let key = a.key;
+    let relabelled = a.answer;
+    answered(key, relabelled)
 }
 
 // "gone" with the label, or "none", and the key that the text spells.

@@ -9,7 +9,8 @@ use Rattle.keys.specs.theory.Examples.{remainder-of-7, hash-of-7}
 use Rattle.settings.specs.declared.settings.Settings.{Settings}
 use Rattle.keys.specs.declared.Key.{Key}
 use Rattle.settings.specs.declared.refusal.Refusal.the-variants as refusal
-use Rattle.table.specs.Calls.{Verb, find, add, delete, makeCall, keyCall}
+use Rattle.settings.specs.Reply.{reply}
+use Rattle.table.specs.Calls.{Verb, find, enter, relabel, delete, makeCall, keyCall}
 use Rattle.table.specs.theory.Computing as tables
 use Rattle.table.specs.declared.answers.Answer.{Answer}
 use Rattle.table.specs.Answer.{said}
@@ -25,12 +26,14 @@ use Rattle.text_calls.specs.theory.Computing as texts
 pub data Claim : Type 0 where
   -- make writes this table into any lent bytes of its size: here into bytes of ones
   makes : List ℕ → Claim
-  -- adding the keys in turn to the table gives that table
-  adds : List ℕ → List ℕ → List ℕ → Claim
+  -- entering the keys in turn gives that table
+  enters : List ℕ → List ℕ → List ℕ → Claim
   -- the call with the key on the table is answered so
   answers : List ℕ → Verb → ℕ → Answer → Claim
   -- deleting the key from the table gives that table
   deletes : List ℕ → ℕ → List ℕ → Claim
+  -- under the settings, the call with the key on the table is answered so, and gives that table
+  gives : Settings → List ℕ → Verb → ℕ → Answer → List ℕ → Claim
   -- under the settings, the entry's remainder modulo p is this, and its low bii bits are that
   remainderIs : Settings → ℕ → ℕ → ℕ → Claim
   -- the text is legal, and is read as this key
@@ -47,16 +50,17 @@ T = record { w = 6; bii = 1; sib = 2; nob = 2; sio = 1; val = 0; a = 1; b = 1 }
 abbrev pub key : ℕ → Key
 key n = record { high = 0; low = n }
 
--- the keys added in turn, each with label 0
-abbrev pub addAll : List ℕ → List ℕ → List ℕ
-addAll t [] = t
-addAll t (k ∷ ks) = addAll (keyCall T t (add 0) (key k) .bytes) ks
+-- the keys entered in turn, each with label 0
+abbrev pub enterAll : List ℕ → List ℕ → List ℕ
+enterAll t [] = t
+enterAll t (k ∷ ks) = enterAll (keyCall T t (enter 0) (key k) .bytes) ks
 
 abbrev pub Holds : Claim → Type 0
 Holds (makes u) = makeCall T (0xff ∷ 0xff ∷ 0xff ∷ 0xff ∷ 0xff ∷ []) .bytes ≡ u
-Holds (adds t ks u) = addAll t ks ≡ u
+Holds (enters t ks u) = enterAll t ks ≡ u
 Holds (answers t v k r) = keyCall T t v (key k) .answer ≡ r
 Holds (deletes t k u) = keyCall T t delete (key k) .bytes ≡ u
+Holds (gives s t v k r u) = keyCall s t v (key k) ≡ reply r u
 Holds (remainderIs s e r h) = ((s .a * e + s .b) % primeAbove (s .bii) ≡ r) × (hash s e ≡ h)
 Holds (legal x k) = readingOf (ascii x) ≡ parsed.Key k
 Holds (notLegal x) = readingOf (ascii x) ≡ parsed.Refused refusal.Text
@@ -80,6 +84,10 @@ four = 0xb0 ∷ 0x88 ∷ 0x00 ∷ 0x32 ∷ 0x05 ∷ []
 abbrev pub afterDelete : List ℕ
 afterDelete = 0x72 ∷ 0x88 ∷ 0x00 ∷ 0x02 ∷ 0x20 ∷ []
 
+-- `three` with a free start above nob: damage, where the free chain is looked at
+abbrev pub broken : List ℕ
+broken = 0xf0 ∷ 0x88 ∷ 0x00 ∷ 0x02 ∷ 0x20 ∷ []
+
 -- table T with three index bits
 abbrev pub threeBits : Settings
 threeBits = record { w = 6; bii = 3; sib = 2; nob = 2; sio = 1; val = 0; a = 1; b = 1 }
@@ -87,12 +95,39 @@ threeBits = record { w = 6; bii = 3; sib = 2; nob = 2; sio = 1; val = 0; a = 1; 
 abbrev pub ofTables : List Claim
 ofTables =
     makes new
-    ∷ adds new (1 ∷ 2 ∷ 4 ∷ []) three
-    ∷ adds three (5 ∷ []) four
-    ∷ answers four (add 0) 32 (answer.Refused refusal.NoBlock)
-    ∷ answers four (add 0) 0 (said word.Added 0 0)
+    ∷ enters new (1 ∷ 2 ∷ 4 ∷ []) three
+    ∷ enters three (5 ∷ []) four
+    ∷ answers four (enter 0) 32 (answer.Refused refusal.NoBlock)
+    ∷ answers four (enter 0) 0 (said word.Added 0 0)
     ∷ deletes four 1 afterDelete
     ∷ answers afterDelete find 4 (said word.Held 0 3)
+    -- a key that is held: refusal 12 comes before 8, and before the free chain is looked at
+    ∷ answers four (enter 0) 4 (answer.Refused refusal.Known)
+    ∷ answers broken (enter 0) 4 (answer.Refused refusal.Known)
+    ∷ answers broken (enter 0) 5 (answer.Refused refusal.Damage)
+    ∷ []
+
+-- a link has three bits, and a slot an entry of two and a label of two: of the slot of a basic block that overflows, the entry and the label's first
+-- bit are displaced
+abbrev pub shortSlots : Settings
+shortSlots = record { w = 3; bii = 1; sib = 1; nob = 5; sio = 1; val = 2; a = 1; b = 1 }
+
+abbrev pub oneLabel : List ℕ
+oneLabel = 0x0a ∷ 0x80 ∷ 0x20 ∷ 0x40 ∷ 0x60 ∷ 0x80 ∷ 0x80 ∷ []
+
+abbrev pub twoLabels : List ℕ
+twoLabels = 0x30 ∷ 0x80 ∷ 0x56 ∷ 0x40 ∷ 0x60 ∷ 0x80 ∷ 0x80 ∷ []
+
+-- the label's first bit changes in the last block's link, its second in the basic block
+abbrev pub afterRelabel : List ℕ
+afterRelabel = 0x30 ∷ 0x00 ∷ 0x76 ∷ 0x40 ∷ 0x60 ∷ 0x80 ∷ 0x80 ∷ []
+
+abbrev pub ofLabels : List Claim
+ofLabels =
+    gives shortSlots oneLabel (enter 3) 2 (said word.Added 3 1) twoLabels
+    ∷ gives shortSlots twoLabels (relabel 2) 1 (said word.Relabelled 1 1) afterRelabel
+    ∷ gives shortSlots afterRelabel find 1 (said word.Held 2 1) afterRelabel
+    ∷ gives shortSlots afterRelabel (relabel 0) 4 (said word.None 0 2) afterRelabel
     ∷ []
 
 abbrev pub ofTexts : List Claim
@@ -106,7 +141,7 @@ ofTexts =
     ∷ []
 
 abbrev pub starred : List Claim
-starred = ofTables ++ (remainderIs threeBits 7 8 0 ∷ []) ++ ofTexts
+starred = ofTables ++ ofLabels ++ (remainderIs threeBits 7 8 0 ∷ []) ++ ofTexts
 
 -- Every starred example holds ------------------------------------------------------------------------------------------------
 
@@ -116,7 +151,11 @@ all-append (x ∷ xs) ys a b = (a .0, all-append xs ys (a .1) b)
 
 tables-hold : All ofTables
 unfolding tables.computing
-tables-hold = (refl, (refl, (refl, (refl, (refl, (refl, (refl, tt)))))))
+tables-hold = (refl, (refl, (refl, (refl, (refl, (refl, (refl, (refl, (refl, (refl, tt))))))))))
+
+labels-hold : All ofLabels
+unfolding tables.computing
+labels-hold = (refl, (refl, (refl, (refl, tt))))
 
 remainder-holds : All (remainderIs threeBits 7 8 0 ∷ [])
 remainder-holds = ((remainder-of-7 threeBits refl refl refl, hash-of-7 threeBits refl refl refl), tt)
@@ -126,4 +165,7 @@ unfolding texts.computing
 texts-hold = (refl, (refl, (refl, (refl, (refl, (refl, tt))))))
 
 pub starred-hold : All starred
-starred-hold = all-append (ofTables ++ (remainderIs threeBits 7 8 0 ∷ [])) ofTexts (all-append ofTables (remainderIs threeBits 7 8 0 ∷ []) tables-hold remainder-holds) texts-hold
+starred-hold =
+    all-append (ofTables ++ ofLabels ++ (remainderIs threeBits 7 8 0 ∷ [])) ofTexts
+    (all-append (ofTables ++ ofLabels) (remainderIs threeBits 7 8 0 ∷ []) (all-append ofTables ofLabels tables-hold labels-hold) remainder-holds)
+    texts-hold

@@ -1,4 +1,4 @@
--- What add, find and delete answer: the number and the values of each case.
+-- What find, enter, relabel and delete answer: the number and the values of each case.
 use Prim.Native.Nat.{ℕ}
 use Rattle.settings.specs.Refusal.{numberOf}
 use Rattle.keys.specs.declared.Key.{Key}
@@ -11,12 +11,13 @@ use Rattle.table.specs.declared.answers.Word.the-variants as word
 abbrev pub said : Word → ℕ → ℕ → Answer
 said w label compared = answer.Said label w compared
 
--- clause 6.14: the words, numbered; 0 is no word
+-- clause 6.14: the words, numbered; 0 is no word, 5 to 7 are those of record and check
 abbrev pub wordNumber : Word → ℕ
 wordNumber word.Added = 1
 wordNumber word.Held = 2
 wordNumber word.Gone = 3
 wordNumber word.None = 4
+wordNumber word.Relabelled = 8
 
 abbrev pub noKey : Key
 noKey = record { high = 0; low = 0 }

@@ -17,7 +17,8 @@ use Rattle.table.specs.State.{State}
 use Rattle.table.specs.Decode.{decode}
 use Rattle.table.specs.Find.{findIn}
 use Rattle.table.specs.Done.{Answered, unchanged, replied}
-use Rattle.table.specs.Add.{addIn}
+use Rattle.table.specs.Enter.{enterIn}
+use Rattle.table.specs.Relabel.{relabelIn}
 use Rattle.table.specs.Delete.{deleteIn}
 use Rattle.table.specs.New.{newBytes}
 use Rattle.table.specs.Record.{recordIn}
@@ -34,19 +35,22 @@ use Rattle.table.specs.declared.answers.CheckAnswer.the-variants as chec
 -- what is asked of a key; the number is a label
 pub data Verb : Type 0 where
   find : Verb
-  add : ℕ → Verb
+  enter : ℕ → Verb
+  relabel : ℕ → Verb
   delete : Verb
 
 -- what it comes to on list i of a state, for the entry e
 unfoldable pub listCall : Layout → State → ℕ → ℕ → Verb → Answered
 listCall g st i e find = unchanged (findIn g st i e)
-listCall g st i e (add label) = addIn g st i e label
+listCall g st i e (enter label) = enterIn g st i e label
+listCall g st i e (relabel label) = relabelIn g st i e label
 listCall g st i e delete = deleteIn g st i e
 
 -- the refusals for a label
 abbrev pub verbDue : Settings → Verb → List Due
 verbDue s find = []
-verbDue s (add label) = labelDue s label ∷ []
+verbDue s (enter label) = labelDue s label ∷ []
+verbDue s (relabel label) = labelDue s label ∷ []
 verbDue s delete = []
 
 module _ (s : Settings) (t : List ℕ) where
@@ -57,7 +61,7 @@ module _ (s : Settings) (t : List ℕ) where
   unfoldable pub makeCall : Reply MakeAnswer
   makeCall = called making.Refused t (settingsDue s ∷ shortDue s (length t) ∷ []) (reply making.Made (newBytes (layoutOf s) t))
 
-  -- add, find and delete with the key k
+  -- find, enter, relabel and delete with the key k
   unfoldable pub keyCall : Verb → Key → Reply Answer
   keyCall v k =
       called answer.Refused t (settingsDue s ∷ shortDue s (length t) ∷ keyDue s (keyNumber k) ∷ verbDue s v)

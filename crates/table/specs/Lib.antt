@@ -9,7 +9,8 @@ pub mod Find
 pub mod Done
 pub mod Take
 pub mod Store
-pub mod Add
+pub mod Enter
+pub mod Relabel
 pub mod Delete
 pub mod New
 pub mod Record

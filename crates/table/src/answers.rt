@@ -7,15 +7,16 @@ pub enum MakeAnswer {
     Refused(Refusal),
 }
 
-// The four words.
+// The five words.
 pub enum Word {
     Added,
     Held,
     Gone,
     None,
+    Relabelled,
 }
 
-// What add, find and delete answer. The word stands between the two numbers, so that nobody copies both at once: such a
+// What find, enter, relabel and delete answer. The word stands between the two numbers, so that nobody copies both at once: such a
 // load would wait until both have reached the cache.
 pub enum Answer {
     Said {

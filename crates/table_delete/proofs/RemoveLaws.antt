@@ -2,37 +2,31 @@
 use mathlib.Core.Path.{_≡_, sym, ap, subst, _∙_}
 use mathlib.Core.Bool.{Bool, true, false, cond}
 use mathlib.Core.List.{List, [], _∷_}
-use mathlib.Core.Option.{Option, none, some}
-use Prim.Native.Nat.{ℕ, _+_, _-_, _*_, _^_, _≤_, _<_}
+use Prim.Native.Nat.{ℕ, _-_, _^_, _≤_, _<_}
 use native.Mathlib.Omega.{arith}
-use lib.ListN.{length, getD, set, take, length-take}
+use lib.ListN.{length, getD, set, take}
 use lib.Seq.{getD-take, getD-set-same, lt-length-set}
 use lib.Pow.{pow-pos}
 use Rattle.bits.specs.Field.{field}
 use Rattle.bits.specs.Put.{putField}
-use Rattle.bits.specs.theory.Puts.{put-zero}
 use Rattle.settings.specs.declared.layout.Layout.{Layout}
-use Rattle.table.specs.State.{Basic, Overflow, State, emptyBasic, basicAt, overflowAt, unpack, ownSlots, basicOf}
+use Rattle.table.specs.State.{Basic, State, emptyBasic, basicAt, overflowAt, unpack, ownSlots, basicOf}
 use Rattle.table.specs.Updates.{overBasic, withBasicCounter}
-use Rattle.table.specs.Decode.{basicSlots, overflowSlots, readOverflow, decode}
+use Rattle.table.specs.Decode.{decode}
 use Rattle.table.specs.Table.{Table, Within}
-use Rattle.table.specs.Follow.{lastOf, Content, gather}
+use Rattle.table.specs.Follow.{lastOf, gather}
 use Rattle.table.specs.Delete.{priorOf, basicSlotOff, shrinkAt, shrink}
-use Rattle.table_read.specs.Steps.{restoredBytes, basicRun}
 use Rattle.table_read.specs.BlockSlots.{blocksFrom, Reaches}
 use Rattle.table.specs.Done.{Done, damage, done}
 use Rattle.table.specs.Store.{slotIn, storeAt}
-use Rattle.table.specs.theory.Arrays.{getD-tab}
-use Rattle.table.specs.theory.Changes.{at-over}
-use Rattle.table_read.specs.theory.Reads.{unpack-length, slot-in, basic-slots-in}
 use Rattle.table_read.specs.theory.Walks.{last-low, content-short}
-use Rattle.table_read.specs.theory.BlockSlots.{chain-low, Chained, last-few, gather-some, content-chained, long-full, long-ends, long-blocks, long-length}
+use Rattle.table_read.specs.theory.BlockSlots.{chain-low, Chained, last-few, gather-some, content-chained, long-full, long-ends, long-blocks}
 use Rattle.table.specs.theory.Formed.{basics}
 use Rattle.table_store.specs.Stores.{basicCounterPut, slotPut, Stored}
-use Rattle.table_store.specs.Places.{storeFrom}
+use Rattle.table_store.specs.Places.{Placed, storeFrom}
 use Rattle.table_store.specs.theory.StoreLaws.{basic-twice, stored-none, stored-then, stored-as, stored-basic-counter, stored-basic-slot}
-use Rattle.table_store.specs.theory.PlaceLaws.{store-is, store-keeps}
-use Rattle.table_delete.specs.DeleteSteps.{endIn, cannotFreeAt, removalOf, removal, Placed, Removed}
+use Rattle.table_store.specs.theory.PlaceLaws.{overflow-slot-is, basic-slot-is, short-used, short-place, long-place, store-is, store-keeps}
+use Rattle.table_delete.specs.DeleteSteps.{endIn, cannotFreeAt, removalOf, removal, Removed}
 use Rattle.table_delete.proofs.DeleteLaws.{getD-end, last-slot, free-kept, prior-low}
 use Rattle.table_read.specs.Places.{basicSlot, overflowSlot}
 use Rattle.table_delete.specs.declared.shrink.End.{End}
@@ -42,33 +36,18 @@ use Rattle.table.specs.declared.step.Before.the-variants as prior
 abbrev pub lastSlot : State → ℕ → ℕ
 lastSlot st l = getD (overflowAt (st .overflow) l .slots) (overflowAt (st .overflow) l .counter) 0
 
-abbrev lengthOf : Option Content → ℕ
-lengthOf none = 0
-lengthOf (some v) = length (v .slots)
-
 module _ (g : Layout) (st : State) (i p : ℕ) (P : Placed g st i p) where
   -- ---- a list without overflow blocks
   module _ (h : basicAt (st .basic) i .counter ≤ g .sib) where
     abbrev slots : List ℕ
     slots = ownSlots g (basicAt (st .basic) i)
 
-    used : length (take (basicAt (st .basic) i .counter) slots) ≡ basicAt (st .basic) i .counter
-    used =
-        omega (
-          arith,
-          length-take (basicAt (st .basic) i .counter) slots,
-          unpack-length g (basicAt (st .basic) i .head) (basicAt (st .basic) i .rest),
-        )
-
-    pub short-place : p < basicAt (st .basic) i .counter
-    short-place = omega (arith, used, P .within, ap lengthOf (sym (P .is) ∙ content-short g st i h))
-
     pub short-is : removal g st i p ≡ shrink g (storeAt g st i [] p (getD slots (basicAt (st .basic) i .counter - 1) 0)) i []
     unfolding removal
     short-is =
         let n = basicAt (st .basic) i .counter in
-        let e : length (take (basicAt (st .basic) i .counter) slots) - 1 ≡ basicAt (st .basic) i .counter - 1 = omega (arith, used) in
-        let l : basicAt (st .basic) i .counter - 1 < basicAt (st .basic) i .counter = omega (arith, short-place) in
+        let e : length (take (basicAt (st .basic) i .counter) slots) - 1 ≡ basicAt (st .basic) i .counter - 1 = omega (arith, short-used g st i p P h) in
+        let l : basicAt (st .basic) i .counter - 1 < basicAt (st .basic) i .counter = omega (arith, short-place g st i p P h) in
         ap (removalOf g st i p) (content-short g st i h)
         ∙ ap (λ (x : ℕ). shrink g (storeAt g st i [] p x) i [])
         (ap (λ (k : ℕ). getD (take n slots) k 0) e ∙ getD-take n slots (n - 1) 0 l)
@@ -94,7 +73,7 @@ module _ (g : Layout) (st : State) (i p : ℕ) (P : Placed g st i p) where
     tail = gather g (st .overflow) (first ∷ others)
 
     inside : g .sib ≤ p → p - g .sib < length tail
-    inside l = omega (arith, P .within, long-length g st i (P .followed) (P .is) h)
+    inside l = long-place g st i p P h l
 
     abbrev filled : State
     filled = storeFrom g i first last p (lastSlot st last) st
@@ -138,27 +117,9 @@ module _ (g : Layout) (st : State) (i p : ℕ) (P : Placed g st i p) where
         subst (λ (x : ℕ). Route x e) (sym eb)
         (subst (λ (x : End). Route first x) (sym (ee ∙ ap (λ (x : ℕ). endIn g prior.Basic (blocksFrom g (st .overflow) x)) eb ∙ ap (endIn g prior.Basic) (blocks .are))) route-is)
 
--- ---- the slot that moves
+-- ---- a removal from a list without overflow blocks
 
 module _ (g : Layout) (t : List ℕ) (T : Table g t) where
-  pub overflow-slot-is : (j k : ℕ) → j < g .nob → k < g .sio → getD (overflowAt (decode g t .overflow) j .slots) k 0 ≡ field t (overflowSlot g j k) (g .slot)
-  unfolding readOverflow overflowSlot
-  overflow-slot-is j k h l =
-      ap (λ (o : Overflow). getD (o .slots) k 0) (at-over g (T .proper) t j h)
-      ∙ getD-tab (g .sio) (λ q. field t (overflowSlots g j + q * g .slot) (g .slot)) k 0 l
-
-  pub basic-slot-is : (i k : ℕ) → i < g .lists → k < g .sib
-      → getD (ownSlots g (basicAt (decode g t .basic) i)) k 0 ≡ field t (basicSlot g i k) (g .slot)
-  unfolding basicRun restoredBytes basicSlot
-  basic-slot-is i k h l =
-      let es = ownSlots g (basicAt (decode g t .basic) i) in
-      sym (getD-take (g .sib) es k 0 l)
-      ∙ ap (λ (xs : List ℕ). getD xs k 0) (sym (basic-slots-in g t T i (g .sib) h (omega arith)))
-      ∙ slot-in g t (basicRun g i (g .sib)) k l
-      ∙ ap (λ (s : List ℕ). field s (basicSlots g i + k * g .slot) (g .slot)) (put-zero t (basicSlots g i) 0)
-
-  -- ---- a removal from a list without overflow blocks
-
   pub removed-short : (i p c x : ℕ) → i < g .lists → Placed g (decode g t) i p → c ≡ basicAt (decode g t .basic) i .counter → c ≤ g .sib
       → x ≡ field t (basicSlot g i (c - 1)) (g .slot) → x < 2 ^ g .slot
       → (a b u : List ℕ) → a ≡ slotPut g t (basicSlot g i p) x → b ≡ putField a (basicSlot g i (c - 1)) (g .slot) 0 → u ≡ basicCounterPut g b i (c - 1)
@@ -184,7 +145,7 @@ module _ (g : Layout) (t : List ℕ) (T : Table g t) where
         is =
             short-is g (decode g t) i p P hn
             ∙ ap (λ (y : ℕ). shrink g (storeAt g (decode g t) i [] p y) i [])
-            (basic-slot-is i (basicAt (decode g t .basic) i .counter - 1) hi (omega arith)
+            (basic-slot-is g t T i (basicAt (decode g t .basic) i .counter - 1) hi (omega arith)
             ∙ ap (λ (y : ℕ). field t (basicSlot g i (y - 1)) (g .slot)) (sym ec) ∙ sym ex);
         stored =
             stored-as (overBasic i (basicSlotOff g) st₁)

@@ -4,7 +4,6 @@ use mathlib.Core.Path.{_≡_}
 use mathlib.Core.Bool.{Bool, false, cond}
 use mathlib.Core.List.{List, [], _∷_}
 use mathlib.Core.Option.{Option, none, some}
-use lib.ListN.{length}
 use Rattle.settings.specs.declared.layout.Layout.{Layout}
 use Rattle.table.specs.State.{State, overflowAt}
 use Rattle.table.specs.Decode.{decode}
@@ -41,12 +40,6 @@ module _ (g : Layout) where
   -- what the removal of place p from list i comes to
   unfoldable pub removal : State → ℕ → ℕ → Done
   removal st i p = removalOf st i p (content g st i)
-
-  -- list i can be followed to its end, and has a place p
-  pub record Placed (st : State) (i p : ℕ) : Type 0 where
-    pub followed : Content
-    pub is : content g st i ≡ some followed
-    pub within : p < length (followed .slots)
 
 -- u and r are what the removal of place p from list i of t comes to
 pub record Removed (g : Layout) (t u : List ℕ) (i p : ℕ) (r : Bool) : Type 0 where

@@ -34,7 +34,8 @@ ghost use Rattle.settings.specs.declared.layout.Laid.the-variants as laid;
 ghost use Rattle.table.specs.State.{basicAt};
 ghost use Rattle.table.specs.Decode.{decode};
 ghost use Rattle.table.specs.Table.{Table};
-ghost use Rattle.table_delete.specs.DeleteSteps.{Placed, Removed};
+ghost use Rattle.table_store.specs.Places.{Placed};
+ghost use Rattle.table_delete.specs.DeleteSteps.{Removed};
 ghost use Rattle.table.specs.Calls.{delete, keyCall};
 ghost use Rattle.table_find.specs.Seek.{openOf, soughtOf};
 

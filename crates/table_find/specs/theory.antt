@@ -1,2 +1,4 @@
 pub mod Seeks
 pub mod SoughtLaws
+pub mod Labels
+pub mod Helds

@@ -1,4 +1,4 @@
-// Find: the label of a key, if the table holds it. Add and delete seek their key by the same way.
+// Find: the label of a key, if the table holds it. Enter, relabel and delete seek their key by the same way.
 mod search;
 
 use keys::Key;
@@ -10,6 +10,8 @@ use settings::Refusal;
 use settings::Settings;
 use table::Answer;
 ghost use mathlib.Core.Path.{_≡_};
+ghost use Prim.Native.Nat.{_^_, _≤_};
+ghost use lib.Dec.{ltb};
 ghost use lib.ListN.{length};
 ghost use Rattle.settings.specs.declared.layout.Laid.the-variants as laid;
 ghost use Rattle.table.specs.Calls.{find, keyCall};
@@ -53,6 +55,14 @@ pub fn seek(s: Settings, g: Layout, t: &[u8], key: Key) -> Sought
     let list = place.list;
     let found = find_in(t, g, list, place.entry);
     Sought { place, found }
+}
+
+// Whether a label has no bit above the low val.
+pub fn fits(label: u64, val: u32) -> bool
+    requires { ⌜ val ≤ 32 ⌝ }
+    ensures { λ r. ⌜ r ≡ ltb label (2 ^ val) ⌝ }
+{
+    label >> val == 0
 }
 
 // Find (clause 6.4): "held" with the label, or "none".

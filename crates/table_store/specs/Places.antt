@@ -1,10 +1,14 @@
--- A slot stored in a place of a list, by the numbers that functions have at hand.
+-- Places of a list, and a slot stored in one, by the numbers that functions have at hand.
 use Prim.Native.Nat.{ℕ, _-_, _≤_, _<_}
+use mathlib.Core.Path.{_≡_}
 use mathlib.Core.Bool.{cond}
+use mathlib.Core.Option.{some}
+use lib.ListN.{length}
 use lib.Dec.{ltb}
 use Rattle.settings.specs.declared.layout.Layout.{Layout}
 use Rattle.table.specs.State.{State}
 use Rattle.table.specs.Updates.{withSlot, overOverflow}
+use Rattle.table.specs.Follow.{Content, content}
 use Rattle.table.specs.Store.{storeDisplaced}
 use Rattle.table_read.specs.Places.{basicSlot, overflowSlot}
 use Rattle.table_read.specs.BlockSlots.{blocksFrom, blockSlotIn, Reaches}
@@ -15,6 +19,12 @@ abbrev pub storeInBlock : BlockSlot → ℕ → State → State
 storeInBlock s x = overOverflow (s .block .0) (withSlot (s .slot .0) x)
 
 module _ (g : Layout) where
+  -- list i can be followed to its end, and has a place p
+  pub record Placed (st : State) (i p : ℕ) : Type 0 where
+    pub followed : Content
+    pub is : content g st i ≡ some followed
+    pub within : p < length (followed .slots)
+
   -- x in place p of list i, whose overflow blocks go from h to l
   unfoldable pub storeFrom : ℕ → ℕ → ℕ → ℕ → ℕ → State → State
   storeFrom i h l p x st =

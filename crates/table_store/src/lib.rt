@@ -16,5 +16,6 @@ pub use slots::Slot;
 pub use slots::copy;
 pub use slots::get_slot;
 pub use slots::put_slot;
+pub use slots::store_over_displaced;
 pub use zeros::clear;
 pub use zeros::clear_and_put;

@@ -1,4 +1,4 @@
--- Add, find and delete as a caller asks for them: with a key or a text, whatever it is, and any label.
+-- Find, enter, relabel and delete as a caller asks for them: with a key or a text, whatever it is, and any label.
 use mathlib.Core.List.{List}
 use Prim.Native.Nat.{ℕ}
 use Rattle.settings.specs.declared.settings.Settings.{Settings}

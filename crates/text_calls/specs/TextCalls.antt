@@ -35,7 +35,7 @@ textDue x = due (notRead (readingOf x)) refusal.Text
 abbrev pub forKey : Key → Answer → TextAnswer
 forKey k a = record { key = k; answer = a }
 
--- add, find and delete with the text x
+-- find, enter, relabel and delete with the text x
 unfoldable pub textCall : Settings → List ℕ → Verb → List ℕ → Reply TextAnswer
 textCall s t v x =
     called (λ why. forKey noKey (answer.Refused why)) t (settingsDue s ∷ shortDue s (length t) ∷ widthDue s ∷ textDue x ∷ [])

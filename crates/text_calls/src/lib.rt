@@ -2,6 +2,7 @@
 mod calls;
 
 pub use calls::TextAnswer;
-pub use calls::add_text;
 pub use calls::delete_text;
+pub use calls::enter_text;
 pub use calls::find_text;
+pub use calls::relabel_text;

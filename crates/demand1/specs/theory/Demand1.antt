@@ -6,13 +6,14 @@ use native.Mathlib.Omega.{arith}
 use Rattle.settings.specs.declared.settings.Settings.{Settings}
 use Rattle.settings.specs.declared.refusal.Refusal.{Refusal}
 use Rattle.settings.specs.Sizes.{tableBytes}
-use Rattle.demand1.specs.Claim.{Call, make, ask, recordAt, check, readText, writeText, Lent, Said, refused, outcome, Writes, makes, adds, deletes, bufferBytes, Untouched}
+use Rattle.demand1.specs.Claim.{Call, make, ask, recordAt, check, readText, writeText, Lent, Said, refused, outcome, Writes, makes, enters, relabels, deletes, bufferBytes, Untouched}
 use Rattle.demand1.specs.theory.Kept.{untouched, Accepted, make-kept, ask-kept, check-kept, write-kept}
 
 -- what writes the table is no refusal
 writes-accepted : {c : Call} {a : Said} → Writes c a → Accepted a
 writes-accepted makes why e = absurd (let z : _≡_ {A = ℕ} 0 1 = cc in omega arith)
-writes-accepted (adds q label h) why e = absurd (let z : _≡_ {A = ℕ} 0 1 = cc in omega arith)
+writes-accepted (enters q label h) why e = absurd (let z : _≡_ {A = ℕ} 0 1 = cc in omega arith)
+writes-accepted (relabels q label h) why e = absurd (let z : _≡_ {A = ℕ} 0 1 = cc in omega arith)
 writes-accepted (deletes q h) why e = absurd (let z : _≡_ {A = ℕ} 0 1 = cc in omega arith)
 
 module _ (s : Settings) (l : Lent) where

@@ -27,12 +27,14 @@ use Rattle.table.specs.Decode.{image, written}
 use Rattle.table.specs.Follow.{Content, content}
 use Rattle.table.specs.Find.{position, isHeld, labelAt, comparedIn}
 use Rattle.table.specs.Done.{Done, damage, noBlock, done, answered, replied}
-use Rattle.table.specs.Add.{append, addFollowed, addIn}
+use Rattle.table.specs.Enter.{append, enterFollowed, enterIn}
+use Rattle.table.specs.Relabel.{relabelFollowed, relabelIn}
 use Rattle.table.specs.Delete.{takeOut, deleteFollowed, deleteIn}
+use Rattle.table.specs.Store.{storeAt}
 use Rattle.table.specs.New.{newState, newBytes}
 use Rattle.table.specs.Check.{tableSound, markBytes, marksAfter}
 use Rattle.table.specs.Answer.{said, noKey}
-use Rattle.table.specs.Calls.{Verb, find, add, delete, listCall, verbDue, held, makeCall, keyCall, checkCall}
+use Rattle.table.specs.Calls.{Verb, find, enter, relabel, delete, listCall, verbDue, held, makeCall, keyCall, checkCall}
 use Rattle.table.specs.declared.answers.Answer as table
 use Rattle.table.specs.declared.answers.Answer.the-variants as answer
 use Rattle.table.specs.declared.answers.Word.the-variants as word
@@ -50,7 +52,7 @@ use Rattle.text_write.specs.declared.Written.the-variants as writing
 use Rattle.text_calls.specs.TextCalls.{keyRead, textDue, forKey, textCall}
 use Rattle.text_calls.specs.declared.calls.TextAnswer.{TextAnswer}
 use Rattle.text_calls.specs.Asked.{Asked, byKey, byText, verbAsked, tableCall}
-use Rattle.demand1.specs.Claim.{Said, refused, told, ofMake, ofKey, ofCheck, ofWritten, make, ask, Writes, makes, adds, deletes, Untouched}
+use Rattle.demand1.specs.Claim.{Said, refused, told, ofMake, ofKey, ofCheck, ofWritten, make, ask, Writes, makes, enters, relabels, deletes, Untouched}
 
 -- Bytes beyond -----------------------------------------------------------------------------------------------------------------
 
@@ -115,7 +117,7 @@ module _ (s : Settings) (t : List ℕ) where
       let w = written-untouched s (cleared (tableBytes s) t) (newState (layoutOf s)) in
       writes makes (record { long = w .long ∙ c .long; beyond = w .beyond ∙ c .beyond }))
 
-  -- Add, find and delete ---------------------------------------------------------------------------------------------------
+  -- Find, enter, relabel and delete ----------------------------------------------------------------------------------------
 
   module _ (q : Asked) where
     -- what a change leaves that answers x if it is done
@@ -125,17 +127,30 @@ module _ (s : Settings) (t : List ℕ) where
     done-kept x w noBlock = stays (refused refusal.NoBlock)
     done-kept x w (done st) = writes w (written-untouched s t st)
 
-    add-kept : (i e label : ℕ) → verbAsked q ≡ add label → (o : Option Content)
+    enter-kept : (i e label : ℕ) → verbAsked q ≡ enter label → (o : Option Content)
         → Kept (tableBytes s) t (Writes (ask q))
-        (answering ofKey (replied (layoutOf s) t (addFollowed (layoutOf s) (held s t) i e label o)))
-    unfolding addFollowed
-    add-kept i e label h none = stays (refused refusal.Damage)
-    add-kept i e label h (some v) =
+        (answering ofKey (replied (layoutOf s) t (enterFollowed (layoutOf s) (held s t) i e label o)))
+    unfolding enterFollowed
+    enter-kept i e label h none = stays (refused refusal.Damage)
+    enter-kept i e label h (some v) =
         either (λ a. Kept (tableBytes s) t (Writes (ask q)) (answering ofKey (replied (layoutOf s) t a)))
         (isHeld (layoutOf s) e (v .slots)) (λ b. stays _)
         (λ b.
-        done-kept (said word.Added label (comparedIn (layoutOf s) e (v .slots))) (adds q label h)
+        done-kept (said word.Added label (comparedIn (layoutOf s) e (v .slots))) (enters q label h)
         (append (layoutOf s) (held s t) i (v .blocks) (slotOf (layoutOf s) e label)))
+
+    relabel-kept : (i e label : ℕ) → verbAsked q ≡ relabel label → (o : Option Content)
+        → Kept (tableBytes s) t (Writes (ask q))
+        (answering ofKey (replied (layoutOf s) t (relabelFollowed (layoutOf s) (held s t) i e label o)))
+    unfolding relabelFollowed
+    relabel-kept i e label h none = stays (refused refusal.Damage)
+    relabel-kept i e label h (some v) =
+        either (λ a. Kept (tableBytes s) t (Writes (ask q)) (answering ofKey (replied (layoutOf s) t a)))
+        (isHeld (layoutOf s) e (v .slots))
+        (λ b.
+        done-kept (said word.Relabelled (labelAt (layoutOf s) e (v .slots)) (comparedIn (layoutOf s) e (v .slots))) (relabels q label h)
+        (done (storeAt (layoutOf s) (held s t) i (v .blocks) (position (layoutOf s) e (v .slots)) (slotOf (layoutOf s) e label))))
+        (λ b. stays _)
 
     delete-kept : (i e : ℕ) → verbAsked q ≡ delete → (o : Option Content)
         → Kept (tableBytes s) t (Writes (ask q))
@@ -152,9 +167,10 @@ module _ (s : Settings) (t : List ℕ) where
 
     list-kept : (i e : ℕ) (v : Verb) → verbAsked q ≡ v
         → Kept (tableBytes s) t (Writes (ask q)) (answering ofKey (replied (layoutOf s) t (listCall (layoutOf s) (held s t) i e v)))
-    unfolding listCall addIn deleteIn
+    unfolding listCall enterIn relabelIn deleteIn
     list-kept i e find h = stays _
-    list-kept i e (add label) h = add-kept i e label h (content (layoutOf s) (held s t) i)
+    list-kept i e (enter label) h = enter-kept i e label h (content (layoutOf s) (held s t) i)
+    list-kept i e (relabel label) h = relabel-kept i e label h (content (layoutOf s) (held s t) i)
     list-kept i e delete h = delete-kept i e h (content (layoutOf s) (held s t) i)
 
     key-kept : (v : Verb) (k : Key) → verbAsked q ≡ v → Kept (tableBytes s) t (Writes (ask q)) (answering ofKey (keyCall s t v k))

@@ -21,11 +21,11 @@ use Rattle.keys.specs.Key.{entry, listNumber}
 use Rattle.keys.specs.theory.Keys.{entry-below}
 use Rattle.table.specs.State.{State}
 use Rattle.table.specs.Done.{bytesWith}
-use Rattle.table.specs.Calls.{Verb, find, add, delete, listCall, verbDue, held}
+use Rattle.table.specs.Calls.{Verb, find, enter, relabel, delete, listCall, verbDue, held}
 use Rattle.plain_set.specs.Rebuilt.{Pair}
 use Rattle.table.specs.declared.answers.Answer as table
 use Rattle.table.specs.theory.Formed.{Formed, decode-formed}
-use Rattle.table.specs.theory.FormedCalls.{Holds, holds-none, holds-some, add-formed, delete-formed}
+use Rattle.table.specs.theory.FormedCalls.{Holds, holds-none, holds-some, enter-formed, relabel-formed, delete-formed}
 use Rattle.plain_set.specs.Set.{Step, keyStep}
 use Rattle.plain_set.specs.Plain.{plain}
 use Rattle.plain_set.specs.theory.Rep.{Stores}
@@ -83,8 +83,11 @@ module _ {s : Settings} (right : Legal s) {t : List ℕ} {T : List (List ℕ)} {
         → Holds (Formed (layoutOf s)) (listCall (layoutOf s) (held s t) (listNumber s k) (entry s k) v .after)
     unfolding listCall
     call-formed find d = holds-none
-    call-formed (add l) d =
-        add-formed (layoutOf s) (layout-proper s right) (listNumber s k) (entry s k) l (decode-formed (layoutOf s) t) (in-table s right k ok)
+    call-formed (enter l) d =
+        enter-formed (layoutOf s) (layout-proper s right) (listNumber s k) (entry s k) l (decode-formed (layoutOf s) t) (in-table s right k ok)
+        (unfold layoutOf in (entry-below s k)) (unfold layoutOf in (label-below s l d))
+    call-formed (relabel l) d =
+        relabel-formed (layoutOf s) (layout-proper s right) (listNumber s k) (entry s k) l (decode-formed (layoutOf s) t) (in-table s right k ok)
         (unfold layoutOf in (entry-below s k)) (unfold layoutOf in (label-below s l d))
     call-formed delete d =
         delete-formed (layoutOf s) (layout-proper s right) (listNumber s k) (entry s k) (decode-formed (layoutOf s) t) (in-table s right k ok)

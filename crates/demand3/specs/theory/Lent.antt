@@ -51,7 +51,7 @@ reading-is s t v (parsed.Refused why) =
     (λ e. rw e)
 
 -- a call is refused for its inputs as the set refuses it; or it is the call with its key
-call-is : (s : Settings) (t : List ℕ) (c : Asked)
+pub call-is : (s : Settings) (t : List ℕ) (c : Asked)
     → tableCall s t c ≡ called answer.Refused t (callDue s (length t) (given c)) (legalCall s t (given c .verb) (keyGiven (given c .given)))
 unfolding textCall
 call-is s t (byKey v k) = key-refused s t v k

@@ -16,7 +16,7 @@ use Rattle.table.specs.State.{Basic, Overflow, State, mkState, emptyBasic, basi
 use Rattle.table.specs.Updates.{withFront, withSlot, withBasicFront}
 use Rattle.table.specs.Follow.{lastOf}
 use Rattle.table.specs.Take.{occurs, nextFree, taking}
-use Rattle.table.specs.Add.{oneMore, basicMore, append}
+use Rattle.table.specs.Enter.{oneMore, basicMore, append}
 use Rattle.table.specs.Done.{Done, damage, noBlock, done}
 use Rattle.table.specs.theory.Formed.{Fits, all-nil, all-cons, all-append}
 use Rattle.plain_set.specs.theory.Pad.{padded-append, padded-append-le, length-snoc}

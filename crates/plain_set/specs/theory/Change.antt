@@ -1,5 +1,5 @@
--- A state that holds lists of slots, as the calls see and change it: what following a list gives, how many blocks are used, and what append and
--- delete make of the lists. The next level needs no more of the blocks than this.
+-- A state that holds lists of slots, as the calls see and change it: what following a list gives, how many blocks are used, and what append, a store
+-- and delete make of the lists. The next level needs no more of the blocks than this.
 use mathlib.Core.Path.{_≡_, refl, sym, ap, _∙_}
 use mathlib.Core.Bool.{true, false}
 use mathlib.Core.List.{List, [], _∷_, _++_}
@@ -18,7 +18,7 @@ use Rattle.settings.specs.declared.layout.Layout.{Layout}
 use Rattle.settings.specs.Proper.{Proper}
 use Rattle.table.specs.State.{State, basicAt}
 use Rattle.table.specs.Follow.{mkContent, content}
-use Rattle.table.specs.Add.{append}
+use Rattle.table.specs.Enter.{append}
 use Rattle.table.specs.Delete.{shrink, takeOut}
 use Rattle.table.specs.Done.{Done, damage, noBlock, done}
 use Rattle.table.specs.Store.{storeAt}
@@ -29,7 +29,7 @@ use Rattle.plain_set.specs.theory.Swap.{swapOut}
 use Rattle.plain_set.specs.theory.Rep.{Rep, Stores}
 use Rattle.plain_set.specs.theory.Follow.{content-holds}
 use Rattle.plain_set.specs.theory.Use.{blocksFor, usedBy, noRoom, blocks-holds}
-use Rattle.plain_set.specs.theory.Update.{Standing, Edit, rep-standing, rep-edit}
+use Rattle.plain_set.specs.theory.Update.{Standing, rep-standing, rep-edit}
 use Rattle.plain_set.specs.theory.Append.{Appended, append-local}
 use Rattle.plain_set.specs.theory.Delete.{store-local, Shrunk, shrink-local}
 
@@ -92,6 +92,11 @@ module _ {g : Layout} (F : Proper g) {st : State} {T B : List (List ℕ)} {fs : 
                 stores = record { B = set B i (w .1 .cs); fs = w .1 .ns; rep = rep-edit r h (w .1 .edit) };
               }
 
+    -- the slot x stored in place p of list i: its blocks and the free chain stay
+    pub store-done : (p x : ℕ) → p < length (getD T i []) → Fits (g .slot) x
+        → Rep g (storeAt g st i (getD B i []) p x) (set T i (set (getD T i []) p x)) B fs
+    store-done p x l fx = rw (set-getD B i []) at (rep-edit r h (store-local p x l fx (getD B i []) (rep-standing r h)))
+
     -- the last slot of list i moved into place p, and its own place off
     pub delete-done : (p : ℕ) → p < length (getD T i [])
         → Ended g (takeOut g st i (mkContent (getD B i []) (getD T i [])) p)
@@ -101,8 +106,7 @@ module _ {g : Layout} (F : Proper g) {st : State} {T B : List (List ℕ)} {fs : 
         let x : ℕ = getD es (length es - 1) 0 in
         let fx : Fits (g .slot) x = all-getD (r .fits i h) (pow-pos (g .slot)) (length es - 1) in
         let u : State = storeAt g st i (getD B i []) p x in
-        let w : Edit g st i (getD B i []) fs (getD B i []) fs (set es p x) u = store-local p x l fx (getD B i []) (rep-standing r h) in
-        let r₁ : Rep g u (set T i (set es p x)) B fs = rw (set-getD B i []) at (rep-edit r h w) in
+        let r₁ : Rep g u (set T i (set es p x)) B fs = store-done p x l fx in
         let k : Standing g u i (getD B i []) fs (set es p x) =
         rw (getD-set-same T i (set es p x) [] (omega (arith, r .lists))) at (rep-standing r₁ h) in
         go (set es p x) u r₁ (length es - 1) (shrink g u i (getD B i []))

@@ -1,4 +1,4 @@
--- Delete on one list: a slot overwritten, and the last slot off.
+-- Relabel and delete on one list: a slot overwritten, and the last slot off.
 use mathlib.Core.Path.{_≡_, refl, sym, ap, ap₂, _∙_}
 use mathlib.Core.List.{List, [], _∷_}
 use Prim.Native.Nat.{ℕ, suc, _-_, _≤_, _<_}

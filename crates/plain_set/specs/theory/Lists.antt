@@ -19,15 +19,15 @@ use Rattle.settings.specs.Layout.{layoutOf}
 use Rattle.keys.specs.Key.{entry, listNumber}
 use Rattle.table.specs.State.{entryOf, labelOf}
 use Rattle.plain_set.specs.Rebuilt.{Pair, pair, pairOf}
-use Rattle.table.specs.Calls.{Verb, find, add, delete, verbDue}
-use Rattle.plain_set.specs.Set.{hasKey, lookup, erase, Step, blocksUsed, listLength, noVacantSlot, blocksNeeded, allBlocksUsed, keyStep}
-use Rattle.table.specs.theory.Formed.{all-nil, all-cons, all-append}
-use Rattle.plain_set.specs.theory.Count.{one, count-append, count-at}
+use Rattle.table.specs.Calls.{Verb, find, enter, relabel, delete, verbDue}
+use Rattle.plain_set.specs.Set.{hasKey, lookup, erase, relabelPair, Step, blocksUsed, listLength, noVacantSlot, blocksNeeded, allBlocksUsed, keyStep}
+use Rattle.table.specs.theory.Formed.{all-nil, all-cons, all-append, all-set}
+use Rattle.plain_set.specs.theory.Count.{one, count-append, count-at, count-set}
 use Rattle.plain_set.specs.theory.Use.{blocksFor, usedBy, noRoom}
 use Rattle.plain_set.specs.theory.Keys.{slot-fits, slot-entry, slot-label, number-below, key-of-entry}
 use Rattle.plain_set.specs.Same.{SamePairs, NoKeyTwice}
 use Rattle.table.specs.theory.Positions.{position-held, position-none}
-use Rattle.plain_set.specs.theory.SetLaws.{isPair, lookup-none, lookup-some, count-erase}
+use Rattle.plain_set.specs.theory.SetLaws.{isPair, lookup-none, lookup-some, count-erase, count-relabel}
 use Rattle.plain_set.specs.theory.Swap.{swapOut, count-swap, all-swap}
 use Rattle.plain_set.specs.theory.Rows.{pairsFrom, RowsFit, count-at-row, count-put, fit-put, count-key, count-list}
 use Rattle.plain_set.specs.theory.OneList.{Told, inRow, placeIn, labelIn, slotFor, rowTold, rowAfter}
@@ -120,8 +120,12 @@ module _ (s : Settings) (legal : Legal s) (T : List (List ℕ)) (ps : List Pair)
     unfolding blocksUsed blocksFor layoutOf
     full-same = rw (length-same (listNumber s k) (number-below s legal k ok), used-same)
 
-    stands-add : (l : ℕ) → l < 2 ^ s .val → holdsKey s T k ≡ false → Stands s (set T (listNumber s k) (rowOf s T k ++ slotFor s k l ∷ [])) (pair k l ∷ ps)
-    stands-add l high e =
+    -- the pair of the slot of key and label
+    pair-new : (l : ℕ) → l < 2 ^ s .val → pairOf s (listNumber s k) (slotFor s k l) ≡ pair k l
+    pair-new l high = pair-there (slotFor s k l) (slot-entry s k l high) ∙ ap (pair k) (slot-label s k l high)
+
+    stands-enter : (l : ℕ) → l < 2 ^ s .val → holdsKey s T k ≡ false → Stands s (set T (listNumber s k) (rowOf s T k ++ slotFor s k l ∷ [])) (pair k l ∷ ps)
+    stands-enter l high e =
         record {
           long = simp length-set (w .long);
           fit = fit-put s T (listNumber s k) (rowOf s T k ++ x ∷ []) in-lists (w .fit)
@@ -132,7 +136,7 @@ module _ (s : Settings) (legal : Legal s) (T : List (List ℕ)) (ps : List Pair)
                 count-put s f T (listNumber s k) (rowOf s T k ++ x ∷ []) in-lists,
                 count-append (λ y. f (pairOf s (listNumber s k) y)) (rowOf s T k) (x ∷ []),
                 w .pairs f,
-                ap (λ (p : Pair). one (f p)) new,
+                ap (λ (p : Pair). one (f p)) (pair-new l high),
               );
           once = λ j.
               cases (eqb k j)
@@ -143,8 +147,34 @@ module _ (s : Settings) (legal : Legal s) (T : List (List ℕ)) (ps : List Pair)
         x : ℕ
         x = slotFor s k l
 
-        new : pairOf s (listNumber s k) x ≡ pair k l
-        new = pair-there x (slot-entry s k l high) ∙ ap (pair k) (slot-label s k l high)
+    stands-relabel : (l : ℕ) → l < 2 ^ s .val → holdsKey s T k ≡ true
+        → Stands s (set T (listNumber s k) (set (rowOf s T k) (placeIn s k (rowOf s T k)) (slotFor s k l))) (relabelPair k l ps)
+    stands-relabel l high e =
+        record {
+          long = simp length-set (w .long);
+          fit = fit-put s T (listNumber s k) (set es p x) in-lists (w .fit)
+              (all-set (w .fit (listNumber s k) (number-below s legal k ok)) p (slot-fits s k l high));
+          pairs = λ f.
+              omega (
+                arith,
+                count-put s f T (listNumber s k) (set es p x) in-lists,
+                count-set (λ y. f (pairOf s (listNumber s k) y)) es p x 0 (ltb-true _ _ e),
+                count-relabel f k l (labelIn s k es) ps (lookup-held e),
+                ap (λ (q : Pair). one (f q)) (pair-held e),
+                ap (λ (q : Pair). one (f q)) (pair-new l high),
+                w .pairs f,
+              );
+          once = λ j. omega (arith, count-relabel (hasKey j) k l (labelIn s k es) ps (lookup-held e), w .once j);
+        }
+      where
+        es : List ℕ
+        es = rowOf s T k
+
+        p : ℕ
+        p = placeIn s k es
+
+        x : ℕ
+        x = slotFor s k l
 
     stands-delete : holdsKey s T k ≡ true → Stands s (set T (listNumber s k) (swapOut (rowOf s T k) (placeIn s k (rowOf s T k)))) (erase k ps)
     stands-delete e =
@@ -181,14 +211,18 @@ module _ (s : Settings) (legal : Legal s) (T : List (List ℕ)) (ps : List Pair)
         cases (holdsKey s T k)
         (λ e. rw (e, lookup-held e) record { answers = refl; stands = stands-kept })
         (λ e. rw (e, lookup-free e) record { answers = refl; stands = stands-kept })
-    call-agrees (add l) d =
+    call-agrees (enter l) d =
         cases (holdsKey s T k)
         (λ e. rw (e, lookup-held e) record { answers = refl; stands = stands-kept })
         (λ e.
         rw (e, lookup-free e, full-same)
         (cases (isFull s T k)
         (λ q. rw q record { answers = refl; stands = stands-kept })
-        (λ q. rw q record { answers = refl; stands = stands-add l (label-below s l d) e })))
+        (λ q. rw q record { answers = refl; stands = stands-enter l (label-below s l d) e })))
+    call-agrees (relabel l) d =
+        cases (holdsKey s T k)
+        (λ e. rw (e, lookup-held e) record { answers = refl; stands = stands-relabel l (label-below s l d) e })
+        (λ e. rw (e, lookup-free e) record { answers = refl; stands = stands-kept })
     call-agrees delete d =
         cases (holdsKey s T k)
         (λ e. rw (e, lookup-held e) record { answers = refl; stands = stands-delete e })

@@ -3,13 +3,14 @@
 use mathlib.Core.Bool.{Bool, cond}
 use mathlib.Core.List.{List, [], _∷_, _++_}
 use Prim.Native.Nat.{ℕ}
+use lib.ListN.{set}
 use Rattle.settings.specs.declared.settings.Settings.{Settings}
 use Rattle.settings.specs.declared.refusal.Refusal.the-variants as refusal
 use Rattle.settings.specs.Layout.{layoutOf}
 use Rattle.keys.specs.Key.{entry}
 use Rattle.table.specs.State.{slotOf}
 use Rattle.table.specs.Find.{position, isHeld, labelAt, comparedIn}
-use Rattle.table.specs.Calls.{Verb, find, add, delete}
+use Rattle.table.specs.Calls.{Verb, find, enter, relabel, delete}
 use Rattle.table.specs.declared.answers.Answer as table
 use Rattle.table.specs.declared.answers.Answer.the-variants as answer
 use Rattle.table.specs.declared.answers.Word.{Word}
@@ -55,11 +56,13 @@ module _ (s : Settings) where
 
   unfoldable pub rowTold : Verb → ℕ → List ℕ → Bool → Told
   rowTold find k es full = cond (inRow k es) (accepted word.Held (labelIn k es) k es) (accepted word.None 0 k es)
-  rowTold (add l) k es full =
-      cond (inRow k es) (accepted word.Held (labelIn k es) k es) (cond full (tell (refused refusal.NoBlock) 0) (accepted word.Added l k es))
+  rowTold (enter l) k es full =
+      cond (inRow k es) (tell (refused refusal.Known) 0) (cond full (tell (refused refusal.NoBlock) 0) (accepted word.Added l k es))
+  rowTold (relabel l) k es full = cond (inRow k es) (accepted word.Relabelled (labelIn k es) k es) (accepted word.None 0 k es)
   rowTold delete k es full = cond (inRow k es) (accepted word.Gone (labelIn k es) k es) (accepted word.None 0 k es)
 
   unfoldable pub rowAfter : Verb → ℕ → List ℕ → Bool → List ℕ
   rowAfter find k es full = es
-  rowAfter (add l) k es full = cond (inRow k es) es (cond full es (es ++ slotFor k l ∷ []))
+  rowAfter (enter l) k es full = cond (inRow k es) es (cond full es (es ++ slotFor k l ∷ []))
+  rowAfter (relabel l) k es full = cond (inRow k es) (set es (placeIn k es) (slotFor k l)) es
   rowAfter delete k es full = cond (inRow k es) (swapOut es (placeIn k es)) es

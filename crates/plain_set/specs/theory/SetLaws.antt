@@ -1,4 +1,4 @@
--- Laws of the plain set: lookup and erase, said by counting.
+-- Laws of the plain set: lookup, erase and relabelPair, said by counting.
 use mathlib.Core.Path.{_≡_, refl, ap}
 use mathlib.Core.Bool.{Bool, true, _&&_}
 use mathlib.Core.List.{List, [], _∷_}
@@ -10,7 +10,7 @@ use borrow.Author.Tests.{eqb-true}
 use Rattle.laws.specs.Folds.{count}
 use Rattle.laws.specs.Cases.{cases, both-true}
 use Rattle.plain_set.specs.Rebuilt.{Pair, pair}
-use Rattle.plain_set.specs.Set.{hasKey, lookup, erase}
+use Rattle.plain_set.specs.Set.{hasKey, lookup, erase, relabelPair}
 use Rattle.plain_set.specs.theory.Count.{one, count-mono}
 
 -- the test for one pair
@@ -54,3 +54,14 @@ count-erase f k l (p ∷ ps) h =
     let found : some (p .label) ≡ some l = rw e at h in
     rw e (omega (arith, ap (λ (q : Pair). one (f q)) (pair-is k l p (eqb-true (p .key) k e) (cc)))))
     (λ e. rw e (omega (arith, count-erase f k l ps (rw e at h))))
+
+-- relabelPair trades the pair that lookup finds for the one with the new label
+pub count-relabel : (f : Pair → Bool) (k l m : ℕ) (ps : List Pair) → lookup k ps ≡ some m
+    → count f (relabelPair k l ps) + one (f (pair k m)) ≡ count f ps + one (f (pair k l))
+count-relabel f k l m [] h = absurd (let z : _≡_ {A = ℕ} 0 1 = cc in omega arith)
+count-relabel f k l m (p ∷ ps) h =
+    cases (hasKey k p)
+    (λ e.
+    let found : some (p .label) ≡ some m = rw e at h in
+    rw e (omega (arith, ap (λ (q : Pair). one (f q)) (pair-is k m p (eqb-true (p .key) k e) (cc)))))
+    (λ e. rw e (omega (arith, count-relabel f k l m ps (rw e at h))))

@@ -15,11 +15,12 @@ use Rattle.settings.specs.theory.Proper.{layout-proper}
 use Rattle.table.specs.State.{State}
 use Rattle.table.specs.Done.{Answered}
 use Rattle.table.specs.Find.{findFollowed, findIn}
-use Rattle.table.specs.Add.{addFollowed, addIn}
+use Rattle.table.specs.Enter.{enterFollowed, enterIn}
+use Rattle.table.specs.Relabel.{relabelFollowed, relabelIn}
 use Rattle.table.specs.Delete.{deleteFollowed, deleteIn}
-use Rattle.table.specs.Calls.{Verb, find, add, delete, listCall, verbDue}
+use Rattle.table.specs.Calls.{Verb, find, enter, relabel, delete, listCall, verbDue}
 use Rattle.plain_set.specs.theory.Rep.{Stores}
-use Rattle.plain_set.specs.theory.Change.{rep-content, append-refused, append-done, delete-done}
+use Rattle.plain_set.specs.theory.Change.{rep-content, append-refused, append-done, store-done, delete-done}
 use Rattle.plain_set.specs.theory.Keys.{slot-fits, in-table}
 use Rattle.settings.specs.theory.Dues.{NoneDue}
 use Rattle.plain_set.specs.theory.Refusals.{label-below}
@@ -46,11 +47,11 @@ module _ (s : Settings) (legal : Legal s) {st : State} {T : List (List ℕ)} (o 
 
   pub call-acts : (v : Verb) → NoneDue (verbDue s v)
       → Acts s st (listCall (layoutOf s) st (listNumber s k) (entry s k) v) (listsTold s T k v) (listsAfter s T k v)
-  unfolding listCall findIn findFollowed addIn addFollowed deleteIn deleteFollowed rowTold rowAfter
+  unfolding listCall findIn findFollowed enterIn enterFollowed relabelIn relabelFollowed deleteIn deleteFollowed rowTold rowAfter
   call-acts find d =
       rw (rep-content (o .rep) (listNumber s k) below)
       (cases (holdsKey s T k) (λ e. rw e record { tells = refl; stores = kept }) (λ e. rw e record { tells = refl; stores = kept }))
-  call-acts (add l) d =
+  call-acts (enter l) d =
       let fits = slot-fits s k l (label-below s l d) in
       rw (rep-content (o .rep) (listNumber s k) below)
       (cases (holdsKey s T k)
@@ -63,6 +64,16 @@ module _ (s : Settings) (legal : Legal s) {st : State} {T : List (List ℕ)} (o 
       (λ q.
       let c = append-done (layout-proper s legal) (o .rep) (listNumber s k) below (slotFor s k l) fits q in
       rw (e, c .is, q) record { tells = refl; stores = c .stores })))
+  call-acts (relabel l) d =
+      rw (rep-content (o .rep) (listNumber s k) below)
+      (cases (holdsKey s T k)
+      (λ e.
+      let p : ℕ = placeIn s k (rowOf s T k) in
+      let c =
+      store-done (layout-proper s legal) (o .rep) (listNumber s k) below p (slotFor s k l) (ltb-true p (length (rowOf s T k)) e)
+      (slot-fits s k l (label-below s l d)) in
+      rw e record { tells = refl; stores = record { B = o .B; fs = o .fs; rep = c } })
+      (λ e. rw e record { tells = refl; stores = kept }))
   call-acts delete d =
       rw (rep-content (o .rep) (listNumber s k) below)
       (cases (holdsKey s T k)

@@ -18,7 +18,7 @@ use Rattle.table.specs.Follow.{lastOf, prevOf}
 use Rattle.table.specs.Take.{occurs}
 use Rattle.table.specs.Delete.{lastSlotOff}
 use Rattle.table.specs.Store.{storeOverflow}
-use Rattle.table.specs.Add.{oneMore}
+use Rattle.table.specs.Enter.{oneMore}
 use Rattle.plain_set.specs.theory.Count.{one}
 use Rattle.plain_set.specs.theory.Pad.{padded-append, padded-append-le, padded-set, padded-set-out, padded-init, padded-init-out, length-snoc, drop-take, drop-set-ge}
 use Rattle.plain_set.specs.theory.Rep.{blockWith, Tail}

@@ -18,10 +18,11 @@ use Rattle.table.specs.Follow.{Content, content}
 use Rattle.table.specs.Answer.{said}
 use Rattle.table.specs.Find.{position, isHeld, labelAt, comparedIn, findFollowed, findIn}
 use Rattle.table.specs.Done.{Done, damage, noBlock, done, Answered, answered, replied}
-use Rattle.table.specs.Add.{append, addFollowed, addIn}
+use Rattle.table.specs.Enter.{append, enterFollowed, enterIn}
+use Rattle.table.specs.Relabel.{relabelFollowed, relabelIn}
 use Rattle.table.specs.Delete.{takeOut, deleteFollowed, deleteIn}
 use Rattle.plain_set.specs.Rebuilt.{slotsOf}
-use Rattle.table.specs.Calls.{Verb, find, add, delete, listCall, verbDue, held, keyCall}
+use Rattle.table.specs.Calls.{Verb, find, enter, relabel, delete, listCall, verbDue, held, keyCall}
 use Rattle.table.specs.theory.FormedCalls.{either}
 use Rattle.table.specs.declared.answers.Answer as table
 use Rattle.table.specs.declared.answers.Answer.the-variants as answer
@@ -58,12 +59,18 @@ module _ (g : Layout) (st : State) (i e : ℕ) where
   find-counts none = tt
   find-counts (some v) = either (Counts (comparedIn g e (v .slots))) (isHeld g e (v .slots)) (λ q. refl) (λ q. refl)
 
-  add-counts : (label : ℕ) (o : Option Content) → Counts (comparedIn g e (slotsOf o)) (addFollowed g st i e label o .answer)
-  unfolding addFollowed
-  add-counts label none = tt
-  add-counts label (some v) =
-      either (λ (a : Answered). Counts (comparedIn g e (v .slots)) (a .answer)) (isHeld g e (v .slots)) (λ q. refl)
+  enter-counts : (label : ℕ) (o : Option Content) → Counts (comparedIn g e (slotsOf o)) (enterFollowed g st i e label o .answer)
+  unfolding enterFollowed
+  enter-counts label none = tt
+  enter-counts label (some v) =
+      either (λ (a : Answered). Counts (comparedIn g e (v .slots)) (a .answer)) (isHeld g e (v .slots)) (λ q. tt)
       (λ q. change-counts word.Added label (comparedIn g e (v .slots)) (append g st i (v .blocks) (slotOf g e label)))
+
+  relabel-counts : (label : ℕ) (o : Option Content) → Counts (comparedIn g e (slotsOf o)) (relabelFollowed g st i e label o .answer)
+  unfolding relabelFollowed
+  relabel-counts label none = tt
+  relabel-counts label (some v) =
+      either (λ (a : Answered). Counts (comparedIn g e (v .slots)) (a .answer)) (isHeld g e (v .slots)) (λ q. refl) (λ q. refl)
 
   delete-counts : (o : Option Content) → Counts (comparedIn g e (slotsOf o)) (deleteFollowed g st i e o .answer)
   unfolding deleteFollowed
@@ -74,9 +81,10 @@ module _ (g : Layout) (st : State) (i e : ℕ) where
       (λ q. refl)
 
   list-counts : (v : Verb) → Counts (comparedIn g e (slotsOf (content g st i))) (listCall g st i e v .answer)
-  unfolding listCall findIn addIn deleteIn
+  unfolding listCall findIn enterIn relabelIn deleteIn
   list-counts find = find-counts (content g st i)
-  list-counts (add label) = add-counts label (content g st i)
+  list-counts (enter label) = enter-counts label (content g st i)
+  list-counts (relabel label) = relabel-counts label (content g st i)
   list-counts delete = delete-counts (content g st i)
 
 -- The line -----------------------------------------------------------------------------------------------------------------------

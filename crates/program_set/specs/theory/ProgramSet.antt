@@ -19,7 +19,7 @@ use Rattle.settings.specs.Due.{unlessDue}
 use Rattle.keys.specs.Key.{keyNumber, listNumber}
 use Rattle.keys.specs.theory.Keys.{key-below}
 use Rattle.plain_set.specs.Rebuilt.{Pair}
-use Rattle.table.specs.Calls.{Verb, find, add, delete, verbDue}
+use Rattle.table.specs.Calls.{Verb, find, enter, relabel, delete, verbDue}
 use Rattle.table.specs.theory.FormedCalls.{either}
 use Rattle.table.specs.theory.Formed.{All, all-nil, all-cons}
 use Rattle.text_read.specs.Answers.{readingOf}
@@ -34,14 +34,14 @@ use Rattle.program_answers.specs.theory.Program.{program-legal}
 use Rattle.program_stream.specs.Output.{linesOf, answersTo, outputOf, newTable, programOutput}
 use Rattle.program_stream.specs.Run.{joined, Run}
 use Rattle.program_stream.specs.theory.Whole.{whole-program}
-use Rattle.plain_set.specs.Set.{Call, refused, lookup, noVacantSlot, listLength, allBlocksUsed, Step, step, findStep, addStep, deleteStep, keyStep, setStep}
+use Rattle.plain_set.specs.Set.{Call, refused, lookup, noVacantSlot, listLength, allBlocksUsed, Step, step, findStep, enterStep, relabelStep, deleteStep, keyStep, setStep}
 use Rattle.plain_set.specs.Plain.{plain}
 use Rattle.plain_set.specs.theory.Agree.{Agree, agree-holds}
 use Rattle.plain_set.specs.theory.Start.{new-agree}
 use Rattle.text_calls.specs.Asked.{Asked, byText, tableCall}
 use Rattle.demand3.specs.Claim.{given}
 use Rattle.demand3.specs.theory.Lent.{lent-follows}
-use Rattle.program_set.specs.Claim.{callOf, commandStep, lineStep, keyNamed, printed, Behaves, setLines, Line, says, refuses-text, refuses-label, refuses-block, refuses-line}
+use Rattle.program_set.specs.Claim.{callOf, commandStep, lineStep, keyNamed, printed, Behaves, setLines, Line, says, refuses-text, refuses-label, refuses-block, refuses-line, refuses-known}
 use Rattle.program_set.specs.theory.Printed.{command-printed}
 
 lawful : Legal program
@@ -144,16 +144,21 @@ module _ (t : List ℕ) (ps : List Pair) (n : ℕ) where
   delete-prints k none = says _ _ _ _
   delete-prints k (some l) = says _ _ _ _
 
-  add-prints : (k l : ℕ) (o : Option ℕ) → Prints (addStep program ps k l o)
-  add-prints k l none =
+  enter-prints : (k l : ℕ) (o : Option ℕ) → Prints (enterStep program ps k l o)
+  enter-prints k l none =
       either Prints (noVacantSlot program (listLength program ps (listNumber program k)) && allBlocksUsed program ps)
       (λ q. refuses-block) (λ q. says _ _ _ _)
-  add-prints k l (some m) = says _ _ _ _
+  enter-prints k l (some m) = refuses-known
+
+  relabel-prints : (k l : ℕ) (o : Option ℕ) → Prints (relabelStep program ps k l o)
+  relabel-prints k l none = says _ _ _ _
+  relabel-prints k l (some m) = says _ _ _ _
 
   -- the call with a legal key
   verb-prints : (v : Verb) (k : ℕ) → Prints (unlessDue (verbDue program v) (λ why. step (refused why) ps) (keyStep program ps v k))
   verb-prints find k = find-prints (lookup k ps)
-  verb-prints (add l) k = either Prints (not (ltb l (2 ^ program .val))) (λ q. refuses-label) (λ q. add-prints k l (lookup k ps))
+  verb-prints (enter l) k = either Prints (not (ltb l (2 ^ program .val))) (λ q. refuses-label) (λ q. enter-prints k l (lookup k ps))
+  verb-prints (relabel l) k = either Prints (not (ltb l (2 ^ program .val))) (λ q. refuses-label) (λ q. relabel-prints k l (lookup k ps))
   verb-prints delete k = delete-prints k (lookup k ps)
 
   text-prints : (v : Verb) (x : List ℕ) (p : Parsed) → readingOf x ≡ p → Prints (setStep program programBytes ps (given (byText v x)))
@@ -173,6 +178,6 @@ all-lines t ps [] = all-nil
 all-lines t ps (l ∷ ls) =
     all-cons (command-prints t ps (keyNamed (commandOf l)) (commandOf l)) (all-lines (lineReply t l .bytes) (lineStep ps l .after) ls)
 
--- every line of the output says a word, or refuses by 4, 6, 8 or 11
+-- every line of the output says a word, or refuses by 4, 6, 8, 11 or 12
 pub only-refusals : (input : List ℕ) → All Line (setLines newTable [] (linesOf input))
 only-refusals input = all-lines newTable [] (linesOf input)

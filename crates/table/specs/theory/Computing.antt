@@ -12,8 +12,9 @@ use Rattle.table.specs.State.{unpack, headOf, restOf}
 use Rattle.table.specs.Decode.{blockAt, basicSlots, linkAt, overflowSlots, readBasic, readOverflow, decode, image, written}
 use Rattle.table.specs.Follow.{stepOf, content}
 use Rattle.table.specs.Find.{position, findFollowed, findIn}
-use Rattle.table.specs.Add.{append, addFollowed, addIn}
+use Rattle.table.specs.Enter.{append, enterFollowed, enterIn}
 use Rattle.table.specs.Store.{storeOverflow, storeAt}
+use Rattle.table.specs.Relabel.{relabelFollowed, relabelIn}
 use Rattle.table.specs.Delete.{handedBack, shrinkAt, cannotFree, shrink, deleteFollowed, deleteIn}
 use Rattle.table.specs.New.{newState, newBytes}
 use Rattle.table.specs.Record.{recordFrom, recordIn}
@@ -25,6 +26,6 @@ unfolding
     bitAt field replaced putBit putField leastFrom ceilLog2 noneDivides isPrime primeAbove linkBits freeStartBits basicCounterBits basicBlockBits lists
     overflowCounterBits overflowBlockBits overflowStart tableBits tableBytes inRanges fits belowPrime legal layoutOf keyNumber keyOf index entry hash
     listNumber rebuilt unpack headOf restOf blockAt basicSlots linkAt overflowSlots readBasic readOverflow decode image written stepOf content position findFollowed
-    findIn append addFollowed addIn storeOverflow storeAt handedBack shrinkAt cannotFree shrink deleteFollowed deleteIn newState newBytes recordFrom recordIn stateSound fillZero tableSound markBytes
+    findIn append enterFollowed enterIn storeOverflow storeAt relabelFollowed relabelIn handedBack shrinkAt cannotFree shrink deleteFollowed deleteIn newState newBytes recordFrom recordIn stateSound fillZero tableSound markBytes
     marksAfter listCall makeCall keyCall recordCall checkCall
 computing = tt

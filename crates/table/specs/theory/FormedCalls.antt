@@ -17,7 +17,8 @@ use Rattle.table.specs.Updates.{withFront, withBasicFront, overBasic, ov
 use Rattle.table.specs.Follow.{lastOf, prevOf, Content, cons?, follow, gather, contentOver, content, goOn, stepAt}
 use Rattle.table.specs.Find.{position, isHeld, labelAt, comparedIn}
 use Rattle.table.specs.Take.{occurs, nextFree, taking, freed}
-use Rattle.table.specs.Add.{extended, append, addFollowed, addIn}
+use Rattle.table.specs.Enter.{extended, append, enterFollowed, enterIn}
+use Rattle.table.specs.Relabel.{relabelFollowed, relabelIn}
 use Rattle.table.specs.Delete.{priorOf, handedBack, shrinkAt, cannotFree, shrink, deleteFollowed, deleteIn}
 use Rattle.table.specs.New.{newOverflow, newState}
 use Rattle.table.specs.Done.{Done, damage, noBlock, done, Answered, answered}
@@ -166,7 +167,7 @@ module _ (g : Layout) (F : Proper g) where
       (λ e. block-link F (let ne = eqb-false (st .free) (g .nob) e in omega arith)))))
       (block-free F (omega arith))
 
-  -- ---- add's change
+  -- ---- enter's change
 
   extended-ends : (st : State) (bs : List ℕ) {d x : ℕ} (linkTo : ℕ → State → State) → Fits (g .link) d → Fits (g .slot) x
       → ((f : ℕ) → f < g .nob → Formed g (linkTo f st)) → Ends (Formed g) (extended g st bs d x linkTo)
@@ -195,7 +196,7 @@ module _ (g : Layout) (F : Proper g) where
       (λ e. extended-ends st (c ∷ cs) (λ f. overOverflow l (withFront (g .sio) f)) (fits .link) p
       (λ j m. formed-overflow l f (counter-fits (F .overflow-holds) (link-fits (block-link F m) fits))))
 
-  -- ---- delete's changes
+  -- ---- the changes of relabel and delete
 
   store-overflow : {os : List Overflow} {bs : List ℕ} (q : ℕ) {x : ℕ} → Each (OverflowFits g) (g .nob) os → All (Below (g .nob)) bs → Fits (g .slot) x
       → Each (OverflowFits g) (g .nob) (storeOverflow g os bs q x)
@@ -262,18 +263,35 @@ module _ (g : Layout) (F : Proper g) where
   answered-formed a ends-full = holds-none
   answered-formed a (ends-done p) = holds-some p
 
-  add-followed : {st : State} {o : Option Content} (i e label : ℕ) → Formed g st → i < g .lists → Fits (g .slot) (slotOf g e label) → Holds (ContentFits g) o
-      → Holds (Formed g) (addFollowed g st i e label o .after)
-  unfolding addFollowed
-  add-followed i e label f h p holds-none = holds-none
-  add-followed i e label f h p (holds-some {a = v} s) =
+  slotted : {e label : ℕ} → e < 2 ^ g .bie → label < 2 ^ g .val → Fits (g .slot) (slotOf g e label)
+  slotted k l = rw (F .slot-is) (join-fits (g .bie) (g .val) k l)
+
+  enter-followed : {st : State} {o : Option Content} (i e label : ℕ) → Formed g st → i < g .lists → Fits (g .slot) (slotOf g e label) → Holds (ContentFits g) o
+      → Holds (Formed g) (enterFollowed g st i e label o .after)
+  unfolding enterFollowed
+  enter-followed i e label f h p holds-none = holds-none
+  enter-followed i e label f h p (holds-some {a = v} s) =
       either (λ (a : Answered). Holds (Formed g) (a .after)) (isHeld g e (v .slots)) (λ t. holds-none)
       (λ t. answered-formed (said word.Added label (comparedIn g e (v .slots))) (append-ends i f h (s .blocks .below) p))
 
-  pub add-formed : {st : State} (i e label : ℕ) → Formed g st → i < g .lists → e < 2 ^ g .bie → label < 2 ^ g .val
-      → Holds (Formed g) (addIn g st i e label .after)
-  unfolding addIn
-  add-formed i e label f h k l = add-followed i e label f h (rw (F .slot-is) (join-fits (g .bie) (g .val) k l)) (content-holds g f i)
+  pub enter-formed : {st : State} (i e label : ℕ) → Formed g st → i < g .lists → e < 2 ^ g .bie → label < 2 ^ g .val
+      → Holds (Formed g) (enterIn g st i e label .after)
+  unfolding enterIn
+  enter-formed i e label f h k l = enter-followed i e label f h (slotted k l) (content-holds g f i)
+
+  relabel-followed : {st : State} {o : Option Content} (i e label : ℕ) → Formed g st → i < g .lists → Fits (g .slot) (slotOf g e label) → Holds (ContentFits g) o
+      → Holds (Formed g) (relabelFollowed g st i e label o .after)
+  unfolding relabelFollowed
+  relabel-followed i e label f h p holds-none = holds-none
+  relabel-followed i e label f h p (holds-some {a = v} s) =
+      either (λ (a : Answered). Holds (Formed g) (a .after)) (isHeld g e (v .slots))
+      (λ t. holds-some (store-formed i (position g e (v .slots)) f h (s .blocks .below) p))
+      (λ t. holds-none)
+
+  pub relabel-formed : {st : State} (i e label : ℕ) → Formed g st → i < g .lists → e < 2 ^ g .bie → label < 2 ^ g .val
+      → Holds (Formed g) (relabelIn g st i e label .after)
+  unfolding relabelIn
+  relabel-formed i e label f h k l = relabel-followed i e label f h (slotted k l) (content-holds g f i)
 
   delete-followed : {st : State} {o : Option Content} (i e : ℕ) → Formed g st → i < g .lists → Holds (ContentFits g) o
       → Holds (Formed g) (deleteFollowed g st i e o .after)

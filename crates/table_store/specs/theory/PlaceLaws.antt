@@ -1,71 +1,139 @@
 -- Places of a list: where they are in the blocks, and what a slot stored there does.
 use mathlib.Core.Path.{_≡_, refl, sym, ap, subst, _∙_}
-use mathlib.Core.List.{List, [], _∷_}
-use Prim.Native.Nat.{ℕ, _+_, _-_, _^_, _≤_, _<_}
+use mathlib.Core.List.{List, [], _∷_, _++_}
+use mathlib.Core.Option.{Option, none, some}
+use Prim.Native.Nat.{ℕ, suc, _+_, _-_, _*_, _^_, _≤_, _<_}
 use native.Mathlib.Omega.{arith}
 use native.Mathlib.Decide.{decLe, ℕ-discrete}
-use lib.ListN.{length, set}
-use lib.Seq.{getD-set-same, getD-set-other, set-out}
+use lib.ListN.{length, getD, set, take, length-append, length-take, List·getD-append}
+use lib.Seq.{getD-append-add, getD-take, getD-set-same, getD-set-other, set-out}
 use lib.Dec.{ltb}
 use borrow.Author.Tests.{lt-ltb, le-ltb}
 use Rattle.table_read.specs.Places.{basicSlot, overflowSlot}
 use Rattle.bits.specs.Bytes.{Bytes}
+use Rattle.bits.specs.Field.{field}
 use Rattle.bits.specs.Put.{putField}
 use Rattle.bits.specs.theory.Fields.{field-lt}
-use Rattle.bits.specs.theory.Puts.{put-own}
+use Rattle.bits.specs.theory.Puts.{put-zero, put-own}
 use Rattle.laws.specs.Cases.{cases}
 use Rattle.settings.specs.declared.layout.Layout.{Layout}
-use Rattle.table.specs.State.{Overflow, State, mkState, absentBlock, basicAt, overflowAt, unpack, headOf, restOf}
+use Rattle.table.specs.State.{Overflow, State, mkState, absentBlock, basicAt, overflowAt, unpack, headOf, restOf, ownSlots}
 use Rattle.table.specs.Updates.{withLink, withSlot, withRest, overBasic, overOverflow}
 use Rattle.table.specs.Decode.{basicSlots, linkAt, overflowSlots, readOverflow, decode}
 use Rattle.table.specs.Table.{Table}
-use Rattle.table.specs.Follow.{lastOf, gather}
+use Rattle.table.specs.Follow.{Content, lastOf, gather}
 use Rattle.table.specs.Store.{storeDisplaced, storeOverflow, storeAt}
 use Rattle.table_read.specs.BlockSlots.{blocksFrom, blockSlotIn, Reaches}
+use Rattle.table.specs.theory.Arrays.{getD-tab}
 use Rattle.table.specs.theory.Changes.{basic-ends, over-low, at-over}
+use Rattle.table_read.specs.Steps.{restoredBytes, basicRun}
 use Rattle.table_read.specs.theory.Places.{basic-slot-ends, overflow-slot-ends}
-use Rattle.table_read.specs.theory.Reads.{link-lt, sized}
-use Rattle.table_read.specs.theory.Walks.{Chain, ends, more}
-use Rattle.table_read.specs.theory.BlockSlots.{chained, one-more, last-one}
+use Rattle.table_read.specs.theory.Reads.{link-lt, sized, unpack-length, slot-in, basic-slots-in}
+use Rattle.table_read.specs.theory.Walks.{Chain, ends, more, content-short}
+use Rattle.table_read.specs.theory.BlockSlots.{chained, one-more, last-one, long-blocks, long-length}
 use Rattle.table_read.specs.declared.lists.BlockSlot.{BlockSlot}
 use Rattle.table_store.specs.Stores.{StoredOver, Stored, linkPut, slotPut}
-use Rattle.table_store.specs.Places.{storeInBlock, storeFrom, placeFrom, Storable}
+use Rattle.table_store.specs.Places.{Placed, storeInBlock, storeFrom, placeFrom, Storable}
 use Rattle.table_store.specs.theory.StoreLaws.{stored-then, stored-as, stored-link, stored-overflow-slot, over-behind, over-head, over-rest}
 
 module _ (g : Layout) (os : List Overflow) (sized : (j : ℕ) → j < g .nob → length (overflowAt os j .slots) ≡ g .sio) where
-  -- what is known of place q of the blocks, and what a slot stored there does
+  -- what is known of place q of the blocks: the slot that stands there, and what a slot stored there does
   pub record InBlocks (bs : List ℕ) (q : ℕ) : Type 0 where
     pub low : blockSlotIn g bs q .block .0 < g .nob
     pub few : blockSlotIn g bs q .slot .0 < g .sio
+    pub holds : getD (gather g os bs) q 0 ≡ getD (overflowAt os (blockSlotIn g bs q .block .0) .slots) (blockSlotIn g bs q .slot .0) 0
     pub stored : (x : ℕ) → storeOverflow g os bs q x
         ≡ set os (blockSlotIn g bs q .block .0) (withSlot (blockSlotIn g bs q .slot .0) x (overflowAt os (blockSlotIn g bs q .block .0)))
 
-  in-blocks-here : {b : ℕ} (cs : List ℕ) (q : ℕ) → b < g .nob → q < g .sio → InBlocks (b ∷ cs) q
-  unfolding storeOverflow
-  in-blocks-here {b} cs q h l =
-      record { low = rw (lt-ltb q (g .sio) l) h; few = rw (lt-ltb q (g .sio) l) l; stored = λ x. rw (lt-ltb q (g .sio) l) }
+  -- the slots in use of block b
+  abbrev used : ℕ → List ℕ
+  used b = take (suc (overflowAt os b .counter)) (overflowAt os b .slots)
 
-  in-blocks-on : {b : ℕ} (cs : List ℕ) (q : ℕ) → g .sio ≤ q → InBlocks cs (q - g .sio) → InBlocks (b ∷ cs) q
+  in-blocks-here : {b : ℕ} (cs : List ℕ) (q : ℕ) → b < g .nob → q < g .sio → q ≤ overflowAt os b .counter → InBlocks (b ∷ cs) q
   unfolding storeOverflow
-  in-blocks-on cs q l s =
+  in-blocks-here {b} cs q h l m =
+      let n : q < length (used b) = omega (arith, sized b h, length-take (suc (overflowAt os b .counter)) (overflowAt os b .slots)) in
+      record {
+        low = rw (lt-ltb q (g .sio) l) h;
+        few = rw (lt-ltb q (g .sio) l) l;
+        holds =
+            List·getD-append (used b) (gather g os cs) 0 q n
+            ∙ getD-take (suc (overflowAt os b .counter)) (overflowAt os b .slots) q 0 (omega arith)
+            ∙ rw (lt-ltb q (g .sio) l);
+        stored = λ x. rw (lt-ltb q (g .sio) l);
+      }
+
+  in-blocks-on : {b : ℕ} (cs : List ℕ) (q : ℕ) → b < g .nob → overflowAt os b .counter ≡ g .sio → g .sio ≤ q → InBlocks cs (q - g .sio)
+      → InBlocks (b ∷ cs) q
+  unfolding storeOverflow
+  in-blocks-on {b} cs q h f l s =
+      let e : q ≡ length (used b) + (q - g .sio) = omega (arith, sized b h, length-take (suc (overflowAt os b .counter)) (overflowAt os b .slots)) in
       record {
         low = rw (le-ltb q (g .sio) l) (s .low);
         few = rw (le-ltb q (g .sio) l) (s .few);
+        holds =
+            ap (λ (n : ℕ). getD (used b ++ gather g os cs) n 0) e
+            ∙ getD-append-add (used b) (gather g os cs) (q - g .sio) 0
+            ∙ rw (le-ltb q (g .sio) l) (s .holds);
         stored = λ x. rw (le-ltb q (g .sio) l) (s .stored x);
       }
 
   pub in-blocks : {b : ℕ} {cs : List ℕ} → Chain g os b cs → (q : ℕ) → q < length (gather g os (b ∷ cs)) → InBlocks (b ∷ cs) q
-  in-blocks (ends {b} h l) q m = in-blocks-here [] q h (last-one g os sized h m)
+  in-blocks (ends {b} h l) q m =
+      in-blocks-here [] q h (last-one g os sized h m)
+      (omega (arith, length-append (used b) [], length-take (suc (overflowAt os b .counter)) (overflowAt os b .slots)))
   in-blocks (more {b} {cs} h e c) q m = pick (decLe (g .sio) q) (λ l. in-blocks c (q - g .sio) (one-more g os sized (gather g os (overflowAt os b .link ∷ cs)) h l m))
     where
       pick : Dec (g .sio ≤ q) → (g .sio ≤ q → InBlocks (overflowAt os b .link ∷ cs) (q - g .sio)) → InBlocks (b ∷ overflowAt os b .link ∷ cs) q
-      pick (no l) f = in-blocks-here (overflowAt os b .link ∷ cs) q h (omega arith)
-      pick (yes l) f = in-blocks-on (overflowAt os b .link ∷ cs) q l (f l)
+      pick (no l) f = in-blocks-here (overflowAt os b .link ∷ cs) q h (omega arith) (omega arith)
+      pick (yes l) f = in-blocks-on (overflowAt os b .link ∷ cs) q h e l (f l)
 
   pub in-blocks-at : (b q : ℕ) → Reaches g os b q → InBlocks (blocksFrom g os b) q
   in-blocks-at b q r =
       let c = chained g os b (r .ends) in
       rw (c .are) (in-blocks (c .chain) q (rw (c .are) at (r .within)))
+
+-- ---- the slot that stands in a place
+
+module _ (g : Layout) (t : List ℕ) (T : Table g t) where
+  pub overflow-slot-is : (j k : ℕ) → j < g .nob → k < g .sio → getD (overflowAt (decode g t .overflow) j .slots) k 0 ≡ field t (overflowSlot g j k) (g .slot)
+  unfolding readOverflow overflowSlot
+  overflow-slot-is j k h l =
+      ap (λ (o : Overflow). getD (o .slots) k 0) (at-over g (T .proper) t j h)
+      ∙ getD-tab (g .sio) (λ q. field t (overflowSlots g j + q * g .slot) (g .slot)) k 0 l
+
+  pub basic-slot-is : (i k : ℕ) → i < g .lists → k < g .sib
+      → getD (ownSlots g (basicAt (decode g t .basic) i)) k 0 ≡ field t (basicSlot g i k) (g .slot)
+  unfolding basicRun restoredBytes basicSlot
+  basic-slot-is i k h l =
+      let es = ownSlots g (basicAt (decode g t .basic) i) in
+      sym (getD-take (g .sib) es k 0 l)
+      ∙ ap (λ (xs : List ℕ). getD xs k 0) (sym (basic-slots-in g t T i (g .sib) h (omega arith)))
+      ∙ slot-in g t (basicRun g i (g .sib)) k l
+      ∙ ap (λ (s : List ℕ). field s (basicSlots g i + k * g .slot) (g .slot)) (put-zero t (basicSlots g i) 0)
+
+abbrev lengthOf : Option Content → ℕ
+lengthOf none = 0
+lengthOf (some v) = length (v .slots)
+
+-- a place of a list without overflow blocks, and of one with
+module _ (g : Layout) (st : State) (i p : ℕ) (P : Placed g st i p) where
+  module _ (h : basicAt (st .basic) i .counter ≤ g .sib) where
+    -- the slots in use
+    pub short-used : length (take (basicAt (st .basic) i .counter) (ownSlots g (basicAt (st .basic) i))) ≡ basicAt (st .basic) i .counter
+    short-used =
+        omega (
+          arith,
+          length-take (basicAt (st .basic) i .counter) (ownSlots g (basicAt (st .basic) i)),
+          unpack-length g (basicAt (st .basic) i .head) (basicAt (st .basic) i .rest),
+        )
+
+    pub short-place : p < basicAt (st .basic) i .counter
+    short-place = omega (arith, short-used, P .within, ap lengthOf (sym (P .is) ∙ content-short g st i h))
+
+  pub long-place : (h : g .sib < basicAt (st .basic) i .counter) → g .sib ≤ p
+      → p - g .sib < length (gather g (st .overflow) (basicAt (st .basic) i .head ∷ long-blocks g st i (P .followed) (P .is) h .others))
+  long-place h l = omega (arith, P .within, long-length g st i (P .followed) (P .is) h)
 
 -- ---- a slot stored in a place
 

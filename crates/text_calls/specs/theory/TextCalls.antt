@@ -24,6 +24,7 @@ use Rattle.keys.specs.Key.{keyNumber}
 use Rattle.keys.specs.theory.Keys.{key-below}
 use Rattle.table.specs.Answer.{noKey}
 use Rattle.table.specs.Calls.{Verb, keyCall}
+use Rattle.table.specs.declared.answers.Answer.{Answer}
 use Rattle.table.specs.declared.answers.Answer.the-variants as answer
 use Rattle.table.specs.theory.Opened.{due-settings}
 use Rattle.table_find.specs.Seek.{openOf}
@@ -91,5 +92,10 @@ module _ (s : Settings) (t x : List ℕ) where
         (parsed.Key (keyRead (readingOf x))))
         ∙ ap byAdmitted e
 
-    pub admitted-gives : (a : Parsed) {r : TextAnswer} {u : List ℕ} → admittedOf s t x ≡ a → Gives (byAdmitted a) r u → Gives (textCall s t v x) r u
-    admitted-gives a e g = rw (admitted-call a e) g
+    -- a key: the call with it
+    pub admitted-key : {k : Key} {r : Answer} {u : List ℕ} → admittedOf s t x ≡ parsed.Key k → Gives (keyCall s t v k) r u → Gives (textCall s t v x) (forKey k r) u
+    admitted-key {k} e g = rw (admitted-call (parsed.Key k) e) (record { answer = ap (forKey k) (g .answer); bytes = g .bytes })
+
+    -- a refusal, which leaves every byte
+    pub admitted-refused : {why : Refusal} {r : TextAnswer} → admittedOf s t x ≡ parsed.Refused why → r ≡ forKey noKey (answer.Refused why) → Gives (textCall s t v x) r t
+    admitted-refused {why} e g = rw (admitted-call (parsed.Refused why) e) (record { answer = g; bytes = refl })

@@ -1,10 +1,9 @@
--- The two words are byte strings, told apart by one test.
+-- "added", or one of the others.
 use mathlib.Core.Path.{sym, ap}
 use mathlib.Core.Logic.{⊎-elim}
 use native.Mathlib.Omega.{arith}
 use Rattle.text_calls.specs.Ascii.{ascii}
 use Rattle.program_answers.specs.Answer.{wordText}
-use Rattle.program_answers.proofs.Texts.{gone-text}
 use Rattle.program_answers.proofs.Puts.{put-as}
 use borrow.Author.Needs.{needs}
 use Rattle.program_answers.proofs.answer.put_change.Statement.{statement}
@@ -19,11 +18,10 @@ slice-aggregate-put c = search needs
 put-requires : tie.Need-put-requires
 put-requires c κs = search needs
 
-slice-aggregate-put-2 : tie.Need-slice-aggregate-put-2
-slice-aggregate-put-2 c = search needs
-
-put-requires-2 : tie.Need-put-requires-2
-put-requires-2 c κs = search needs
+put-unadded-requires : tie.Need-put-unadded-requires
+put-unadded-requires c κs =
+    let s = c .before .before .before in
+    (s .pre .0, λ e. ⊎-elim (λ z. absurd (omega (arith, rw e at z))) (⊎-elim (λ z. absurd (omega (arith, rw e at z))) (⊎-elim (λ z. absurd (omega (arith, rw e at z))) (λ z. absurd (omega (arith, rw e at z))))) (c .before .match .keys2), omega (arith, s))
 
 same-length : tie.Need-same-length
 same-length c = search needs
@@ -38,16 +36,7 @@ same-length-2 : tie.Need-same-length-2
 same-length-2 c = search needs
 
 returns-2 : tie.Need-returns-2
-unfolding ascii
-returns-2 c =
-    let p = c .before .before in
-    let m = p .before .before .before in
-    let s = m .before .before in
-    put-as
-    (sym
-    (gone-text (s .args .w) (s .pre .0)
-    (λ e. ⊎-elim (λ z. absurd (omega (arith, rw e at z))) (⊎-elim (λ z. absurd (omega (arith, rw e at z))) (λ z. absurd (omega (arith, rw e at z)))) (m .match .keys2))))
-    (p .put2 .ensures)
+returns-2 c = search needs
 
 pub put-change-spec : {M : Type 1} → statement M
 put-change-spec =
@@ -56,8 +45,7 @@ put-change-spec =
     enum-told
     slice-aggregate-put
     put-requires
-    slice-aggregate-put-2
-    put-requires-2
+    put-unadded-requires
     same-length
     returns
     same-length-2

@@ -21,7 +21,7 @@ put-requires c κs = search needs
 put-unheld-requires : tie.Need-put-unheld-requires
 put-unheld-requires c κs =
     let s = c .before .before .before in
-    (λ e. ⊎-elim (λ z. absurd (omega (arith, rw e at z))) (⊎-elim (λ z. absurd (omega (arith, rw e at z))) (λ z. absurd (omega (arith, rw e at z)))) (c .before .match .keys2), omega (arith, s))
+    (λ e. ⊎-elim (λ z. absurd (omega (arith, rw e at z))) (⊎-elim (λ z. absurd (omega (arith, rw e at z))) (⊎-elim (λ z. absurd (omega (arith, rw e at z))) (λ z. absurd (omega (arith, rw e at z))))) (c .before .match .keys2), omega (arith, s))
 
 same-length : tie.Need-same-length
 same-length c = search needs

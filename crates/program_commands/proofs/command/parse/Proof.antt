@@ -3,7 +3,7 @@ use mathlib.Core.Path.{refl}
 use Prim.Native.Nat.{_≤_}
 use native.Mathlib.Omega.{arith}
 use lib.ListN.{length, getD}
-use Rattle.program_commands.specs.Command.{longestLine}
+use Rattle.program_commands.specs.Command.{opOf, longestLine}
 use Rattle.program_commands.specs.Steps.{Begins}
 use Rattle.program_commands.proofs.Parses.{malformed, size-malformed, size-fits, unspaced-line, unknown-line, delete-asks, find-asks}
 use Rattle.program_commands.proofs.command.parse.Statement.{statement}
@@ -32,11 +32,17 @@ begins-at c =
     let f = sized (c .before .before .before) in
     record { low = f .0; high = f .1; first = refl; second = c .before .if2 .left }
 
-parse-add-requires : tie.Need-parse-add-requires
-parse-add-requires c κs = rw (c .if3 .taken) at (begins-at (c .before))
+parse-labelled-requires : tie.Need-parse-labelled-requires
+unfolding opOf
+parse-labelled-requires c κs = record {
+  byte = 43;
+  begins = rw (c .if3 .taken) at (begins-at (c .before));
+  stands = refl;
+  takes = refl;
+}
 
 returns-3 : tie.Need-returns-3
-returns-3 c = c .parse-add .ensures
+returns-3 c = c .parse-labelled .ensures
 
 returns-4 : tie.Need-returns-4
 returns-4 c = delete-asks _ (rw (c .if4 .taken) at (begins-at (c .before .before)))
@@ -44,9 +50,24 @@ returns-4 c = delete-asks _ (rw (c .if4 .taken) at (begins-at (c .before .before
 returns-5 : tie.Need-returns-5
 returns-5 c = find-asks _ (rw (c .if5 .taken) at (begins-at (c .before .before .before)))
 
+parse-labelled-requires-2 : tie.Need-parse-labelled-requires-2
+unfolding opOf
+parse-labelled-requires-2 c κs = record {
+  byte = 61;
+  begins = rw (c .if6 .taken) at (begins-at (c .before .before .before .before));
+  stands = refl;
+  takes = refl;
+}
+
 returns-6 : tie.Need-returns-6
-returns-6 c =
-    malformed _ (unknown-line _ _ (begins-at (c .before .before .before)) (c .before .before .if3 .left) (c .before .if4 .left) (c .if5 .left))
+returns-6 c = c .parse-labelled2 .ensures
+
+returns-7 : tie.Need-returns-7
+returns-7 c =
+    let e = c .before in
+    let d = e .before in
+    let p = d .before in
+    malformed _ (unknown-line _ _ (begins-at (p .before)) (p .if3 .left) (d .if4 .left) (e .if5 .left) (c .if6 .left))
 
 pub parse-spec : {M : Type 1} → statement M
 parse-spec =
@@ -56,8 +77,10 @@ parse-spec =
     shared-slice-read-if2
     returns-2
     shared-slice-read-c
-    parse-add-requires
+    parse-labelled-requires
     returns-3
     returns-4
     returns-5
-    returns-6)
+    parse-labelled-requires-2
+    returns-6
+    returns-7)

@@ -1,21 +1,16 @@
 -- What find answered decides.
 use mathlib.Core.Path.{refl, sym, ap, subst, _∙_}
-use mathlib.Core.Logic.{inl, inr}
-use mathlib.Core.List.{[], _∷_}
-use Prim.Native.Nat.{ℕ}
+use mathlib.Core.Logic.{⊎-elim}
 use native.Mathlib.Omega.{arith}
 use denote.Ref.{now}
-use denote.Enum.Declared.{tagOf}
-use types.Run.{OneOf}
 use borrow.Author.Needs.{needs}
 use Rattle.keys.specs.Key.{keyNumber}
 use Rattle.table.specs.Decode.{decode}
 use Rattle.table.specs.Answer.{said}
 use Rattle.table.specs.declared.answers.Word.{Word}
-use Rattle.table.specs.declared.answers.Word.the-variants as word
-use Rattle.table.proofs.answers.Word.{the-type}
 use Rattle.table_find.specs.theory.SoughtLaws.{SoughtIn, sought-means}
-use Rattle.table_delete.proofs.KeyLaws.{Found, Other, sought-held, other-gives, gone-gives, damage-gives}
+use Rattle.table_find.specs.theory.Helds.{Other, not-held}
+use Rattle.table_delete.proofs.KeyLaws.{Found, sought-held, other-gives, gone-gives, damage-gives}
 use Rattle.table_delete.proofs.remove.delete_sought.Statement.{statement}
 use Rattle.table_delete.proofs.remove.delete_sought.Tie as tie
 
@@ -46,15 +41,6 @@ there c =
     let a = s .args in
     sought-held (sought s) _ _
     (k .found .given .1 ∙ ap (λ (w : Word). said w (k .found .given .0 .0) (k .found .given .0 .1 .1 .0)) (c .before .before .enum-told .given .1))
-
--- a word that is not "held"
-not-held : (w : Word) (l n : ℕ) → OneOf (0 ∷ 2 ∷ 3 ∷ []) (tagOf the-type w) → Other (said w l n)
-not-held word.Added l n h = tt
-not-held word.Held l n (inl e) = omega (arith, e)
-not-held word.Held l n (inr (inl e)) = omega (arith, e)
-not-held word.Held l n (inr (inr e)) = omega (arith, e)
-not-held word.Gone l n h = tt
-not-held word.None l n h = tt
 
 enum-known-found : tie.Need-enum-known-found
 enum-known-found c = search needs
@@ -107,7 +93,8 @@ returns-3 c =
     let f = c .before .before .found .given in
     let k = to-start (c .before .before) in
     let a = k .args in
-    other-gives (sought k) _ (f .1) (not-held (f .0 .1 .0) (f .0 .0) (f .0 .1 .1 .0) (c .match2 .keys2))
+    other-gives (sought k) _ (f .1) (not-held (f .0 .1 .0) (f .0 .0) (f .0 .1 .1 .0)
+    (λ e. ⊎-elim (λ z. absurd (omega (arith, rw e at z))) (⊎-elim (λ z. absurd (omega (arith, rw e at z))) (⊎-elim (λ z. absurd (omega (arith, rw e at z))) (λ z. absurd (omega (arith, rw e at z))))) (c .match2 .keys2)))
 
 returns-4 : tie.Need-returns-4
 returns-4 c =

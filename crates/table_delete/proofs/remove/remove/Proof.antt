@@ -5,7 +5,7 @@ use denote.Ref.{now}
 use borrow.Author.Needs.{needs}
 use Rattle.table.specs.State.{basicAt}
 use Rattle.table.specs.Decode.{decode}
-use Rattle.table_delete.proofs.RemoveLaws.{short-place}
+use Rattle.table_store.specs.theory.PlaceLaws.{short-place}
 use Rattle.table_delete.proofs.remove.remove.Statement.{statement}
 use Rattle.table_delete.proofs.remove.remove.Tie as tie
 

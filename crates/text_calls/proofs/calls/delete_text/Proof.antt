@@ -1,5 +1,5 @@
 -- What was admitted decides: the call with the key, or its refusal, which leaves every byte.
-use mathlib.Core.Path.{_≡_, refl, sym, ap, _∙_}
+use mathlib.Core.Path.{_≡_, sym, _∙_}
 use denote.Ref.{now}
 use lib.ListN.{length}
 use borrow.Author.Needs.{needs}
@@ -9,9 +9,8 @@ use Rattle.table.specs.Calls.{delete}
 use Rattle.table_find.specs.Seek.{openOf}
 use Rattle.table_find.specs.theory.SoughtLaws.{placed-at, sought-as}
 use Rattle.text_read.specs.declared.Parsed.{Parsed}
-use Rattle.text_calls.specs.TextCalls.{forKey}
 use Rattle.text_calls.specs.Admits.{admittedOf}
-use Rattle.text_calls.specs.theory.TextCalls.{admitted-open, admitted-illegal, admitted-gives}
+use Rattle.text_calls.specs.theory.TextCalls.{admitted-open, admitted-illegal, admitted-key, admitted-refused}
 use Rattle.text_calls.proofs.calls.delete_text.Statement.{statement}
 use Rattle.text_calls.proofs.calls.delete_text.Tie as tie
 
@@ -103,8 +102,7 @@ returns c =
     let o = c .before .before in
     let k = to-key (o .before .before .before .before .before) in
     let a = start-at k .args in
-    admitted-gives (a .s) (now (a .t)) (now (a .text)) delete _ (admitted (to-admit k) _ (k .key .given .1))
-    record { answer = ap (forKey (k .key .given .0 .0)) (o .delete-sought .ensures .answer); bytes = o .delete-sought .ensures .bytes }
+    admitted-key (a .s) (now (a .t)) (now (a .text)) delete (admitted (to-admit k) _ (k .key .given .1)) (o .delete-sought .ensures)
 
 same-length-2 : tie.Need-same-length-2
 same-length-2 c = search needs
@@ -114,17 +112,15 @@ returns-2 c =
     let w = c .before .before in
     let d = w .before .before in
     let a = to-start (to-layout (to-g d)) .args in
-    admitted-gives (a .s) (now (a .t)) (now (a .text)) delete _ (admitted d _ (w .why .given .1))
-    record { answer = c .refused .ensures; bytes = refl }
+    admitted-refused (a .s) (now (a .t)) (now (a .text)) delete (admitted d _ (w .why .given .1)) (c .refused .ensures)
 
 returns-3 : tie.Need-returns-3
 returns-3 c =
     let w = c .before .before in
     let l = w .before .before in
     let a = to-start l .args in
-    admitted-gives (a .s) (now (a .t)) (now (a .text)) delete _
-    (admitted-illegal (a .s) (now (a .t)) (now (a .text)) (w .why2 .given .0 .0) (sym (l .layout .ensures) ∙ w .why2 .given .1))
-    record { answer = c .refused2 .ensures; bytes = refl }
+    admitted-refused (a .s) (now (a .t)) (now (a .text)) delete
+    (admitted-illegal (a .s) (now (a .t)) (now (a .text)) (w .why2 .given .0 .0) (sym (l .layout .ensures) ∙ w .why2 .given .1)) (c .refused2 .ensures)
 
 pub delete-text-spec : {M : Type 1} → statement M
 delete-text-spec =

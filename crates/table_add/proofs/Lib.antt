@@ -1,4 +1,0 @@
--- Laws that only the proofs of this crate use.
-mod FreeLaws
-mod AppendLaws
-mod AddLaws

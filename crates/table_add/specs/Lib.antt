@@ -1,4 +1,0 @@
--- Words of private contracts.
-pub mod Adds
--- What other crates use.
-pub mod theory

@@ -1,0 +1,145 @@
+-- Relabel of a key: what find answered decides what it comes to.
+use mathlib.Core.Path.{_≡_, refl, sym, ap, ap₂, subst, _∙_}
+use mathlib.Core.List.{List}
+use Prim.Native.Nat.{ℕ, _-_, _^_, _<_}
+use native.Mathlib.Omega.{arith}
+use lib.ListN.{length, getD}
+use borrow.Author.Tests.{eqb-true, ltb-true, lt-ltb}
+use Rattle.bits.specs.Bytes.{Bytes}
+use Rattle.settings.specs.declared.settings.Settings.{Settings}
+use Rattle.settings.specs.declared.layout.Layout.{Layout}
+use Rattle.settings.specs.Reply.{Gives}
+use Rattle.keys.specs.declared.Key.{Key}
+use Rattle.keys.specs.Key.{keyNumber}
+use Rattle.table.specs.State.{State, entryOf, slotOf}
+use Rattle.table.specs.Decode.{decode}
+use Rattle.table.specs.Find.{position, findIn}
+use Rattle.table.specs.Done.{done, unchanged, answered, replied}
+use Rattle.table.specs.Store.{storeAt}
+use Rattle.table.specs.Relabel.{relabelFollowed, relabelIn}
+use Rattle.table.specs.Calls.{listCall, relabel, keyCall}
+use Rattle.table.specs.theory.Positions.{position-held}
+use Rattle.table.specs.declared.answers.Answer.{Answer}
+use Rattle.table.specs.Answer.{said}
+use Rattle.table.specs.declared.answers.Answer.the-variants as answer
+use Rattle.table.specs.declared.answers.Word.{Word}
+use Rattle.table.specs.declared.answers.Word.the-variants as word
+use Rattle.table_store.specs.Places.{Placed}
+use Rattle.table_store.specs.theory.StoreLaws.{stored-written}
+use Rattle.table_find.specs.declared.Sought.{Sought}
+use Rattle.table_find.specs.theory.SoughtLaws.{SoughtIn}
+use Rattle.table_find.specs.theory.Helds.{Other, find-held, other-stays}
+use Rattle.table_relabel.specs.Relabels.{relabelled, Relabelled}
+use Rattle.table_relabel.specs.FromFind.{ifHeld, placeFound, wordTo, answerTo}
+
+-- ---- words
+
+-- a word that is not "held"
+pub not-at : (w : Word) (n : ℕ) → (w ≡ word.Held → ⊥) → ifHeld w n ≡ 0
+not-at word.Added n h = refl
+not-at word.Held n h = absurd (h refl)
+not-at word.Gone n h = refl
+not-at word.None n h = refl
+not-at word.Relabelled n h = refl
+
+pub word-kept : (w : Word) → (w ≡ word.Held → ⊥) → wordTo w ≡ w
+word-kept word.Added h = refl
+word-kept word.Held h = absurd (h refl)
+word-kept word.Gone h = refl
+word-kept word.None h = refl
+word-kept word.Relabelled h = refl
+
+-- ---- on a list
+
+-- the n-th slot holds the entry, with the label l
+pub record Found (g : Layout) (st : State) (i e label l n : ℕ) : Type 0 where
+  pub some-compared : 0 < n
+  pub placed : Placed g st i (n - 1)
+  pub goes : relabelIn g st i e label ≡ answered (said word.Relabelled l n) (done (relabelled g st i (n - 1) label))
+
+module _ (g : Layout) (st : State) (i e label : ℕ) where
+  -- the entry that stands there is the one that was sought
+  pub held-goes : (l n : ℕ) → findIn g st i e ≡ said word.Held l n → Found g st i e label l n
+  unfolding relabelIn relabelFollowed relabelled
+  held-goes l n q =
+      let w = find-held g st i e l n q in
+      let es = w .followed .slots in
+      let k : n - 1 ≡ position g e es = omega (arith, w .place) in
+      let m = ltb-true (position g e es) (length es) (w .held) in
+      let same : entryOf g (getD es (position g e es) 0) ≡ e = eqb-true (entryOf g (getD es (position g e es) 0)) e (position-held g e es 0 m) in
+      record {
+        some-compared = omega (arith, w .place);
+        placed = record { followed = w .followed; is = w .is; within = omega arith };
+        goes =
+            rw (w .is, w .held)
+            (ap₂ (λ (x y : ℕ). answered (said word.Relabelled x y) (done (storeAt g st i (w .followed .blocks) (position g e es) (slotOf g e label)))) (w .label) (w .place)
+            ∙ ap (λ (x : ℕ). answered (said word.Relabelled l n) (done (storeAt g st i (w .followed .blocks) (position g e es) (slotOf g x label)))) (sym same)
+            ∙ ap (λ (y : ℕ). answered (said word.Relabelled l n) (done (storeAt g st i (w .followed .blocks) y (slotOf g (entryOf g (getD es y 0)) label)))) (sym k));
+      }
+
+  -- what find answers else, relabel does too
+  pub relabel-stays : Other (findIn g st i e) → relabelIn g st i e label ≡ unchanged (findIn g st i e)
+  unfolding relabelIn relabelFollowed
+  relabel-stays h = other-stays g st i e (relabelFollowed g st i e label) refl (λ v p. rw p) h
+
+-- ---- by key, in a table that was opened for it
+
+module _ {s : Settings} {t : List ℕ} {key : Key} {g : Layout} {v : Sought} (S : SoughtIn s t key g v) (label : ℕ) (h : label < 2 ^ s .val) where
+  abbrev list : ℕ
+  list = v .place .list .0
+
+  abbrev sought : ℕ
+  sought = keyNumber (v .place .entry)
+
+  call-is : keyCall s t (relabel label) key ≡ replied g t (relabelIn g (decode g t) list sought label)
+  unfolding listCall
+  call-is = S .call-is (relabel label) ∙ rw (lt-ltb label (2 ^ s .val) h)
+
+  pub sought-held : (l n : ℕ) → v .found ≡ said word.Held l n → Found g (decode g t) list sought label l n
+  sought-held l n f = held-goes g (decode g t) list sought label l n (sym (S .found-is) ∙ f)
+
+  pub other-gives : (a : Answer) → v .found ≡ a → Other a → Gives (keyCall s t (relabel label) key) a t
+  other-gives a e o =
+      let is : a ≡ findIn g (decode g t) list sought = sym e ∙ S .found-is in
+      rw (call-is, relabel-stays g (decode g t) list sought label (subst Other is o)) (record { answer = is; bytes = refl })
+
+  -- the entry is the n-th, and has the new label
+  pub relabelled-gives : Bytes t → (l n : ℕ) → Found g (decode g t) list sought label l n → (u : List ℕ)
+      → Relabelled g t u list (n - 1) label → Gives (keyCall s t (relabel label) key) (said word.Relabelled l n) u
+  relabelled-gives y l n F u R = rw (call-is, F .goes) (record { answer = refl; bytes = stored-written (S .table) y R })
+
+  -- ---- by what find answered
+
+  placed-there : (a : Answer) → v .found ≡ a → 0 < placeFound a → Placed g (decode g t) list (placeFound a - 1)
+  placed-there (answer.Said l word.Added n) e p = absurd (omega arith)
+  placed-there (answer.Said l word.Held n) e p = sought-held l n e .placed
+  placed-there (answer.Said l word.Gone n) e p = absurd (omega arith)
+  placed-there (answer.Said l word.None n) e p = absurd (omega arith)
+  placed-there (answer.Said l word.Relabelled n) e p = absurd (omega arith)
+  placed-there (answer.Refused why) e p = absurd (omega arith)
+
+  -- the place of the entry that was found
+  pub found-placed : (a : Answer) → v .found ≡ a → (n : ℕ) → n ≡ placeFound a → 0 < n → Placed g (decode g t) list (n - 1)
+  found-placed a e n q p = subst (λ (m : ℕ). Placed g (decode g t) list (m - 1)) (sym q) (placed-there a e (omega arith))
+
+  gives-there : Bytes t → (a : Answer) → v .found ≡ a → 0 < placeFound a → (u : List ℕ) → Relabelled g t u list (placeFound a - 1) label
+      → Gives (keyCall s t (relabel label) key) (answerTo a) u
+  gives-there y (answer.Said l word.Added n) e p u R = absurd (omega arith)
+  gives-there y (answer.Said l word.Held n) e p u R = relabelled-gives y l n (sought-held l n e) u R
+  gives-there y (answer.Said l word.Gone n) e p u R = absurd (omega arith)
+  gives-there y (answer.Said l word.None n) e p u R = absurd (omega arith)
+  gives-there y (answer.Said l word.Relabelled n) e p u R = absurd (omega arith)
+  gives-there y (answer.Refused why) e p u R = absurd (omega arith)
+
+  -- the label is put in place n - 1
+  pub found-gives : Bytes t → (a : Answer) → v .found ≡ a → (n : ℕ) → n ≡ placeFound a → 0 < n → (u : List ℕ) → Relabelled g t u list (n - 1) label
+      → Gives (keyCall s t (relabel label) key) (answerTo a) u
+  found-gives y a e n q p u R = gives-there y a e (omega arith) u (subst (λ (m : ℕ). Relabelled g t u list (m - 1) label) q R)
+
+  pub missing-gives : (a : Answer) → v .found ≡ a → placeFound a ≡ 0 → Gives (keyCall s t (relabel label) key) (answerTo a) t
+  missing-gives (answer.Said l word.Added n) e p = other-gives (said word.Added l n) e tt
+  missing-gives (answer.Said l word.Held n) e p = absurd (omega (arith, sought-held l n e .some-compared))
+  missing-gives (answer.Said l word.Gone n) e p = other-gives (said word.Gone l n) e tt
+  missing-gives (answer.Said l word.None n) e p = other-gives (said word.None l n) e tt
+  missing-gives (answer.Said l word.Relabelled n) e p = other-gives (said word.Relabelled l n) e tt
+  missing-gives (answer.Refused why) e p = other-gives (answer.Refused why) e tt

@@ -1,0 +1,3 @@
+-- Words of private contracts.
+pub mod Relabels
+pub mod FromFind

@@ -1,0 +1,409 @@
+/* plain_set.c - enter, relabel, find and delete against a plain set, on tables that stay sound.
+ *
+ *     plain_set [SEED]
+ *
+ * The set has each list's keys in their order, with their labels (docs/SPECIFICATION.md, section 8): enter puts a key
+ * last, delete the last one into the gap, relabel changes a label alone. Every field of every answer must be the set's,
+ * compared and refusals among them, and the records are the set, list by list. A relabel leaves the free start, the
+ * free chain and the blocks of every list as they were. Then the order of the refusals of enter and relabel, on tables
+ * made by hand. Prints how many calls were tried. */
+#include <stdio.h>
+#include <stdlib.h>
+#include <string.h>
+
+#include "format.h"
+#include "input.h"
+#include "shelfegret.h"
+
+typedef struct shelfegret_settings settings;
+typedef struct shelfegret_key key;
+typedef struct shelfegret_answer answer;
+
+enum { TABLE_MOST = 8192, LISTS_MOST = 16, KEYS_MOST = 48, MARKS_MOST = 64 };
+
+static settings s;
+static size_t size;
+static uint8_t table[TABLE_MOST], before[TABLE_MOST], marks[MARKS_MOST];
+static unsigned tables, calls;
+static unsigned codes[13], words[9]; /* how often each came in random calls */
+
+static void fail(const char *what)
+{
+    fprintf(stderr, "plain_set: %s (call %u, w %u bii %u sib %u nob %u sio %u val %u a %u b %u)\n", what, calls,
+            (unsigned)s.w, (unsigned)s.bii, (unsigned)s.sib, (unsigned)s.nob, (unsigned)s.sio, (unsigned)s.val,
+            (unsigned)s.a, (unsigned)s.b);
+    exit(1);
+}
+
+static int equal(key a, key b)
+{
+    return a.high == b.high && a.low == b.low;
+}
+
+/* ---- the set */
+
+struct pair {
+    key key;
+    uint32_t label;
+};
+
+static struct pair set[LISTS_MOST][KEYS_MOST];
+static uint32_t length[LISTS_MOST];
+
+/* the key's place in its list, or the list's length */
+static uint32_t place_of(uint64_t list, key k)
+{
+    uint32_t n = 0;
+    while (n < length[list] && !equal(set[list][n].key, k)) n++;
+    return n;
+}
+
+static uint32_t blocks_for(uint32_t n)
+{
+    return n <= s.sib ? 0 : (n - s.sib + s.sio - 1) / s.sio;
+}
+
+static int has_room(uint64_t list)
+{
+    uint32_t used = 0;
+    for (uint64_t i = 0; i < (uint64_t)1 << s.bii; i++) used += blocks_for(length[i]);
+    return used < s.nob || blocks_for(length[list] + 1) == blocks_for(length[list]);
+}
+
+enum what { ENTER, RELABEL, FIND, DELETE };
+
+static answer said(uint32_t word, key k, uint32_t label, uint32_t compared)
+{
+    answer a = {0};
+    a.word = word;
+    a.key = k;
+    a.label = label;
+    a.compared = compared;
+    return a;
+}
+
+static answer refused(uint32_t code)
+{
+    answer a = {0};
+    a.code = code;
+    return a;
+}
+
+static answer step_enter(key k, uint32_t label)
+{
+    uint64_t list = list_of(s, k);
+    uint32_t n = length[list];
+    if (place_of(list, k) < n) return refused(SHELFEGRET_REFUSED_KNOWN);
+    if (!has_room(list)) return refused(SHELFEGRET_REFUSED_FULL);
+    set[list][length[list]++] = (struct pair){k, label};
+    return said(SHELFEGRET_ADDED, k, label, n);
+}
+
+/* What the set answers; where it answers, it steps. */
+static answer step(enum what what, key k, uint64_t label)
+{
+    if (!equal(low_bits(k, s.w), k)) return refused(SHELFEGRET_REFUSED_KEY);
+    if ((what == ENTER || what == RELABEL) && label >> s.val) return refused(SHELFEGRET_REFUSED_LABEL);
+    if (what == ENTER) return step_enter(k, (uint32_t)label);
+    uint64_t list = list_of(s, k);
+    uint32_t n = place_of(list, k), old = set[list][n].label;
+    if (n == length[list]) return said(SHELFEGRET_NONE, k, 0, n);
+    if (what == FIND) return said(SHELFEGRET_HELD, k, old, n + 1);
+    if (what == RELABEL) {
+        set[list][n].label = (uint32_t)label;
+        return said(SHELFEGRET_RELABELLED, k, old, n + 1);
+    }
+    set[list][n] = set[list][--length[list]];
+    return said(SHELFEGRET_GONE, k, old, n + 1);
+}
+
+/* ---- the table */
+
+static answer ask_with_text(enum what what, key k, uint64_t label)
+{
+    uint8_t text[TEXT_MOST];
+    size_t n = legal_text(k, text);
+    switch (what) {
+    case ENTER: return shelfegret_enter_text(s, table, size, text, n, label);
+    case RELABEL: return shelfegret_relabel_text(s, table, size, text, n, label);
+    case FIND: return shelfegret_find_text(s, table, size, text, n);
+    default: return shelfegret_delete_text(s, table, size, text, n);
+    }
+}
+
+static answer ask(enum what what, key k, uint64_t label)
+{
+    if (s.w == 128 && one_in(2)) return ask_with_text(what, k, label);
+    switch (what) {
+    case ENTER: return shelfegret_enter(s, table, size, k, label);
+    case RELABEL: return shelfegret_relabel(s, table, size, k, label);
+    case FIND: return shelfegret_find(s, table, size, k);
+    default: return shelfegret_delete(s, table, size, k);
+    }
+}
+
+static int same(answer a, answer b)
+{
+    return a.code == b.code && a.word == b.word && equal(a.key, b.key) && a.label == b.label &&
+           a.compared == b.compared && a.number == b.number;
+}
+
+/* The records are the set, list by list and in its order. */
+static void records_are_the_set(void)
+{
+    uint64_t n = 0;
+    for (uint64_t list = 0; list < (uint64_t)1 << s.bii; list++)
+        for (uint32_t i = 0; i < length[list]; i++) {
+            answer due = said(SHELFEGRET_RECORD, set[list][i].key, set[list][i].label, 0);
+            if (!same(shelfegret_record(s, table, size, n++), due)) fail("a record is not the set's");
+        }
+    answer end = said(SHELFEGRET_NONE, (key){0, 0}, 0, 0);
+    if (!same(shelfegret_record(s, table, size, n), end)) fail("a record too many");
+    if (shelfegret_check(s, table, size, marks, sizeof marks).word != SHELFEGRET_SOUND) fail("the table is not sound");
+}
+
+static void free_chain_is_as_before(void)
+{
+    uint64_t block = get_bits(table, 0, start_bits(s));
+    if (block != get_bits(before, 0, start_bits(s))) fail("relabel changed the free start");
+    while (block < s.nob) {
+        uint64_t next = get_bits(table, link_at(s, block), link_bits(s));
+        if (next != get_bits(before, link_at(s, block), link_bits(s))) fail("relabel changed the free chain");
+        if (next == block) return;
+        block = next;
+    }
+}
+
+/* Each list has the same length and blocks before and now. */
+static void lists_are_as_before(void)
+{
+    static struct followed then, now;
+    for (uint64_t list = 0; list < (uint64_t)1 << s.bii; list++) {
+        if (!follow(s, before, list, &then) || !follow(s, table, list, &now)) fail("a list is damaged");
+        if (then.length != now.length || then.blocks != now.blocks ||
+            memcmp(then.block, now.block, now.blocks * sizeof *now.block) != 0)
+            fail("relabel changed a list's blocks");
+    }
+}
+
+/* ---- random calls */
+
+static settings some_settings(void)
+{
+    for (;;) {
+        settings one;
+        one.w = one_in(4) ? 128 : 4 + (uint32_t)below(9);
+        one.bii = (uint32_t)below(4);
+        one.sib = 1 + (uint32_t)below(4);
+        one.nob = one_in(2) ? (uint32_t)below(8) : (uint32_t)below(300);
+        one.sio = 1 + (uint32_t)below(3);
+        one.val = one_in(6) ? 0 : one_in(6) ? 32 : 1 + (uint32_t)below(8);
+        one.a = 1 + (uint32_t)below(prime_above(one.bii) - 1);
+        one.b = 1 + (uint32_t)below(prime_above(one.bii) - 1);
+        answer a = shelfegret_size(one);
+        if (a.code == 0 && a.number <= TABLE_MOST) return one;
+    }
+}
+
+static uint64_t some_label(void)
+{
+    uint64_t labels = (uint64_t)1 << s.val;
+    return one_in(20) ? labels + (one_in(2) ? 0 : random_bits() >> (1 + below(63))) : below(labels);
+}
+
+static void tell(answer a, const char *what)
+{
+    fprintf(stderr, "plain_set: code %u word %u label %u compared %u %s\n", (unsigned)a.code, (unsigned)a.word,
+            (unsigned)a.label, (unsigned)a.compared, what);
+}
+
+static void one_call(const key *keys, uint64_t count)
+{
+    static const enum what some[] = {ENTER, ENTER, ENTER, RELABEL, RELABEL, FIND, DELETE, DELETE};
+    enum what what = some[below(sizeof some / sizeof *some)];
+    key k = keys[below(count)];
+    uint64_t label = some_label();
+    if (s.w < 128 && one_in(50)) k = in_front(1, s.w, k);
+    memcpy(before, table, size);
+    answer due = step(what, k, label), a = ask(what, k, label);
+    calls++;
+    if (!same(a, due)) {
+        tell(due, "is due");
+        tell(a, "came");
+        fail("not the set's answer");
+    }
+    *(a.code ? &codes[a.code] : &words[a.word]) += 1;
+    int writes = a.word == SHELFEGRET_ADDED || a.word == SHELFEGRET_RELABELLED || a.word == SHELFEGRET_GONE;
+    if (!writes && memcmp(before, table, size) != 0) fail("a call that changes nothing wrote");
+    if (a.word == SHELFEGRET_RELABELLED) {
+        free_chain_is_as_before();
+        lists_are_as_before();
+    }
+    if (writes && (a.word == SHELFEGRET_RELABELLED || one_in(8))) records_are_the_set();
+}
+
+/* Each refusal and word that a sound table gives came many times. */
+static void all_seen(void)
+{
+    static const unsigned due_codes[] = {5, 6, 8, 12}, due_words[] = {1, 2, 3, 4, 8};
+    for (size_t i = 0; i < sizeof due_codes / sizeof *due_codes; i++)
+        if (codes[due_codes[i]] < 1000) fail("too few refusals of a kind");
+    for (size_t i = 0; i < sizeof due_words / sizeof *due_words; i++)
+        if (words[due_words[i]] < 1000) fail("too few answers with a word");
+}
+
+static void one_table(void)
+{
+    static key keys[KEYS_MOST];
+    uint64_t count = 1 + below(KEYS_MOST), lists;
+    s = some_settings();
+    size = shelfegret_size(s).number;
+    lists = one_in(2) ? 1 : (uint64_t)1 << s.bii; /* all in one list, or in any */
+    memset(length, 0, sizeof length);
+    if (shelfegret_make(s, table, size).code) fail("make");
+    tables++;
+    for (uint64_t i = 0; i < count; i++)
+        keys[i] = key_in_list(s, low_bits((key){random_bits(), random_bits()}, entry_bits(s)), below(lists));
+    for (int i = 0; i < 400; i++) one_call(keys, count);
+    records_are_the_set();
+}
+
+/* ---- the order of refusals */
+
+static void expect(answer a, answer due, const char *what)
+{
+    calls++;
+    if (!same(a, due)) fail(what);
+    if (a.code && memcmp(before, table, sizeof table) != 0) fail("a refused call wrote");
+}
+
+/* w 6, bii 1, sib 2, nob 2, sio 1, a 1, b 1, as in docs/SPECIFICATION.md, section 11, and labels of val bits. */
+static void new_table_t(uint32_t val)
+{
+    s = (settings){6, 1, 2, 2, 1, val, 1, 1};
+    size = shelfegret_size(s).number;
+    memset(table, 0, sizeof table);
+    if (shelfegret_make(s, table, size).code) fail("make");
+    tables++;
+}
+
+/* Without labels, and with these bytes. */
+static void table_t(const char *bytes)
+{
+    new_table_t(0);
+    memcpy(table, bytes, size);
+    memcpy(before, table, sizeof table);
+}
+
+static answer enter(uint64_t k, uint64_t label) { return shelfegret_enter(s, table, size, (key){0, k}, label); }
+static answer relabel(uint64_t k, uint64_t label) { return shelfegret_relabel(s, table, size, (key){0, k}, label); }
+
+static void order_by_key(void)
+{
+    answer known = refused(SHELFEGRET_REFUSED_KNOWN), full = refused(SHELFEGRET_REFUSED_FULL);
+    answer damage = refused(SHELFEGRET_REFUSED_DAMAGE), too_large = refused(SHELFEGRET_REFUSED_LABEL);
+    /* 1, 2 and 4 are in list 0. The free start is 3, above nob. */
+    table_t("\xF0\x88\x00\x02\x20");
+    expect(enter(4, 0), known, "known, before the free chain is looked at");
+    expect(enter(5, 0), damage, "the free chain is damaged, where a block is needed");
+    expect(relabel(4, 0), said(SHELFEGRET_RELABELLED, (key){0, 4}, 0, 3), "relabel looks at no free chain");
+    expect(relabel(5, 0), said(SHELFEGRET_NONE, (key){0, 5}, 0, 3), "nor for a key that is not there");
+    if (memcmp(before, table, size) != 0) fail("with val 0 relabel changes no bit");
+    /* 1, 2, 4 and 5 are in list 0, and no block is free. */
+    table_t("\xB0\x88\x00\x32\x05");
+    expect(enter(5, 0), known, "known before 8");
+    expect(enter(32, 0), full, "no block");
+    expect(enter(32, 1), too_large, "the label before 8");
+    expect(enter(5, 1), too_large, "the label before known");
+    expect(relabel(32, 0), said(SHELFEGRET_NONE, (key){0, 32}, 0, 4), "relabel needs no block");
+    expect(relabel(32, 1), too_large, "the label of a key that is not there");
+    /* Block 1's counter is 1, as if it were not the last: the list goes on in block 0, and has no end. */
+    table_t("\xB0\x88\x00\x32\x45");
+    expect(enter(2, 0), damage, "the list is damaged before its second entry is known");
+    expect(relabel(2, 0), damage, "the list is damaged, and the entry is not relabelled");
+    expect(enter(2, 1), too_large, "the label before damage");
+    expect(relabel(2, 1), too_large, "the label before damage");
+    /* and what comes before the label */
+    expect(enter(64, 1), refused(SHELFEGRET_REFUSED_KEY), "the key before the label");
+    expect(relabel(64, 1), refused(SHELFEGRET_REFUSED_KEY), "the key before the label");
+    size--;
+    expect(enter(64, 1), refused(SHELFEGRET_REFUSED_SHORT), "short before the key");
+    expect(relabel(64, 1), refused(SHELFEGRET_REFUSED_SHORT), "short before the key");
+    s.a = 3;
+    expect(enter(64, 1), refused(SHELFEGRET_REFUSED_SETTINGS), "the settings before short");
+    expect(relabel(64, 1), refused(SHELFEGRET_REFUSED_SETTINGS), "the settings before short");
+}
+
+/* Entry 1 stands twice in list 0, with labels 2 and 1: the first is relabelled. */
+static void twice(void)
+{
+    static struct followed f;
+    new_table_t(2);
+    size_t at = basic_at(s, 0);
+    put_bits(table, at, 2, 2);
+    put_bits(table, at + 2, 7, 1 << 2 | 2);
+    put_bits(table, at + 9, 7, 1 << 2 | 1);
+    memcpy(before, table, sizeof table);
+    expect(enter(1, 3), refused(SHELFEGRET_REFUSED_KNOWN), "known twice");
+    expect(relabel(1, 3), said(SHELFEGRET_RELABELLED, (key){0, 1}, 2, 1), "the first of two equal entries");
+    if (!follow(s, before, 0, &f) || f.length != 2) fail("two entries");
+    put_label(s, before, &f, 0, 3);
+    if (memcmp(before, table, sizeof table) != 0) fail("the first of two equal entries, and nothing else");
+}
+
+static answer with_text(int entering, const char *text, uint64_t label)
+{
+    const uint8_t *bytes = (const uint8_t *)text;
+    if (entering) return shelfegret_enter_text(s, table, size, bytes, strlen(text), label);
+    return shelfegret_relabel_text(s, table, size, bytes, strlen(text), label);
+}
+
+static void order_by_text(void)
+{
+    for (int entering = 0; entering < 2; entering++) {
+        s = (settings){128, 0, 1, 1, 1, 4, 1, 1};
+        size = shelfegret_size(s).number;
+        memset(table, 0xff, sizeof table);
+        memcpy(before, table, sizeof table);
+        expect(with_text(entering, "::1", 15), refused(SHELFEGRET_REFUSED_DAMAGE), "damage");
+        expect(with_text(entering, "::1", 16), refused(SHELFEGRET_REFUSED_LABEL), "the label before damage");
+        expect(with_text(entering, "::g", 16), refused(SHELFEGRET_REFUSED_TEXT), "the text before the label");
+        expect(with_text(entering, "::g", (uint64_t)1 << 40), refused(SHELFEGRET_REFUSED_TEXT), "the text before it");
+        s.w = 127;
+        expect(with_text(entering, "::g", 16), refused(SHELFEGRET_REFUSED_WIDTH), "the width before the text");
+        size = 3;
+        expect(with_text(entering, "::g", 16), refused(SHELFEGRET_REFUSED_SHORT), "short before the width");
+        s.sio = 0;
+        expect(with_text(entering, "::g", 16), refused(SHELFEGRET_REFUSED_SETTINGS), "the settings before short");
+    }
+}
+
+/* One entry, which fills its list's basic block; the free start, in the table's first two bits, is nob or above it. */
+static void known_by_text(void)
+{
+    s = (settings){128, 0, 1, 2, 1, 4, 1, 1};
+    size = shelfegret_size(s).number;
+    memset(table, 0xff, sizeof table);
+    shelfegret_make(s, table, size);
+    if (with_text(1, "::1", 5).word != SHELFEGRET_ADDED) fail("a new table takes an address");
+    for (uint32_t start = 2; start < 4; start++) {
+        put_bits(table, 0, 2, start);
+        memcpy(before, table, sizeof table);
+        expect(with_text(1, "0:0::0.0.0.1", 6), refused(SHELFEGRET_REFUSED_KNOWN), "known under another spelling");
+        expect(with_text(1, "::2", 6), refused(start == 2 ? SHELFEGRET_REFUSED_FULL : SHELFEGRET_REFUSED_DAMAGE),
+               "a block is needed for another address");
+    }
+}
+
+int main(int argc, char **argv)
+{
+    seed_random(argc > 1 ? strtoull(argv[1], NULL, 0) : 1);
+    for (int i = 0; i < 3000; i++) one_table();
+    all_seen();
+    order_by_key();
+    twice();
+    order_by_text();
+    known_by_text();
+    printf("plain_set: %u calls on %u tables, all as the plain set's\n", calls, tables);
+    return 0;
+}
