@@ -49,6 +49,19 @@ word-kept word.Gone h = refl
 word-kept word.None h = refl
 word-kept word.Relabelled h = refl
 
+-- "held", or another answer, which has no place and stays
+pub data Told : Answer → Type 0 where
+  held : (l n : ℕ) → Told (said word.Held l n)
+  other : (a : Answer) → Other a → placeFound a ≡ 0 → answerTo a ≡ a → Told a
+
+pub told : (a : Answer) → Told a
+told (answer.Said l word.Added n) = other (said word.Added l n) tt refl refl
+told (answer.Said l word.Held n) = held l n
+told (answer.Said l word.Gone n) = other (said word.Gone l n) tt refl refl
+told (answer.Said l word.None n) = other (said word.None l n) tt refl refl
+told (answer.Said l word.Relabelled n) = other (said word.Relabelled l n) tt refl refl
+told (answer.Refused why) = other (answer.Refused why) tt refl refl
+
 -- ---- on a list
 
 -- the n-th slot holds the entry, with the label l
@@ -110,36 +123,26 @@ module _ {s : Settings} {t : List ℕ} {key : Key} {g : Layout} {v : Sought} (S 
 
   -- ---- by what find answered
 
-  placed-there : (a : Answer) → v .found ≡ a → 0 < placeFound a → Placed g (decode g t) list (placeFound a - 1)
-  placed-there (answer.Said l word.Added n) e p = absurd (omega arith)
-  placed-there (answer.Said l word.Held n) e p = sought-held l n e .placed
-  placed-there (answer.Said l word.Gone n) e p = absurd (omega arith)
-  placed-there (answer.Said l word.None n) e p = absurd (omega arith)
-  placed-there (answer.Said l word.Relabelled n) e p = absurd (omega arith)
-  placed-there (answer.Refused why) e p = absurd (omega arith)
-
   -- the place of the entry that was found
   pub found-placed : (a : Answer) → v .found ≡ a → (n : ℕ) → n ≡ placeFound a → 0 < n → Placed g (decode g t) list (n - 1)
-  found-placed a e n q p = subst (λ (m : ℕ). Placed g (decode g t) list (m - 1)) (sym q) (placed-there a e (omega arith))
-
-  gives-there : Bytes t → (a : Answer) → v .found ≡ a → 0 < placeFound a → (u : List ℕ) → Relabelled g t u list (placeFound a - 1) label
-      → Gives (keyCall s t (relabel label) key) (answerTo a) u
-  gives-there y (answer.Said l word.Added n) e p u R = absurd (omega arith)
-  gives-there y (answer.Said l word.Held n) e p u R = relabelled-gives y l n (sought-held l n e) u R
-  gives-there y (answer.Said l word.Gone n) e p u R = absurd (omega arith)
-  gives-there y (answer.Said l word.None n) e p u R = absurd (omega arith)
-  gives-there y (answer.Said l word.Relabelled n) e p u R = absurd (omega arith)
-  gives-there y (answer.Refused why) e p u R = absurd (omega arith)
+  found-placed a e n q p = placed (told a) e q
+    where
+      placed : {a : Answer} → Told a → v .found ≡ a → n ≡ placeFound a → Placed g (decode g t) list (n - 1)
+      placed (held l m) e q = subst (λ (k : ℕ). Placed g (decode g t) list (k - 1)) (sym q) (sought-held l m e .placed)
+      placed (other a o z w) e q = absurd (omega (arith, z))
 
   -- the label is put in place n - 1
   pub found-gives : Bytes t → (a : Answer) → v .found ≡ a → (n : ℕ) → n ≡ placeFound a → 0 < n → (u : List ℕ) → Relabelled g t u list (n - 1) label
       → Gives (keyCall s t (relabel label) key) (answerTo a) u
-  found-gives y a e n q p u R = gives-there y a e (omega arith) u (subst (λ (m : ℕ). Relabelled g t u list (m - 1) label) q R)
+  found-gives y a e n q p u R = gives (told a) e q
+    where
+      gives : {a : Answer} → Told a → v .found ≡ a → n ≡ placeFound a → Gives (keyCall s t (relabel label) key) (answerTo a) u
+      gives (held l m) e q = relabelled-gives y l m (sought-held l m e) u (subst (λ (k : ℕ). Relabelled g t u list (k - 1) label) q R)
+      gives (other a o z w) e q = absurd (omega (arith, z))
 
   pub missing-gives : (a : Answer) → v .found ≡ a → placeFound a ≡ 0 → Gives (keyCall s t (relabel label) key) (answerTo a) t
-  missing-gives (answer.Said l word.Added n) e p = other-gives (said word.Added l n) e tt
-  missing-gives (answer.Said l word.Held n) e p = absurd (omega (arith, sought-held l n e .some-compared))
-  missing-gives (answer.Said l word.Gone n) e p = other-gives (said word.Gone l n) e tt
-  missing-gives (answer.Said l word.None n) e p = other-gives (said word.None l n) e tt
-  missing-gives (answer.Said l word.Relabelled n) e p = other-gives (said word.Relabelled l n) e tt
-  missing-gives (answer.Refused why) e p = other-gives (answer.Refused why) e tt
+  missing-gives a e q = gives (told a) e q
+    where
+      gives : {a : Answer} → Told a → v .found ≡ a → placeFound a ≡ 0 → Gives (keyCall s t (relabel label) key) (answerTo a) t
+      gives (held l m) e q = absurd (omega (arith, sought-held l m e .some-compared))
+      gives (other a o z w) e q = rw w (other-gives a e o)
