@@ -17,6 +17,9 @@ CALLS = {
     "op_find_text_miss": "find_text, miss",
     "op_read_text": "read_text",
     "op_write_text": "write_text",
+    "op_read_tail": "read_text, dotted tail",
+    "op_read_bare": "read_text, bare dotted",
+    "op_write_mapped": "write_text, mapped",
 }
 
 

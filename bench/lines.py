@@ -1,5 +1,6 @@
 """lines.py N SEED [rough]: N lines for the program: 20 % enter, 15 % delete, 65 % find, over 900 addresses in several
-spellings. With "rough", one find in five is a relabel, and one line in ten is broken in some way."""
+spellings. With "rough", one address in eight is of IPv4, one find in five is a relabel, and one line in ten is broken
+in some way."""
 import ipaddress
 import random
 import sys
@@ -10,6 +11,8 @@ random.seed(seed)
 
 
 def address():
+    if rough and random.random() < 0.125:
+        return 0xFFFF << 32 | random.getrandbits(32)
     if random.random() < 0.5:
         return random.getrandbits(128)
     return (0x20010DB8 << 96) | random.getrandbits(random.choice([16, 32, 64]))
@@ -18,6 +21,8 @@ def address():
 def spelling(key):
     plain = ipaddress.IPv6Address(key)
     r = random.random()
+    if key >> 32 == 0xFFFF and r < 0.6:
+        return ("" if r < 0.5 else "::FFFF:") + str(ipaddress.IPv4Address(key & 0xFFFFFFFF))
     if r < 0.6:
         return str(plain)
     if r < 0.75:

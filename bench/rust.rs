@@ -1,10 +1,14 @@
 //! What Rust's standard library has, timed as the C drivers do it.
-//!   rust text FILE ROUNDS    ns of Ipv6Addr's parse and of its to_string, on the lines of FILE
-//!   rust map FILE ROUNDS     a row of the peers' table: HashMap from the addresses in FILE to their labels
+//!   rust text FILE TAIL BARE ROUNDS    ns of parse and to_string of Ipv6Addr, on the lines of FILE; of its parse, on
+//!                                      those of TAIL; of Ipv4Addr's parse, on those of BARE, and of to_string of these
+//!                                      as mapped IPv6 addresses
+//!   rust map FILE ROUNDS               a row of the peers' table: HashMap from the addresses in FILE to their labels
 use std::alloc::{GlobalAlloc, Layout, System};
 use std::collections::HashMap;
+use std::fmt::Debug;
 use std::hint::black_box;
-use std::net::Ipv6Addr;
+use std::net::{Ipv4Addr, Ipv6Addr};
+use std::str::FromStr;
 use std::sync::atomic::{AtomicBool, AtomicUsize, Ordering::Relaxed};
 
 const CHUNK: usize = 64;
@@ -87,19 +91,35 @@ fn time_chunks<T>(items: &[T], rounds: usize, mut run: impl FnMut(&T)) -> f64 {
 
 // ---- text ----
 
-fn text(file: &str, rounds: usize) {
+/// The addresses in the file, and the ns of reading one.
+fn time_read<A: FromStr>(file: &str, rounds: usize) -> (Vec<A>, f64)
+where
+    A::Err: Debug,
+{
     let texts: Vec<&str> = file.lines().collect();
-    let addresses: Vec<Ipv6Addr> = texts.iter().map(|t| t.parse().expect("an address")).collect();
-    for address in &addresses {
+    let read = time_chunks(&texts, rounds, |t| {
+        let _ = black_box(t.parse::<A>());
+    });
+    (texts.iter().map(|t| t.parse().expect("an address")).collect(), read)
+}
+
+fn time_write(addresses: &[Ipv6Addr], rounds: usize) -> f64 {
+    for address in addresses {
         assert_eq!(address.to_string().parse(), Ok(*address));
     }
-    let read = time_chunks(&texts, rounds, |t| {
-        let _ = black_box(t.parse::<Ipv6Addr>());
-    });
-    let write = time_chunks(&addresses, rounds, |a| {
+    time_chunks(addresses, rounds, |a| {
         black_box(a.to_string());
-    });
-    println!("{read:.1} {write:.1}");
+    })
+}
+
+fn text(file: &str, tail: &str, bare: &str, rounds: usize) {
+    let (addresses, read) = time_read::<Ipv6Addr>(file, rounds);
+    let write = time_write(&addresses, rounds);
+    let (_, read_tail) = time_read::<Ipv6Addr>(tail, rounds);
+    let (of_ipv4, read_bare) = time_read::<Ipv4Addr>(bare, rounds);
+    let mapped: Vec<Ipv6Addr> = of_ipv4.iter().map(Ipv4Addr::to_ipv6_mapped).collect();
+    let write_mapped = time_write(&mapped, rounds);
+    println!("{read:.1} {write:.1} {read_tail:.1} {read_bare:.1} {write_mapped:.1}");
 }
 
 // ---- map ----
@@ -150,8 +170,10 @@ fn main() {
     let words: Vec<&str> = words.iter().map(String::as_str).collect();
     let read = |path| std::fs::read_to_string(path).expect("the list");
     match words[1..] {
-        ["text", path, rounds] => text(&read(path), rounds.parse().expect("rounds")),
+        ["text", path, tail, bare, rounds] => {
+            text(&read(path), &read(tail), &read(bare), rounds.parse().expect("rounds"))
+        }
         ["map", path, rounds] => map(&read(path), rounds.parse().expect("rounds")),
-        _ => panic!("rust text FILE ROUNDS | rust map FILE ROUNDS"),
+        _ => panic!("rust text FILE TAIL BARE ROUNDS | rust map FILE ROUNDS"),
     }
 }

@@ -1,7 +1,7 @@
 /* Addresses as text: product, baseline and glibc.
- *   text time ROUNDS READ WRITE    ns of each call as a Markdown table; READ and WRITE are Rust's, for its column
- *   text count LIBRARY             each operation once a round, for callgrind to count; prints the calls of each
- *   text list FILE                 writes the texts that are read, a line each */
+ *   text time ROUNDS READ WRITE TAIL BARE MAPPED    ns of each call as a Markdown table; the last five are Rust's
+ *   text count LIBRARY                              each operation once a round, for callgrind; prints the calls of each
+ *   text list FILE TAIL BARE                        writes the texts that are read, a line each, a file for each row */
 #define _POSIX_C_SOURCE 200112L
 #include <arpa/inet.h>
 #include <stdio.h>
@@ -17,15 +17,21 @@ typedef struct {
     size_t length;
 } Text;
 
-static Key keys[TEXTS];
-static Text texts[TEXTS];
-static struct in6_addr addresses[TEXTS]; /* the keys as glibc takes them */
+typedef struct {
+    Key keys[TEXTS];
+    Text texts[TEXTS];
+    struct in6_addr addresses[TEXTS]; /* the keys as glibc takes them */
+} Spelled;
+
+static Spelled any, mapped; /* of any addresses; of IPv4 addresses, bare dotted */
+static Text tails[TEXTS];   /* of these, behind "::ffff:" */
 static Bed *bed; /* the program's table */
 static Text *in_texts, *out_texts;
 
 static Answer got[LIBRARIES][CHUNK];
 static uint8_t written[LIBRARIES][CHUNK][LONGEST];
 static struct in6_addr glibc_read[CHUNK];
+static struct in_addr glibc_read_bare[CHUNK];
 static char glibc_written[CHUNK][LONGEST];
 
 static Text spelled(Key key)
@@ -70,23 +76,38 @@ static Text *spell_all(const Key *from, unsigned n)
     return t;
 }
 
+/* with random octets: six in ten have three digits */
+static void prepare_mapped(void)
+{
+    for (unsigned i = 0; i < TEXTS; i++) {
+        uint32_t ipv4 = (uint32_t)(random_bits() >> 32);
+        Text *t = &mapped.texts[i];
+        mapped.keys[i] = (Key){ 0, 0xffff00000000 | ipv4 };
+        mapped.addresses[i] = network_order(mapped.keys[i]);
+        t->length = (size_t)snprintf((char *)t->bytes, LONGEST, "%u.%u.%u.%u", ipv4 >> 24, ipv4 >> 16 & 255,
+                                     ipv4 >> 8 & 255, ipv4 & 255);
+        tails[i].length = (size_t)snprintf((char *)tails[i].bytes, LONGEST, "::ffff:%.15s", (const char *)t->bytes);
+    }
+}
+
 static void prepare(void)
 {
     for (unsigned i = 0; i < TEXTS; i++) {
-        keys[i] = key_with_zeros();
-        addresses[i] = network_order(keys[i]);
-        texts[i] = spelled(keys[i]);
-        if (i % 3 == 0) raise_case(&texts[i]);
+        any.keys[i] = key_with_zeros();
+        any.addresses[i] = network_order(any.keys[i]);
+        any.texts[i] = spelled(any.keys[i]);
+        if (i % 3 == 0) raise_case(&any.texts[i]);
     }
     bed = new_bed((Settings){ 128, 8, 4, 64, 3, 8, 97, 31 }, 800);
     in_texts = spell_all(bed->in, bed->n);
     out_texts = spell_all(bed->out, bed->n);
+    prepare_mapped();
 }
 
 /* CHUNK calls of one side, on what stands from `at` on. */
 typedef void TextOperation(int side, unsigned at);
 
-/* inline, so that callgrind counts it as the operation's own */
+/* Functions that several operations share are inline, so that callgrind counts them as the operation's own. */
 static inline void find_texts(int side, const Text *t)
 {
     for (unsigned i = 0; i < CHUNK; i++)
@@ -103,21 +124,49 @@ static void op_find_text_miss(int side, unsigned at)
     find_texts(side, out_texts + at);
 }
 
-static void op_read_text(int side, unsigned at)
+static inline void read_texts(int side, const Text *t)
 {
     for (unsigned i = 0; i < CHUNK; i++) {
-        const Text *t = &texts[at + i];
-        if (side == GLIBC) inet_pton(AF_INET6, (const char *)t->bytes, &glibc_read[i]);
+        if (side == GLIBC) inet_pton(AF_INET6, (const char *)t[i].bytes, &glibc_read[i]);
+        else got[side][i] = libraries[side].read_text(t[i].bytes, t[i].length);
+    }
+}
+
+static void op_read_text(int side, unsigned at)
+{
+    read_texts(side, any.texts + at);
+}
+
+static void op_read_tail(int side, unsigned at)
+{
+    read_texts(side, tails + at);
+}
+
+static void op_read_bare(int side, unsigned at)
+{
+    for (unsigned i = 0; i < CHUNK; i++) {
+        const Text *t = &mapped.texts[at + i];
+        if (side == GLIBC) inet_pton(AF_INET, (const char *)t->bytes, &glibc_read_bare[i]);
         else got[side][i] = libraries[side].read_text(t->bytes, t->length);
+    }
+}
+
+static inline void write_texts(int side, const Spelled *from, unsigned at)
+{
+    for (unsigned i = 0; i < CHUNK; i++) {
+        if (side == GLIBC) inet_ntop(AF_INET6, &from->addresses[at + i], glibc_written[i], LONGEST);
+        else got[side][i] = libraries[side].write_text(from->keys[at + i], written[side][i], LONGEST);
     }
 }
 
 static void op_write_text(int side, unsigned at)
 {
-    for (unsigned i = 0; i < CHUNK; i++) {
-        if (side == GLIBC) inet_ntop(AF_INET6, &addresses[at + i], glibc_written[i], LONGEST);
-        else got[side][i] = libraries[side].write_text(keys[at + i], written[side][i], LONGEST);
-    }
+    write_texts(side, &any, at);
+}
+
+static void op_write_mapped(int side, unsigned at)
+{
+    write_texts(side, &mapped, at);
 }
 
 static void compare_libraries(unsigned at)
@@ -130,7 +179,23 @@ static void compare_libraries(unsigned at)
 static void compare_read(unsigned at)
 {
     compare_libraries(at);
-    if (memcmp(glibc_read, addresses + at, sizeof glibc_read) != 0) fail("glibc reads another address");
+    if (memcmp(glibc_read, any.addresses + at, sizeof glibc_read) != 0) fail("glibc reads another address");
+}
+
+static void compare_tail(unsigned at)
+{
+    compare_libraries(at);
+    if (memcmp(glibc_read, mapped.addresses + at, sizeof glibc_read) != 0) fail("glibc reads another address");
+}
+
+static void compare_bare(unsigned at)
+{
+    compare_libraries(at);
+    for (unsigned i = 0; i < CHUNK; i++) {
+        const uint8_t *ipv4 = mapped.addresses[at + i].s6_addr + 12;
+        if (memcmp(&got[PRODUCT][i].key, &mapped.keys[at + i], sizeof(Key)) != 0) fail("read as another address");
+        if (memcmp(&glibc_read_bare[i], ipv4, sizeof glibc_read_bare[i]) != 0) fail("glibc reads another address");
+    }
 }
 
 /* glibc writes some addresses with a dotted tail, so that its text is compared by what it reads as. */
@@ -139,7 +204,18 @@ static void compare_written(unsigned at)
     compare_libraries(at);
     for (unsigned i = 0; i < CHUNK; i++) {
         Answer a = libraries[PRODUCT].read_text((const uint8_t *)glibc_written[i], strlen(glibc_written[i]));
-        if (a.code || memcmp(&a.key, &keys[at + i], sizeof a.key) != 0) fail("glibc writes another address");
+        if (a.code || memcmp(&a.key, &any.keys[at + i], sizeof a.key) != 0) fail("glibc writes another address");
+    }
+}
+
+/* These it writes as they are due. */
+static void compare_mapped(unsigned at)
+{
+    compare_libraries(at);
+    for (unsigned i = 0; i < CHUNK; i++) {
+        size_t length = strlen(glibc_written[i]);
+        if (got[PRODUCT][i].number != length || memcmp(written[PRODUCT][i], glibc_written[i], length) != 0)
+            fail("glibc writes another text");
     }
 }
 
@@ -153,6 +229,9 @@ static const struct {
     { "find_text, miss", op_find_text_miss, compare_libraries, LIBRARIES },
     { "read_text", op_read_text, compare_read, SIDES },
     { "write_text", op_write_text, compare_written, SIDES },
+    { "read_text, dotted tail", op_read_tail, compare_tail, SIDES },
+    { "read_text, bare dotted", op_read_bare, compare_bare, SIDES },
+    { "write_text, mapped", op_write_mapped, compare_mapped, SIDES },
 };
 enum { OPERATIONS = sizeof operations / sizeof operations[0] };
 
@@ -182,7 +261,8 @@ static void time_operation(unsigned o, unsigned rounds, double ns[SIDES])
     }
 }
 
-static void time_all(unsigned rounds, const char *rust_read, const char *rust_write)
+/* with a figure of Rust's for each row that has one of glibc's */
+static void time_all(unsigned rounds, char **rust)
 {
     printf("| call | product, ns | baseline, ns | product / baseline | glibc, ns | Rust, ns |\n"
            "|---|---|---|---|---|---|\n");
@@ -191,10 +271,8 @@ static void time_all(unsigned rounds, const char *rust_read, const char *rust_wr
         time_operation(o, rounds, ns);
         printf("| %s | %.1f | %.1f | %.2f |", operations[o].name, ns[PRODUCT], ns[BASELINE],
                ns[PRODUCT] / ns[BASELINE]);
-        if (operations[o].sides == SIDES)
-            printf(" %.1f | %s |\n", ns[GLIBC], operations[o].run == op_read_text ? rust_read : rust_write);
-        else
-            printf(" | |\n");
+        if (operations[o].sides == SIDES) printf(" %.1f | %s |\n", ns[GLIBC], *rust++);
+        else printf(" | |\n");
     }
 }
 
@@ -207,7 +285,7 @@ static void count(int library)
     printf("calls %u\n", COUNTED * CHUNK);
 }
 
-static void list(const char *path)
+static void list(const char *path, const Text *texts)
 {
     FILE *file = fopen(path, "w");
     if (!file) fail("cannot write the list");
@@ -218,9 +296,12 @@ static void list(const char *path)
 int main(int argc, char **argv)
 {
     prepare();
-    if (argc == 5 && strcmp(argv[1], "time") == 0) time_all((unsigned)atoi(argv[2]), argv[3], argv[4]);
+    if (argc == 3 + 5 && strcmp(argv[1], "time") == 0) time_all((unsigned)atoi(argv[2]), argv + 3);
     else if (argc == 3 && strcmp(argv[1], "count") == 0) count(library_named(argv[2]));
-    else if (argc == 3 && strcmp(argv[1], "list") == 0) list(argv[2]);
-    else fail("text time ROUNDS READ WRITE | text count LIBRARY | text list FILE");
+    else if (argc == 5 && strcmp(argv[1], "list") == 0) {
+        list(argv[2], any.texts);
+        list(argv[3], tails);
+        list(argv[4], mapped.texts);
+    } else fail("text time ROUNDS READ WRITE TAIL BARE MAPPED | text count LIBRARY | text list FILE TAIL BARE");
     return 0;
 }

@@ -89,6 +89,7 @@ static void print_check(void)
 int main(void)
 {
     const uint8_t source[16] = {0x20, 0x01, 0x0d, 0xb8, [15] = 1}, other[16] = {0x20, 0x01, 0x0d, 0xb8, [15] = 2};
+    const uint8_t ipv4[16] = {[10] = 0xff, 0xff, 192, 0, 2, 1}; /* as a socket for both families gives it */
 
     struct shelfegret_answer size = shelfegret_size(settings);
     printf("size: %u bytes, %u lent\n", (unsigned)size.number, (unsigned)sizeof table);
@@ -99,11 +100,13 @@ int main(void)
     relabel("2001:0db8:0000:0000:0000:0000:0.0.0.1", 9);
     relabel("2001:db8::2", 9);   /* one that is not blocked has no label */
     block("fe80::1", 1);
-    block("::ffff:192.0.2.1", 2);
+    block("192.0.2.1", 2);         /* an IPv4 device is one entry too: ::ffff:192.0.2.1, */
+    relabel("::ffff:c000:201", 3); /* however it is spelled */
     print_all();
 
     look_up(source);
     look_up(other);
+    look_up(ipv4);
     unblock("FE80:0::1");
     unblock("fe80::1");
 

@@ -78,11 +78,13 @@ fn main() -> Result<(), Refusal> {
     relabel(&mut table, "2001:0db8:0000:0000:0000:0000:0.0.0.1", 9);
     relabel(&mut table, "2001:db8::2", 9); // one that is not blocked has no label
     block(&mut table, "fe80::1", 1);
-    block(&mut table, "::ffff:192.0.2.1", 2);
+    block(&mut table, "192.0.2.1", 2); // an IPv4 device is one entry too: ::ffff:192.0.2.1,
+    relabel(&mut table, "::ffff:c000:201", 3); // however it is spelled
     print_all(&table);
 
     look_up(&table, [0x20, 0x01, 0x0d, 0xb8, 0, 0, 0, 0, 0, 0, 0, 0, 0, 0, 0, 1]);
     look_up(&table, [0x20, 0x01, 0x0d, 0xb8, 0, 0, 0, 0, 0, 0, 0, 0, 0, 0, 0, 2]);
+    look_up(&table, [0, 0, 0, 0, 0, 0, 0, 0, 0, 0, 0xff, 0xff, 192, 0, 2, 1]); // as a socket for both families gives it
     unblock(&mut table, "FE80:0::1");
     unblock(&mut table, "fe80::1");
 

@@ -37,7 +37,9 @@ struct shelfegret_settings {
 };
 
 /* A key: the number high * 2^64 + low. Of an IPv6 address, high is the first eight bytes as they stand in a packet,
- * most significant byte first, and low the last eight. */
+ * most significant byte first, and low the last eight. An IPv4 address is held as its mapped address, such as
+ * ::ffff:192.0.2.1: high is 0, and low is 0xffff00000000 plus the IPv4 address as a number, its first byte the most
+ * significant (ntohl of s_addr). */
 struct shelfegret_key {
     uint64_t high, low;
 };
@@ -122,9 +124,9 @@ struct shelfegret_answer shelfegret_record(struct shelfegret_settings settings, 
 struct shelfegret_answer shelfegret_check(struct shelfegret_settings settings, const uint8_t *table, size_t len,
                                           uint8_t *marks, size_t marks_len);
 
-/* The same with the address that a text spells, for a table with w 128. A text is bytes without a terminator. key
- * is the key as read. enter_text refuses 1, 2, 3, 4, 6, 7, 12, 8; relabel_text 1, 2, 3, 4, 6, 7; find_text and
- * delete_text 1, 2, 3, 4, 7. */
+/* The same with the address that a text spells, as read_text reads it, for a table with w 128. A text is bytes without
+ * a terminator. key is the key as read. enter_text refuses 1, 2, 3, 4, 6, 7, 12, 8; relabel_text 1, 2, 3, 4, 6, 7;
+ * find_text and delete_text 1, 2, 3, 4, 7. */
 struct shelfegret_answer shelfegret_enter_text(struct shelfegret_settings settings, uint8_t *table, size_t len,
                                                const uint8_t *text, size_t text_len, uint64_t label);
 struct shelfegret_answer shelfegret_relabel_text(struct shelfegret_settings settings, uint8_t *table, size_t len,
@@ -134,11 +136,12 @@ struct shelfegret_answer shelfegret_find_text(struct shelfegret_settings setting
 struct shelfegret_answer shelfegret_delete_text(struct shelfegret_settings settings, uint8_t *table, size_t len,
                                                 const uint8_t *text, size_t text_len);
 
-/* Reads an address as RFC 4291, section 2.2, gives it, decimals without leading zeros, into key. Refuses 4. */
+/* Reads an address into key: one as RFC 4291, section 2.2, gives it, or an IPv4 address alone, which is read as its
+ * mapped address: 192.0.2.1 as ::ffff:192.0.2.1. Decimals have no leading zeros. Refuses 4. */
 struct shelfegret_answer shelfegret_read_text(const uint8_t *text, size_t text_len);
 
-/* Writes the address in RFC 5952 form, at most 39 bytes, without a terminator; number is its length, and the rest of
- * out stays as it is. Refuses 9. */
+/* Writes the address in RFC 5952 form, with a dotted tail under ::ffff:0:0/96 and in hexadecimal elsewhere, at most 39
+ * bytes, without a terminator; number is its length, and the rest of out stays as it is. Refuses 9. */
 struct shelfegret_answer shelfegret_write_text(struct shelfegret_key key, uint8_t *out, size_t out_len);
 
 #ifdef __cplusplus

@@ -33,8 +33,24 @@ int one_in(uint64_t n)
 
 /* ---- legal texts */
 
+static const uint64_t mapped = 0xffff; /* the upper half of low, for an IPv4 address; then high is 0 */
+
+static int is_mapped(struct shelfegret_key key)
+{
+    return key.high == 0 && key.low >> 32 == mapped;
+}
+
+/* its octets are often of one or two digits */
+static struct shelfegret_key random_mapped(void)
+{
+    struct shelfegret_key key = {0, mapped};
+    for (int i = 0; i < 4; i++) key.low = key.low << 8 | (random_bits() & 0xff) >> below(8);
+    return key;
+}
+
 struct shelfegret_key random_address(void)
 {
+    if (one_in(8)) return random_mapped();
     struct shelfegret_key key = {0, 0};
     uint64_t zeros = below(5); /* of 4 groups */
     for (int i = 0; i < 8; i++) {
@@ -81,6 +97,7 @@ static uint8_t *put_dotted(uint8_t *at, uint64_t low)
 
 size_t legal_text(struct shelfegret_key key, uint8_t *text)
 {
+    if (is_mapped(key) && one_in(2)) return (size_t)(put_dotted(text, key.low) - text);
     uint8_t *at = text;
     int dotted = one_in(4), groups = dotted ? 6 : 8, colon = 0;
     int gap = (int)below(8), gap_len = 0; /* "::" stands for any part of a run of zero groups */

@@ -14,7 +14,7 @@ uint64_t random_bits(void);
 uint64_t below(uint64_t n); /* 0 to n - 1 */
 int one_in(uint64_t n);
 
-/* An address in which whole groups are often zero, so that "::" has something to stand for. */
+/* An address in which whole groups are often zero, so that "::" has something to stand for; or an IPv4 address. */
 struct shelfegret_key random_address(void);
 
 /* Each writes a text and returns its length. */

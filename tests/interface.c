@@ -566,7 +566,7 @@ static unsigned mood; /* index into the weights below */
 static uint64_t tables;
 
 /* Often all in a few lists, and at most twice as many as these hold, so that lists overflow, fill and shrink; and
- * many alike but for a bit. */
+ * many alike but for a bit. Of 128 bits, some are addresses that have many spellings. */
 static void make_pool(void)
 {
     uint32_t bie = at_hand.w - at_hand.bii;
@@ -576,6 +576,7 @@ static void make_pool(void)
     for (size_t i = 0; i < pool_len; i++) {
         entry = one_in(2) ? random_key(bie) : one_bit_off(entry, bie);
         pool[i] = key_in_list(at_hand, entry, first_list + below(lists));
+        if (at_hand.w == 128 && one_in(8)) pool[i] = random_address();
     }
 }
 

@@ -263,7 +263,8 @@ static void one_table(void)
     if (shelfegret_make(s, table, size).code) fail("make");
     tables++;
     for (uint64_t i = 0; i < count; i++)
-        keys[i] = key_in_list(s, low_bits((key){random_bits(), random_bits()}, entry_bits(s)), below(lists));
+        if (s.w == 128 && one_in(4)) keys[i] = random_address(); /* one that has many spellings */
+        else keys[i] = key_in_list(s, low_bits((key){random_bits(), random_bits()}, entry_bits(s)), below(lists));
     for (int i = 0; i < 400; i++) one_call(keys, count);
     records_are_the_set();
 }
@@ -395,6 +396,26 @@ static void known_by_text(void)
     }
 }
 
+/* An IPv4 address is one entry, by whichever spelling it is entered and asked for; no other address is that one. */
+static void ipv4_by_text(void)
+{
+    static const char *const spelled[] = {"192.0.2.1", "::ffff:192.0.2.1", "::FFFF:C000:201", "0::ffff:c000:0201"};
+    static const char *const others[] = {"192.0.2.2", "::192.0.2.1", "::fffe:192.0.2.1", "::1:ffff:192.0.2.1"};
+    key k = {0, 0xffffc0000201};
+    s = (settings){128, 0, 2, 0, 1, 4, 1, 1};
+    size = shelfegret_size(s).number;
+    for (int i = 0; i < 4; i++) {
+        shelfegret_make(s, table, size);
+        expect(with_text(1, spelled[i], 5), said(SHELFEGRET_ADDED, k, 5, 0), "a new IPv4 address");
+        for (int j = 0; j < 4; j++) {
+            memcpy(before, table, sizeof table);
+            expect(with_text(1, spelled[j], 6), refused(SHELFEGRET_REFUSED_KNOWN), "known by another spelling");
+            expect(with_text(0, spelled[j], 5), said(SHELFEGRET_RELABELLED, k, 5, 1), "held by another spelling");
+            if (with_text(0, others[j], 5).word != SHELFEGRET_NONE) fail("another address is held");
+        }
+    }
+}
+
 int main(int argc, char **argv)
 {
     seed_random(argc > 1 ? strtoull(argv[1], NULL, 0) : 1);
@@ -404,6 +425,7 @@ int main(int argc, char **argv)
     twice();
     order_by_text();
     known_by_text();
+    ipv4_by_text();
     printf("plain_set: %u calls on %u tables, all as the plain set's\n", calls, tables);
     return 0;
 }

@@ -5,11 +5,11 @@ use mathlib.Core.List.{[], _∷_, _++_}
 use native.Mathlib.Omega.{arith}
 use lib.ListN.{length, length-append}
 use lib.Dec.{lit≤}
-use Rattle.text_calls.specs.Ascii.{ascii}
+use Rattle.text_write.specs.Ascii.{ascii}
 use Rattle.program_answers.specs.Answer.{wordText, numbersText}
-use Rattle.program_answers.specs.Decimal.{decimalText}
+use Rattle.text_write.specs.Decimal.{decimalText}
 use Rattle.program_answers.specs.Steps.{Change}
-use Rattle.program_answers.proofs.Decimal.{decimal-short}
+use Rattle.text_write.specs.theory.Decimal.{decimal-short}
 use Rattle.table.specs.declared.answers.Word.{Word}
 use Rattle.table.specs.declared.answers.Word.the-variants as word
 

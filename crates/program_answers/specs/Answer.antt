@@ -12,9 +12,9 @@ use Rattle.table.specs.declared.answers.Answer.the-variants as answer
 use Rattle.table.specs.declared.answers.Word.{Word}
 use Rattle.table.specs.declared.answers.Word.the-variants as word
 use Rattle.text_write.specs.Writing.{written}
-use Rattle.text_calls.specs.Ascii.{ascii}
+use Rattle.text_write.specs.Ascii.{ascii}
 use Rattle.program_commands.specs.Command.{Command, commandOf}
-use Rattle.program_answers.specs.Decimal.{decimalText}
+use Rattle.text_write.specs.Decimal.{decimalText}
 use Rattle.program_answers.specs.Outcome.{commandCall}
 
 -- the words, with the spaces around them

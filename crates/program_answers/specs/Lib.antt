@@ -1,6 +1,5 @@
 -- Definitions: what a reader must believe.
 pub mod Program
-pub mod Decimal
 pub mod Outcome
 pub mod Answer
 -- Words that only contracts between the program's parts use.

@@ -2,7 +2,7 @@
 ghost use Prim.Native.Nat.{_+_, _≤_, _<_};
 ghost use mathlib.Core.List.{[], _∷_};
 ghost use lib.ListN.{length};
-ghost use Rattle.program_answers.specs.Decimal.{decimalText};
+ghost use Rattle.text_write.specs.Decimal.{decimalText};
 ghost use Rattle.program_answers.specs.Steps.{Put};
 
 pub(crate) fn put(text: &[u8], out: &mut [u8], at: usize) -> usize

@@ -1,5 +1,5 @@
 // Reads each line of standard input as an address and writes it again, or the number of the refusal.
-// Its input is examples of the RFCs and of our own; what it must write was made by other readers.
+// Its input is examples of the RFCs and of our own; docs/DECISIONS.md says where what it must write comes from.
 use libc::STDIN_FILENO;
 use libc::STDOUT_FILENO;
 use settings::Refusal;

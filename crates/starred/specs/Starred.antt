@@ -18,7 +18,7 @@ use Rattle.table.specs.declared.answers.Answer.the-variants as answer
 use Rattle.table.specs.declared.answers.Word.the-variants as word
 use Rattle.text_read.specs.Answers.{readingOf}
 use Rattle.text_read.specs.declared.Parsed.the-variants as parsed
-use Rattle.text_calls.specs.Ascii.{ascii}
+use Rattle.text_write.specs.Ascii.{ascii}
 use Rattle.text_calls.specs.theory.Computing as texts
 
 -- Claims ---------------------------------------------------------------------------------------------------------------------

@@ -2,7 +2,6 @@
 pub mod TextCalls
 pub mod Asked
 pub mod Canonical
-pub mod Ascii
 -- Words of private contracts.
 pub mod Admits
 -- What is proved of them.

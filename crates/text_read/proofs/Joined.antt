@@ -35,7 +35,7 @@ number-bound (x ∷ f) n v d h =
     let e : n + suc (length f) ≡ n + 1 + length f = omega arith in
     rw e (number-bound f (n + 1) (v * 16 + classOf x) (p .1) (digit-more 16 n v (classOf x) h (ltb-true (classOf x) 16 (p .0))))
 
-abbrev AllSmall : Option (List ℕ) → Type 0
+abbrev pub AllSmall : Option (List ℕ) → Type 0
 AllSmall none = Unit {0}
 AllSmall (some l) = Small l
 
@@ -57,7 +57,7 @@ group-one f = go (digits 16 f && leb 1 (length f) && leb (length f) 4) refl
 pub group-small : (f : List ℕ) (v : ℕ) → group f ≡ some v → v < 65536
 group-small f v e = rw e at (group-one f)
 
-dotted-small : (t : List ℕ) → AllSmall (dotted t)
+pub dotted-small : (t : List ℕ) → AllSmall (dotted t)
 dotted-small t = rw (dotted-halves t) (go (dottedFrom 0 0 t) refl)
   where
     go : (o : Option ℕ) → dottedFrom 0 0 t ≡ o → AllSmall (halves o)
@@ -125,12 +125,6 @@ pushed-of g x p h l e = record {
   count = ap (λ (q : Groups). q .count) e;
   sized = rw e (made-sized (numberOf g * 65536 + x) (g .count + 1) (digit-more 65536 (g .count) (numberOf g) x (h .fits) l));
 }
-
-pub pushed-twice : (g : Groups) (x y : ℕ) (p q : Groups) → Pushed g x p → q ≡ made (numberOf p * 65536 + y) (p .count + 1)
-    → q ≡ made ((numberOf g * 65536 + x) * 65536 + y) (g .count + 2)
-pushed-twice g x y p q h e =
-    let n : p .count + 1 ≡ g .count + 2 = omega (arith, h .count) in
-    e ∙ rw (h .number, n)
 
 -- The gap ---------------------------------------------------------------------------------------------------------------
 
@@ -260,4 +254,41 @@ moved head tail q r sh st l m e k =
       high = rw s at (digits-lt a b);
       low = d;
       answer = filled-found (numberOf head) n (numberOf tail) (tail .count) (head .high * q + head .low / r) (head .low % r * q + tail .low) (omega arith) d (rw (v, ← e) (across (head .high) (head .low) (tail .low) q r s));
+    }
+
+-- More groups -----------------------------------------------------------------------------------------------------------
+
+made-of : (v n h l : ℕ) → l < 2 ^ 64 → v ≡ h * 2 ^ 64 + l → made v n ≡ record { high = h; low = l; count = n }
+unfolding made
+made-of v n h l b e =
+    let p : v / 2 ^ 64 ≡ h = omega arith in
+    let q : v % 2 ^ 64 ≡ l = omega arith in
+    rw (p, q)
+
+-- n groups more, the number x, behind groups that are moved up by q; the upper ones of the low half are low / r: both halves have room
+pub record Moved (g : Groups) (n x q r : ℕ) : Type 0 where
+  pub some : 0 < r
+  pub high : g .high * q + g .low / r < 2 ^ 64
+  pub low : g .low % r * q + x < 2 ^ 64
+  pub groups : made (numberOf g * 65536 ^ n + x) (g .count + n) ≡ record { high = g .high * q + g .low / r; low = g .low % r * q + x; count = g .count + n }
+
+pub moved-up : (g : Groups) (n x q r : ℕ) → Sized g → n ≤ 4 → g .count + n ≤ 8 → x < 65536 ^ n → q ≡ 65536 ^ n → r ≡ 65536 ^ (4 - n) → Moved g n x q r
+moved-up g n x q r z l m h e k =
+    let i : 4 - n + n ≡ 4 = omega arith in
+    let j : 8 - n ≡ 4 - n + 4 = omega arith in
+    let s : r * q ≡ 2 ^ 64 = rw (e, k, ← pow-add 65536 (4 - n) n, i) in
+    let t : 65536 ^ (8 - n) ≡ r * 2 ^ 64 = ap (λ (y : ℕ). 65536 ^ y) j ∙ pow-add 65536 (4 - n) 4 ∙ rw k in
+    let f : numberOf g < r * 2 ^ 64 = rw t at (digit-most 65536 (g .count) (8 - n) (numberOf g) (lit< tt) (z .fits) (omega arith)) in
+    let a : g .high < r = omega arith in
+    let o : 0 < r = omega arith in
+    let b : g .low / r < q = div-lt-iff-lt-mul o .1 (rw (mul-comm q r, s) (z .half)) in
+    let c : x < q = rw e h in
+    let d : g .low % r * q + x < 2 ^ 64 = rw s at (digits-lt (mod-lt (g .low) o) c) in
+    record {
+      some = o;
+      high = rw s at (digits-lt a b);
+      low = d;
+      groups =
+          made-of (numberOf g * 65536 ^ n + x) (g .count + n) (g .high * q + g .low / r) (g .low % r * q + x) d
+          (ap (λ (y : ℕ). numberOf g * y + x) (sym e) ∙ across (g .high) (g .low) x q r s);
     }

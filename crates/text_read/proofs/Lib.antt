@@ -3,4 +3,5 @@ mod Table
 mod Fields
 mod Splits
 mod Joined
+mod Whole
 mod Parts

@@ -1,5 +1,5 @@
 -- Parts of an address: what is left to read of one where some of its groups are read already, and what the parts make together.
-use Prim.Native.Nat.{ℕ, suc, _+_, _*_, _/_, _%_, _≤_, _<_}
+use Prim.Native.Nat.{ℕ, suc, _+_, _*_, _/_, _%_, _^_, _≤_, _<_}
 use native.Mathlib.Nat.{zero-add}
 use native.Mathlib.Omega.{arith}
 use mathlib.Core.Path.{_≡_, refl, sym, ap, _∙_}
@@ -7,24 +7,28 @@ use mathlib.Core.Bool.{Bool, true, false, cond, _&&_, and-false}
 use mathlib.Core.List.{List, [], _∷_, _++_}
 use mathlib.Core.Option.{Option, none, some}
 use lib.ListN.{length, drop, getD, length-append, drop-of-length-le}
-use lib.Dec.{leb, eqb, lit<}
+use lib.Dec.{leb, eqb, lit<, lit≤}
 use borrow.Author.Tests.{eqb-true, eqb-false, leb-true, leb-false, eq-eqb, ne-eqb, le-ltb, le-leb, lt-leb}
-use Rattle.laws.specs.Cases.{cases, both-true, never}
+use Rattle.laws.specs.Cases.{cases, both-true, never, cond-same}
 use Rattle.laws.specs.Lists.{drop-next}
+use Rattle.laws.specs.Options.{nothing}
 use Rattle.keys.specs.Key.{keyOf}
 use Rattle.settings.specs.declared.refusal.Refusal.the-variants as refusal
 use Rattle.text_read.specs.Class.{classOf, colon}
 use Rattle.text_read.specs.Numerals.{digits, group, decimal}
-use Rattle.text_read.specs.Reading.{split, push, decimals, twoGroups, dotted, orElse, groups, part, Cut, whole, parted, behind, begins, tail, cut, eight, filled, groupsOfCut, groupsOf, joined}
+use Rattle.text_read.specs.Reading.{split, push, decimals, twoGroups, dotted, orElse, groups, part, Cut, whole, parted, behind, begins, tail, cut, eight, filled, groupsOfCut, groupsOfColons, joined}
 use Rattle.text_read.specs.Answers.{keyed, readingOf}
-use Rattle.text_read.specs.ReaderSteps.{until, dottedFrom, numberOf, made, Sized, toEnd, toGap, partOfCut, partFrom, filledWith, filledBy, afterGap, Fine, headAnswer}
+use Rattle.text_read.specs.ReaderSteps.{until, dottedFrom, numberOf, made, Sized, toEnd, toGap, partOfCut, partFrom, mappedOr, partAt, filledWith, filledBy, afterGap, Fine, headAnswer}
 use Rattle.text_read.proofs.Splits.{past, later, split-eq, until-all, past-class, alone, followed, Past, halves, dotted-halves, dotted-colon}
-use Rattle.text_read.specs.theory.Joined.{joined-lt}
-use Rattle.text_read.proofs.Joined.{groups-small, made-number, made-sized, filled-key}
+use Rattle.text_read.specs.theory.Joined.{Small, joined-lt}
+use Rattle.text_read.proofs.Joined.{AllSmall, dotted-small, groups-small, made-number, made-sized, filled-key}
 use Rattle.text_read.specs.theory.Cuts.{behinds, behinds-nil, behind-behinds}
 use Rattle.text_read.specs.theory.Options.{push-none}
+use Rattle.text_read.specs.theory.Dotted.{dotted-none, read-dotted}
+use Rattle.text_read.proofs.Whole.{reading-bare, reading-colons, cut-undotted}
 use Rattle.text_read.specs.declared.Parsed.{Parsed}
 use Rattle.text_read.specs.declared.Parsed.the-variants as parsed
+use Rattle.text_read.specs.declared.reader.Groups.{Groups}
 use Rattle.text_read.specs.declared.reader.Part.{Part}
 use Rattle.text_read.specs.declared.reader.Part.the-variants as answer
 
@@ -264,30 +268,78 @@ module _ (v n : ℕ) (t : List ℕ) (at : ℕ) where
             (λ b. part-gap c y r p (eqb-true (classOf y) colon b) ∙ (unfold toGap in rw (lt-leb (n + 1) 8 (omega arith))))
             (λ b. part-more c y r p (eqb-false (classOf y) colon b) ∙ part-over (v * 65536 + g) (n + 1) (y ∷ r) (at + length (until colon t) + 1) (omega arith))
 
+-- At the start of the text ------------------------------------------------------------------------------------------------
+
+-- a text that begins with a group is not dotted
+group-undotted : (t : List ℕ) (g : ℕ) → group (until colon t) ≡ some g → dotted t ≡ none
+group-undotted t g e = by-past (past colon t) refl
+  where
+    by-past : (p : List ℕ) → past colon t ≡ p → dotted t ≡ none
+    by-past (c ∷ r) p = dotted-colon t c r p
+    by-past [] p = go (dotted t) refl
+      where
+        go : (o : Option (List ℕ)) → dotted t ≡ o → o ≡ none
+        go none d = refl
+        go (some l) d = nothing (sym (dotted-none (read-dotted t l d)) ∙ (rw (until-all colon t p) at e))
+
+module _ (v n : ℕ) (t : List ℕ) (at : ℕ) where
+  pub part-later : 0 < at → partAt v n t at ≡ partFrom v n t at
+  unfolding partAt
+  part-later h = rw (ne-eqb at 0 (λ e. omega arith))
+
+  part-colons : (g : ℕ) → group (until colon t) ≡ some g → partAt v n t at ≡ partFrom v n t at
+  unfolding partAt mappedOr
+  part-colons g e = rw (group-undotted t g e) (cond-same (eqb at 0) (partFrom v n t at))
+
+-- no group in the first field: it is dotted, and these groups stand before it
+pub part-tail : (g b : Groups) (t : List ℕ) (at : ℕ) → group (until colon t) ≡ none → b ≡ cond (eqb at 0) (made 65535 6) g
+    → partAt (numberOf g) (g .count) t at ≡ toEnd (numberOf b) (b .count) (dotted t)
+unfolding partAt
+part-tail g b t at e f = cases (eqb at 0) (λ z. rw (f, z) (start (dotted t) refl)) (λ z. rw (f, z) plain)
+  where
+    plain : partFrom (numberOf g) (g .count) t at ≡ toEnd (numberOf g) (g .count) (dotted t)
+    plain = part-dotted (numberOf g) (g .count) t at e
+
+    start : (o : Option (List ℕ)) → dotted t ≡ o
+        → mappedOr o (partFrom (numberOf g) (g .count) t at) ≡ toEnd (numberOf (made 65535 6)) (made 65535 6 .count) o
+    start none d = unfold mappedOr in (plain ∙ rw d (unfold toEnd in refl))
+    start (some l) d = unfold mappedOr in rw (made-number 65535 6) (unfold made in refl)
+
+pub before-sized : (at : ℕ) (g : Groups) → Sized g → g .count ≤ 8
+    → let b = cond (eqb at 0) (made 65535 6) g in Sized b × (b .count ≤ 8)
+before-sized at g z h =
+    cases (eqb at 0) (λ e. rw e (made-sized 65535 6 (lit< tt), (unfold made in lit≤ tt))) (λ e. rw e (z, h))
+
 -- by places: a group g in the field from i on, which ends at `end`
 module _ (v n : ℕ) (s : List ℕ) (i g end : ℕ) (e : group (until colon (drop i s)) ≡ some g) (p : Past colon s i end) where
-  pub turn-many : 7 < n → partFrom v n (drop i s) i ≡ answer.Bad
-  turn-many h = part-many v n (drop i s) i g e h
+  colons : partAt v n (drop i s) i ≡ partFrom v n (drop i s) i
+  colons = part-colons v n (drop i s) i g e
 
-  pub turn-last : end ≡ length s → n ≤ 7 → partFrom v n (drop i s) i ≡ answer.Whole (made (v * 65536 + g) (n + 1))
-  turn-last h l = part-last v n (drop i s) i g e (p .last h) ∙ (unfold toEnd joined in rw (le-leb (n + 1) 8 (omega arith)))
+  pub turn-many : 7 < n → partAt v n (drop i s) i ≡ answer.Bad
+  turn-many h = colons ∙ part-many v n (drop i s) i g e h
 
-  pub turn-short : end + 1 ≡ length s → partFrom v n (drop i s) i ≡ answer.Bad
-  turn-short h = part-short v n (drop i s) i (getD s end 0) (p .short h)
+  pub turn-last : end ≡ length s → n ≤ 7 → partAt v n (drop i s) i ≡ answer.Whole (made (v * 65536 + g) (n + 1))
+  turn-last h l = colons ∙ part-last v n (drop i s) i g e (p .last h) ∙ (unfold toEnd joined in rw (le-leb (n + 1) 8 (omega arith)))
+
+  pub turn-short : end + 1 ≡ length s → partAt v n (drop i s) i ≡ answer.Bad
+  turn-short h = colons ∙ part-short v n (drop i s) i (getD s end 0) (p .short h)
 
   module _ (h : end + 1 < length s) where
-    pub turn-gap : classOf (getD s (end + 1) 0) ≡ colon → n ≤ 7 → partFrom v n (drop i s) i ≡ answer.Gap (made (v * 65536 + g) (n + 1)) (end + 1 + 1)
+    pub turn-gap : classOf (getD s (end + 1) 0) ≡ colon → n ≤ 7 → partAt v n (drop i s) i ≡ answer.Gap (made (v * 65536 + g) (n + 1)) (end + 1 + 1)
     turn-gap c l =
-        part-gap v n (drop i s) i g e (getD s end 0) (getD s (end + 1) 0) (drop (end + 1 + 1) s) (p .two h) c
+        colons
+        ∙ part-gap v n (drop i s) i g e (getD s end 0) (getD s (end + 1) 0) (drop (end + 1 + 1) s) (p .two h) c
         ∙ (unfold toGap joined in rw (le-leb (n + 1) 8 (omega arith), place))
       where
         place : i + length (until colon (drop i s)) + 2 ≡ end + 1 + 1
         place = omega (arith, p .size)
 
-    pub turn-more : (classOf (getD s (end + 1) 0) ≡ colon → ⊥) → partFrom v n (drop i s) i ≡ partFrom (v * 65536 + g) (n + 1) (drop (end + 1) s) (end + 1)
+    pub turn-more : (classOf (getD s (end + 1) 0) ≡ colon → ⊥) → partAt v n (drop i s) i ≡ partAt (v * 65536 + g) (n + 1) (drop (end + 1) s) (end + 1)
     turn-more c =
-        part-more v n (drop i s) i g e (getD s end 0) (getD s (end + 1) 0) (drop (end + 1 + 1) s) (p .two h) c
-        ∙ rw (sym (drop-next s (end + 1) 0 h), p .size)
+        colons
+        ∙ part-more v n (drop i s) i g e (getD s end 0) (getD s (end + 1) 0) (drop (end + 1 + 1) s) (p .two h) c
+        ∙ (rw (sym (drop-next s (end + 1) 0 h), p .size))
+        ∙ sym (part-later (v * 65536 + g) (n + 1) (drop (end + 1) s) (end + 1) (omega arith))
 
 -- The dotted tail
 tail-halves : (v n : ℕ) (t : List ℕ) (o : Option ℕ) → dottedFrom 0 0 t ≡ o → toEnd v n (dotted t) ≡ toEnd v n (halves o)
@@ -303,38 +355,55 @@ tail-many v n t h = rw (dotted-halves t) (go (dottedFrom 0 0 t))
 pub tail-none : (v n : ℕ) (t : List ℕ) → dottedFrom 0 0 t ≡ none → toEnd v n (dotted t) ≡ answer.Bad
 tail-none v n t e = tail-halves v n t none e ∙ (unfold toEnd in refl)
 
+two-joined : (v w : ℕ) → (v * 65536 + w / 65536) * 65536 + w % 65536 ≡ v * 4294967296 + w
+two-joined v w = omega arith
+
 pub tail-some : (v n : ℕ) (t : List ℕ) (w : ℕ) → dottedFrom 0 0 t ≡ some w → n ≤ 6
-    → toEnd v n (dotted t) ≡ answer.Whole (made ((v * 65536 + w / 65536) * 65536 + w % 65536) (n + 2))
-tail-some v n t w e h = tail-halves v n t (some w) e ∙ (unfold toEnd joined in rw (le-leb (n + 2) 8 (omega arith)))
+    → toEnd v n (dotted t) ≡ answer.Whole (made (v * 4294967296 + w) (n + 2))
+tail-some v n t w e h = tail-halves v n t (some w) e ∙ (unfold toEnd joined in rw (le-leb (n + 2) 8 (omega arith), two-joined v w))
 
 -- What a part is ----------------------------------------------------------------------------------------------------------
 
-made-fine : (e : Bool) (fs : List (List ℕ)) (l : List ℕ) → groups e fs ≡ some l → Sized (made (joined 0 l) (0 + length l))
-made-fine e fs l h = made-sized (joined 0 l) (0 + length l) (joined-lt l 0 0 (rw h at (groups-small e fs)) (lit< tt))
+-- groups to the end of the text, or to "::"
+module _ (v n : ℕ) (h : v < 65536 ^ n) where
+  made-fine : (l : List ℕ) → Small l → Sized (made (joined v l) (n + length l))
+  made-fine l k = made-sized (joined v l) (n + length l) (joined-lt l n v k h)
+
+  end-fine : (last : ℕ) (o : Option (List ℕ)) → AllSmall o → Fine last (toEnd v n o)
+  unfolding toEnd
+  end-fine last none k = tt
+  end-fine last (some l) k = test (leb (n + length l) 8) refl
+    where
+      test : (b : Bool) → leb (n + length l) 8 ≡ b → Fine last (cond b (answer.Whole (made (joined v l) (n + length l))) answer.Bad)
+      test true e = unfold made in (made-fine l k, leb-true (n + length l) 8 e)
+      test false e = tt
+
+  gap-fine : (last next : ℕ) (o : Option (List ℕ)) → AllSmall o → 0 < next → next ≤ last → Fine last (toGap v n next o)
+  unfolding toGap
+  gap-fine last next none k p q = tt
+  gap-fine last next (some l) k p q = test (leb (n + length l) 8) refl
+    where
+      test : (b : Bool) → leb (n + length l) 8 ≡ b → Fine last (cond b (answer.Gap (made (joined v l) (n + length l)) next) answer.Bad)
+      test true e = unfold made in (made-fine l k, leb-true (n + length l) 8 e, p, q)
+      test false e = tt
 
 pub part-fine : (t : List ℕ) (at : ℕ) → Fine (at + length t) (partFrom 0 0 t at)
 unfolding partFrom
 part-fine t at = go (cut t) refl
   where
     go : (q : Cut) → cut t ≡ q → Fine (at + length t) (partOfCut 0 0 t at q)
-    go whole c = unfold partOfCut in by (groups true (split colon t)) refl
-      where
-        by : (o : Option (List ℕ)) → groups true (split colon t) ≡ o → Fine (at + length t) (toEnd 0 0 o)
-        by none e = unfold toEnd in tt
-        by (some l) e = unfold toEnd in test (leb (0 + length l) 8) refl
-          where
-            test : (b : Bool) → leb (0 + length l) 8 ≡ b → Fine (at + length t) (cond b (answer.Whole (made (joined 0 l) (0 + length l))) answer.Bad)
-            test true h = unfold made in (made-fine true (split colon t) l e, leb-true (0 + length l) 8 h)
-            test false h = tt
-    go (parted a r) c = unfold partOfCut in by (groups false (split colon a)) refl
-      where
-        by : (o : Option (List ℕ)) → groups false (split colon a) ≡ o → Fine (at + length t) (toGap 0 0 (at + length a + 2) o)
-        by none e = unfold toGap in tt
-        by (some l) e = unfold toGap in test (leb (0 + length l) 8) refl
-          where
-            test : (b : Bool) → leb (0 + length l) 8 ≡ b → Fine (at + length t) (cond b (answer.Gap (made (joined 0 l) (0 + length l)) (at + length a + 2)) answer.Bad)
-            test true h = unfold made in (made-fine false (split colon a) l e, leb-true (0 + length l) 8 h, omega (arith, cut-drop t a r c .1))
-            test false h = tt
+    go whole c = unfold partOfCut in end-fine 0 0 (lit< tt) (at + length t) (groups true (split colon t)) (groups-small true (split colon t))
+    go (parted a r) c =
+        unfold partOfCut in
+        gap-fine 0 0 (lit< tt) (at + length t) (at + length a + 2) (groups false (split colon a)) (groups-small false (split colon a)) (omega arith) (omega (arith, cut-drop t a r c .1))
+
+pub start-fine : (s : List ℕ) → Fine (length s) (partAt 0 0 s 0)
+unfolding partAt
+start-fine s = go (dotted s) (dotted-small s)
+  where
+    go : (o : Option (List ℕ)) → AllSmall o → Fine (length s) (mappedOr o (partFrom 0 0 s 0))
+    go none k = unfold mappedOr in (rw (zero-add (length s)) at (part-fine s 0))
+    go (some l) k = unfold mappedOr in end-fine 65535 6 (lit< tt) (length s) (some l) k
 
 -- What the parts make -----------------------------------------------------------------------------------------------------
 
@@ -411,20 +480,40 @@ cut-plain : (x : ℕ) (s : List ℕ) → (begins (x ∷ s) && begins (tail (x �
 unfolding cut begins tail
 cut-plain x s h = rw h
 
-pub read-plain : (s : List ℕ) → (begins s && begins (tail s)) ≡ false → readingOf s ≡ headAnswer s (partFrom 0 0 s 0)
-unfolding readingOf groupsOf partFrom
-read-plain [] h = unfold groupsOfCut cut part eight keyed partOfCut split groups orElse group digits dotted decimals decimal push twoGroups toEnd in refl
-read-plain (x ∷ s) h = rw (cut-plain x s h) (go (cut s) (cut-plain x s h))
+colons-plain : (s : List ℕ) → (begins s && begins (tail s)) ≡ false → keyed (groupsOfColons s) ≡ headAnswer s (partFrom 0 0 s 0)
+unfolding groupsOfColons partFrom
+colons-plain [] h = unfold groupsOfCut cut part eight keyed partOfCut split groups orElse group digits dotted decimals decimal push twoGroups toEnd in refl
+colons-plain (x ∷ s) h = rw (cut-plain x s h) (go (cut s) (cut-plain x s h))
   where
     go : (q : Cut) → cut (x ∷ s) ≡ behind x q → keyed (groupsOfCut (x ∷ s) (behind x q)) ≡ headAnswer (x ∷ s) (partOfCut 0 0 (x ∷ s) 0 (behind x q))
     go whole c = unfold behind groupsOfCut part partOfCut in head-whole (x ∷ s) (groups true (split colon (x ∷ s)))
     go (parted l r) c = unfold behind groupsOfCut part partOfCut in head-gap (x ∷ s) (x ∷ l) r c (groups false (split colon (x ∷ l)))
 
+pub read-plain : (s : List ℕ) → (begins s && begins (tail s)) ≡ false → readingOf s ≡ headAnswer s (partAt 0 0 s 0)
+unfolding partAt
+read-plain s h = go (dotted s) refl
+  where
+    go : (o : Option (List ℕ)) → dotted s ≡ o → readingOf s ≡ headAnswer s (mappedOr o (partFrom 0 0 s 0))
+    go none d = unfold mappedOr in (reading-colons s d ∙ colons-plain s h)
+    go (some l) d = unfold mappedOr in reading-bare (read-dotted s l d)
+
+-- the text begins with "::"
+cut-open : (x y : ℕ) (s : List ℕ) → (begins (x ∷ y ∷ s) && begins (tail (x ∷ y ∷ s))) ≡ true → cut (x ∷ y ∷ s) ≡ parted [] s
+unfolding cut begins tail
+cut-open x y s h = rw h
+
+colons-open : (s t : List ℕ) → cut s ≡ parted [] t → keyed (groupsOfColons s) ≡ afterGap 0 0 t
+unfolding groupsOfColons groupsOfCut part afterGap joined
+colons-open s t c = rw c (filled-key [] (part true t))
+
 pub read-open : (s : List ℕ) → (begins s && begins (tail s)) ≡ true → (2 ≤ length s) × (readingOf s ≡ afterGap 0 0 (drop 2 s))
-unfolding begins tail joined
+unfolding begins tail
 read-open [] h = never h
 read-open (x ∷ []) h = never (sym (and-false (eqb (classOf x) colon)) ∙ h)
-read-open (x ∷ y ∷ s) h = (omega arith, unfold readingOf groupsOf cut begins tail afterGap in rw h (unfold groupsOfCut in (unfold part in filled-key [] (part true s))))
+read-open (x ∷ y ∷ s) h =
+    let t : List ℕ = x ∷ y ∷ s in
+    let c = cut-open x y s h in
+    (omega arith, reading-colons t (cut-undotted t [] s c) ∙ colons-open t s c)
 
 -- by place
 pub opens-short : (s : List ℕ) → length s < 2 → (begins s && begins (tail s)) ≡ false

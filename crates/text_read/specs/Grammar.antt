@@ -1,5 +1,5 @@
--- RFC 4291, section 2.2, once more, as a relation: which texts spell which eight groups. It shares nothing with `Reading`, which computes
--- what this says; theory/Grammar proves that the two agree.
+-- RFC 4291, section 2.2, and four decimals alone, once more, as a relation: which texts spell which eight groups. It shares nothing with `Reading`,
+-- which computes what this says; theory/Grammar proves that the two agree.
 use mathlib.Core.Path.{_≡_}
 use mathlib.Core.Bool.{Bool, true, false}
 use mathlib.Core.List.{List, [], _∷_, _++_}
@@ -43,8 +43,10 @@ pub data Side : Bool → List ℕ → List ℕ → Type 0 where
   empty : {end : Bool} → Side end [] []
   full : {end : Bool} {s l : List ℕ} → Groups end s l → Side end s l
 
--- eight groups; or fewer, with "::" for one or more zero groups, once
+-- eight groups; or fewer, with "::" for one or more zero groups, once; or "d.d.d.d" alone, the last two groups of an address under ::ffff:0:0/96
+-- (clauses 9.2 and 9.3)
 pub data Spells : List ℕ → List ℕ → Type 0 where
   plain : {s l : List ℕ} → Groups true s l → length l ≡ 8 → Spells s l
   gap : {s t a b : List ℕ} → Side false s a → Side true t b → length a + length b < 8
       → Spells (s ++ 58 ∷ 58 ∷ t) (a ++ replicate (8 - (length a + length b)) 0 ++ b)
+  bare : {s l : List ℕ} → Dotted s l → Spells s (replicate 5 0 ++ 65535 ∷ l)

@@ -10,7 +10,7 @@ use Rattle.keys.specs.Key.{keyOf}
 use Rattle.settings.specs.declared.refusal.Refusal.the-variants as refusal
 use Rattle.text_read.specs.Class.{classOf, colon, dot}
 use Rattle.text_read.specs.Numerals.{group, decimal}
-use Rattle.text_read.specs.Reading.{split, decimals, groups, part, Cut, whole, parted, cut, joined}
+use Rattle.text_read.specs.Reading.{split, decimals, dotted, groups, part, Cut, whole, parted, cut, joined}
 use Rattle.text_read.specs.declared.Parsed.{Parsed}
 use Rattle.text_read.specs.declared.Parsed.the-variants as parsed
 use Rattle.text_read.specs.declared.reader.Numeral.{Numeral}
@@ -105,6 +105,15 @@ partOfCut v n t at (parted l r) = toGap v n (at + length l + 2) (groups false (s
 unfoldable pub partFrom : ℕ → ℕ → List ℕ → ℕ → Part
 partFrom v n t at = partOfCut v n t at (cut t)
 
+-- the two groups of a dotted text behind those of ::ffff:0:0/96, six with the number ffff; or else this part
+unfoldable pub mappedOr : Option (List ℕ) → Part → Part
+mappedOr none p = p
+mappedOr (some l) p = toEnd 65535 6 (some l)
+
+-- the same, but a dotted text at 0, which is the whole text, is the mapped address that ends in it
+unfoldable pub partAt : ℕ → ℕ → List ℕ → ℕ → Part
+partAt v n t at = cond (eqb at 0) (mappedOr (dotted t) (partFrom v n t at)) (partFrom v n t at)
+
 -- eight groups, of which n with the number v stand before "::", and m with the number w behind it
 unfoldable pub filledWith : ℕ → ℕ → ℕ → ℕ → Parsed
 filledWith v n w m = cond (ltb (n + m) 8) (parsed.Key (keyOf (v * 65536 ^ (8 - n) + w))) (parsed.Refused refusal.Text)
@@ -123,8 +132,8 @@ headAnswer s answer.Bad = parsed.Refused refusal.Text
 headAnswer s (answer.Whole g) = cond (eqb (g .count) 8) (parsed.Key (keyOf (numberOf g))) (parsed.Refused refusal.Text)
 headAnswer s (answer.Gap g next) = afterGap (numberOf g) (g .count) (drop next s)
 
--- groups of a part: eight at most, and within the text
+-- groups of a part: eight at most; "::" ends within the text, and behind its start
 abbrev pub Fine : ℕ → Part → Type 0
 Fine last answer.Bad = Unit {0}
 Fine last (answer.Whole g) = Sized g × (g .count ≤ 8)
-Fine last (answer.Gap g next) = Sized g × (g .count ≤ 8) × (next ≤ last)
+Fine last (answer.Gap g next) = Sized g × (g .count ≤ 8) × (0 < next) × (next ≤ last)

@@ -96,9 +96,24 @@ unfoldable pub groupsOfCut : List ℕ → Cut → Option (List ℕ)
 groupsOfCut s whole = eight (part true s)
 groupsOfCut s (parted l r) = filled (part false l) (part true r)
 
--- the eight groups that a legal text spells
+-- the eight groups of a text in one of the RFC's three forms
+unfoldable pub groupsOfColons : List ℕ → Option (List ℕ)
+groupsOfColons s = groupsOfCut s (cut s)
+
+-- A bare dotted text: "d.d.d.d" alone -----------------------------------------------------------------------------------
+
+-- clause 9.3: the mapped address with that tail, under ::ffff:0:0/96: its two groups stand behind five zero groups and ffff
+unfoldable pub mapped : Option (List ℕ) → Option (List ℕ)
+mapped none = none
+mapped (some l) = some (replicate 5 0 ++ 65535 ∷ l)
+
+unfoldable pub firstOf : Option (List ℕ) → Option (List ℕ) → Option (List ℕ)
+firstOf (some l) r = some l
+firstOf none r = r
+
+-- the eight groups that a legal text spells. No text is both: without a colon there are not eight groups
 unfoldable pub groupsOf : List ℕ → Option (List ℕ)
-groupsOf s = groupsOfCut s (cut s)
+groupsOf s = firstOf (groupsOfColons s) (mapped (dotted s))
 
 -- the number that groups stand for, where v stands before them
 unfoldable pub joined : ℕ → List ℕ → ℕ

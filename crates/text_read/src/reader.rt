@@ -9,7 +9,7 @@ ghost use Rattle.settings.specs.declared.refusal.Refusal.the-variants as refusa
 ghost use Rattle.text_read.specs.Class.{colon, dot};
 ghost use Rattle.text_read.specs.Reading.{begins, tail, dotted as dottedGroups};
 ghost use Rattle.text_read.specs.Answers.{readingOf};
-ghost use Rattle.text_read.specs.ReaderSteps.{Classes, Five, Sized, Fine, headAnswer, byLength, until, numeralOf, groupIn, decimalIn, dottedFrom, numberOf, made, toEnd, partFrom, filledWith, afterGap};
+ghost use Rattle.text_read.specs.ReaderSteps.{Classes, Five, Sized, Fine, headAnswer, byLength, until, numeralOf, groupIn, decimalIn, dottedFrom, numberOf, made, toEnd, partAt, filledWith, afterGap};
 ghost use Rattle.text_read.specs.declared.Parsed.the-variants as parsed;
 ghost use Rattle.text_read.specs.declared.reader.Numeral.the-variants as numeral;
 use crate::Parsed;
@@ -39,6 +39,13 @@ const NO_GROUPS: Groups = Groups {
     high: 0,
     low: 0,
     count: 0,
+};
+
+// Before the dotted tail of an address under ::ffff:0:0/96: five zero groups, and ffff.
+const PREFIX: Groups = Groups {
+    high: 0,
+    low: 0xffff,
+    count: 6,
 };
 
 // Groups parted by single colons.
@@ -139,11 +146,11 @@ fn decimal(table: &[u8; 256], text: &[u8], at: usize) -> Numeral
     ended(value, at + 3, class_at(table, text, at + 3, DOT), DOT)
 }
 
-// The number of `count` decimals that end the text at `next`: there must be four.
-fn four(value: u64, count: usize, next: usize) -> Numeral
-    ensures { λ r. ⌜ r ≡ cond (eqb count 4) (numeral.Value value next) numeral.Bad ⌝ }
+// The number of n decimals that end the text at `next`: there must be four.
+fn four(value: u64, n: usize, next: usize) -> Numeral
+    ensures { λ r. ⌜ r ≡ cond (eqb n 4) (numeral.Value value next) numeral.Bad ⌝ }
 {
-    if count == 4 {
+    if n == 4 {
         return Numeral::Value { value, next };
     }
     Numeral::Bad
@@ -177,15 +184,25 @@ fn dotted(table: &[u8; 256], text: &[u8], from: usize) -> Numeral
     }
 }
 
-// One group more. 281474976710656 is 2^48: the first group of the low half goes over to the high half.
-fn pushed(groups: Groups, group: u64) -> Groups
-    requires { ⌜ Sized groups × (groups .count ≤ 7) × (group < 65536) ⌝ }
-    ensures { λ r. ⌜ r ≡ made (numberOf groups * 65536 + group) (groups .count + 1) ⌝ }
+// 65536^n. A product, a quotient or a remainder by it is compiled to a shift or a mask.
+fn power(n: usize) -> u64
+    requires { ⌜ n < 4 ⌝ }
+    ensures { λ r. ⌜ r ≡ 65536 ^ n ⌝ }
 {
+    1 << (16 * n)
+}
+
+// n groups more, one to three, that stand for the number x: the first n of the low half go over to the high half.
+fn pushed(groups: Groups, n: usize, x: u64) -> Groups
+    requires { ⌜ Sized groups × (1 ≤ n) × (n ≤ 3) × (groups .count + n ≤ 8) × (x < 65536 ^ n) ⌝ }
+    ensures { λ r. ⌜ r ≡ made (numberOf groups * 65536 ^ n + x) (groups .count + n) ⌝ }
+{
+    let up = power(n);
+    let over = power(4 - n);
     Groups {
-        high: groups.high * 65536 + groups.low / 281474976710656,
-        low: groups.low % 281474976710656 * 65536 + group,
-        count: groups.count + 1,
+        high: groups.high * up + groups.low / over,
+        low: groups.low % over * up + x,
+        count: groups.count + n,
     }
 }
 
@@ -199,30 +216,38 @@ fn with_tail(table: &[u8; 256], text: &[u8], at: usize, groups: Groups) -> Part
     }
     match dotted(table, text, at) {
         Numeral::Bad => Part::Bad,
-        Numeral::Value { value, next } => Part::Whole(pushed(
-            pushed(groups, value / 65536),
-            value % 65536,
-        )),
+        Numeral::Value { value, next } => Part::Whole(pushed(groups, 2, value)),
     }
+}
+
+// The groups that stand before a dotted tail at `at`. Where the text begins with it, it stands alone, and is read as the
+// mapped address that ends in it.
+fn before_tail(at: usize, groups: Groups) -> Groups
+    ensures { λ r. ⌜ r ≡ cond (eqb at 0) (made 65535 6) groups ⌝ }
+{
+    if at == 0 {
+        return PREFIX;
+    }
+    groups
 }
 
 // The groups from `from` on, up to "::" or the end of the text.
 fn read_part(table: &[u8; 256], text: &[u8], from: usize) -> Part
     requires { ⌜ Classes (now table) × (from ≤ length (now text)) ⌝ }
-    ensures { λ r. ⌜ r ≡ partFrom 0 0 (drop from (now (text .entry))) from ⌝ }
+    ensures { λ r. ⌜ r ≡ partAt 0 0 (drop from (now (text .entry))) from ⌝ }
 {
     let mut groups = NO_GROUPS;
     let mut at = from;
     loop {
         match group(table, text, at) {
             Numeral::Bad => {
-                return with_tail(table, text, at, groups);
+                return with_tail(table, text, at, before_tail(at, groups));
             }
             Numeral::Value { value, next } => {
                 if 7 < groups.count {
                     return Part::Bad;
                 }
-                groups = pushed(groups, value);
+                groups = pushed(groups, 1, value);
                 if next == text.len() {
                     return Part::Whole(groups);
                 }
@@ -266,14 +291,6 @@ fn eight(groups: Groups) -> Parsed
     refused()
 }
 
-// 65536^n. A product, a quotient or a remainder by it is compiled to a shift or a mask.
-fn power(n: usize) -> u64
-    requires { ⌜ n < 4 ⌝ }
-    ensures { λ r. ⌜ r ≡ 65536 ^ n ⌝ }
-{
-    1 << (16 * n)
-}
-
 // At most four groups before "::": the high half takes them all. If there are none, zero moves by nothing.
 fn raised(head: Groups, tail: Groups) -> Parsed
     requires { ⌜ Sized head × Sized tail × (head .count ≤ 4) × (head .count + tail .count ≤ 7) ⌝ }
@@ -314,7 +331,7 @@ fn filled(head: Groups, tail: Groups) -> Parsed
 // The address whose groups before "::" are read. One part follows, or nothing: a second "::" is not legal. Here and in
 // `first_part` the slice is taken anew for the part, so that it stays in registers.
 fn after_gap(table: &[u8; 256], text: &[u8], at: usize, head: Groups) -> Parsed
-    requires { ⌜ Classes (now table) × (at ≤ length (now text)) × Sized head × (head .count ≤ 8) ⌝ }
+    requires { ⌜ Classes (now table) × (0 < at) × (at ≤ length (now text)) × Sized head × (head .count ≤ 8) ⌝ }
     ensures { λ r. ⌜ r ≡ afterGap (numberOf head) (head .count) (drop at (now (text .entry))) ⌝ }
 {
     if at == text.len() {

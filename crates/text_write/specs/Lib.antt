@@ -1,4 +1,6 @@
 -- Definitions: what a reader must believe.
+pub mod Ascii
+pub mod Decimal
 pub mod Writing
 pub mod Answers
 -- Words of contracts behind `write`.

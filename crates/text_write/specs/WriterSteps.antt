@@ -1,21 +1,24 @@
 -- Words that only the contracts of the functions behind `write` use.
 use mathlib.Core.Path.{_≡_}
-use Prim.Native.Nat.{ℕ, _+_, _*_, _/_, _%_, _≤_, _<_}
+use Prim.Native.Nat.{ℕ, _+_, _-_, _*_, _/_, _%_, _^_, _≤_, _<_}
 use mathlib.Core.Bool.{cond}
 use mathlib.Core.List.{List, [], _∷_, _++_}
-use lib.ListN.{take, drop}
+use lib.ListN.{length, take, drop}
 use lib.Dec.{leb}
 use Rattle.keys.specs.declared.Key.{Key}
+use Rattle.text_write.specs.Decimal.{decimalText}
+use Rattle.text_write.specs.declared.mapped.Ends.{Ends}
 use Rattle.text_write.specs.Writing.{groupText, fourGroups, zeros, longest}
 
 -- the eight groups of a key
 unfoldable pub keyGroups : Key → List ℕ
 keyGroups k = fourGroups (k .high) ++ fourGroups (k .low)
 
--- four bytes as one number, the first in the lowest place, and back
+-- four bytes as one number, the first in the lowest place
 abbrev pub packed : ℕ → ℕ → ℕ → ℕ → ℕ
 packed a b c d = a + b * 256 + c * 65536 + d * 16777216
 
+-- and back
 abbrev pub unpacked : ℕ → List ℕ
 unpacked x = x % 256 ∷ x / 256 % 256 ∷ x / 65536 % 256 ∷ x / 16777216 % 256 ∷ []
 
@@ -39,3 +42,15 @@ pub record Puts (text : List ℕ) (most : ℕ) (before after : List ℕ) (r : �
   pub within : r ≤ most
   pub is : take r after ≡ text
   pub kept : drop most after ≡ drop most before
+
+-- the text ends before `end`, from where on nothing has changed; the bytes before it are free
+pub record PutsBack (text : List ℕ) (end : ℕ) (before after : List ℕ) : Type 0 where
+  pub within : length text ≤ end
+  pub is : drop (end - length text) after ≡ text ++ drop end before
+
+-- where the decimals of a mapped text end: the first begins at 7, and each other behind a dot
+pub record EndsOf (low : ℕ) (e : Ends) : Type 0 where
+  pub first : e .first ≡ 7 + length (decimalText (low % 2 ^ 32 / 2 ^ 24))
+  pub second : e .second ≡ e .first + 1 + length (decimalText (low % 2 ^ 32 / 2 ^ 16 % 256))
+  pub third : e .third ≡ e .second + 1 + length (decimalText (low % 2 ^ 32 / 2 ^ 8 % 256))
+  pub last : e .last ≡ e .third + 1 + length (decimalText (low % 2 ^ 32 % 256))

@@ -1,9 +1,12 @@
--- The one text in which an address is written: RFC 5952, sections 4.1 to 4.3, always in hexadecimal groups (clause 9.5).
-use Prim.Native.Nat.{ℕ, _+_, _/_, _%_, _^_}
-use mathlib.Core.Bool.{cond}
+-- The one text in which an address is written (clause 9.5): RFC 5952, sections 4.1 to 4.3, in hexadecimal groups; under ::ffff:0:0/96 the last two
+-- as four decimals, which section 5 recommends.
+use Prim.Native.Nat.{ℕ, _+_, _*_, _/_, _%_, _^_}
+use mathlib.Core.Bool.{Bool, cond}
 use mathlib.Core.List.{List, [], _∷_, _++_, map}
 use lib.ListN.{take, drop}
 use lib.Dec.{leb, ltb, eqb}
+use Rattle.text_write.specs.Ascii.{ascii}
+use Rattle.text_write.specs.Decimal.{decimalText}
 
 -- 4.3: "The characters "a", "b", "c", "d", "e", and "f" in an IPv6 address MUST be represented in lowercase." '0' is 48 and 'a' 97
 unfoldable pub hexDigit : ℕ → ℕ
@@ -48,6 +51,19 @@ textOf l =
 unfoldable pub fourGroups : ℕ → List ℕ
 fourGroups x = x / 2 ^ 48 ∷ x / 2 ^ 32 % 65536 ∷ x / 65536 % 65536 ∷ x % 65536 ∷ []
 
+-- the address high * 2 ^ 64 + low is under ::ffff:0:0/96: its first 96 bits are ffff
+unfoldable pub isMapped : ℕ → ℕ → Bool
+isMapped high low = eqb ((high * 2 ^ 64 + low) / 2 ^ 32) 65535
+
+-- "d.d.d.d": the four bytes of a number in decimal, with dots (46) between
+unfoldable pub dottedText : ℕ → List ℕ
+dottedText x =
+    decimalText (x / 2 ^ 24) ++ 46 ∷ decimalText (x / 2 ^ 16 % 256) ++ 46 ∷ decimalText (x / 2 ^ 8 % 256) ++ 46 ∷ decimalText (x % 256)
+
+-- 5: the dotted tail is the last 32 bits
+unfoldable pub mappedText : ℕ → List ℕ
+mappedText low = ascii "::ffff:" ++ dottedText (low % 2 ^ 32)
+
 -- the text of the address high * 2 ^ 64 + low
 unfoldable pub written : ℕ → ℕ → List ℕ
-written high low = textOf (fourGroups high ++ fourGroups low)
+written high low = cond (isMapped high low) (mappedText low) (textOf (fourGroups high ++ fourGroups low))

@@ -1,4 +1,6 @@
 // Writing IPv6 text: one spelling of each address.
+mod four;
+mod mapped;
 mod writer;
 
 use settings::Refusal;

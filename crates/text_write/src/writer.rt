@@ -1,17 +1,21 @@
-// Writing: the text of a key is put together in a local array, and copied once its length is known,
-// so that a refusal touches nothing. What stands in the array behind the text is of no account, so
-// four digits are stored where fewer count.
+// Writing: the text of a key in hexadecimal groups is put together in a local array, and copied once
+// its length is known, so that a refusal touches nothing. What stands in the array behind the text is
+// of no account, so four digits are stored where fewer count.
 ghost use mathlib.Core.Path.{_≡_};
 ghost use Prim.Native.Nat.{_+_, _-_, _*_, _/_, _%_, _<_, _≤_};
 ghost use mathlib.Core.List.{[], _∷_, _++_};
-ghost use mathlib.Core.Bool.{cond};
+ghost use mathlib.Core.Bool.{true, false, cond};
 ghost use lib.ListN.{length, take, drop, getD};
 ghost use lib.Dec.{eqb};
-ghost use Rattle.text_write.specs.Writing.{hexDigit, groupText, partText, textOf};
-ghost use Rattle.text_write.specs.WriterSteps.{Gap, Puts, keyGroups, packed, unpacked, closedText, runMarks};
+ghost use Rattle.text_write.specs.Writing.{hexDigit, groupText, partText, textOf, isMapped, written};
+ghost use Rattle.text_write.specs.WriterSteps.{Gap, Puts, keyGroups, packed, closedText, runMarks};
 ghost use Rattle.settings.specs.Reply.{Gives};
 ghost use Rattle.text_write.specs.Answers.{writeCall};
 use crate::Written;
+use crate::four::put_four;
+use crate::mapped::decimal_ends;
+use crate::mapped::is_mapped;
+use crate::mapped::put_mapped;
 use keys::Key;
 use settings::Refusal;
 
@@ -63,21 +67,13 @@ fn digit_count(group: u32) -> u32
     (35 - u32::leading_zeros(group / 2 * 2 + 1)) / 4
 }
 
-// The four bytes of a number, the lowest first.
-fn put_four(text: &mut [u8], at: usize, x: u32)
-    requires { ⌜ at + 4 ≤ length (now text) ⌝ }
-    ensures { λ r. ⌜ Puts (take at (now (text .entry)) ++ unpacked x) (at + 4) (now (text .entry)) (now (text .exit)) (at + 4) ⌝ }
-{
-    bits::store_four(text, at, x as u64);
-}
-
 // A group and a colon. The group is moved up, so that its first digit that counts comes first.
 fn put_group(text: &mut [u8], at: usize, group: u32) -> usize
     requires { ⌜ (group < 65536) × (at + 5 ≤ length (now text)) ⌝ }
     ensures { λ r. ⌜ Puts (take at (now (text .entry)) ++ (groupText group ++ 58 ∷ [])) (at + 5) (now (text .entry)) (now (text .exit)) r ⌝ }
 {
     let n = digit_count(group);
-    put_four(text, at, characters(group << (16 - 4 * n)));
+    put_four(text, at, characters(group << (16 - 4 * n)) as u64);
     let end = at + n as usize;
     text[end] = b':';
     end + 1
@@ -166,10 +162,8 @@ fn longest_run(key: Key) -> Run
     }
 }
 
-// The text of a key, and its length. What the rest of the first 40 bytes holds is left free: four
-// digits are stored where fewer count, and a colon after the last group. Callers read the text alone,
-// or write on behind it. The bytes from place 40 on stay as they are.
-pub fn put_text(text: &mut [u8], key: Key) -> usize
+// The text of a key in hexadecimal groups, and its length.
+fn put_hexadecimal(text: &mut [u8], key: Key) -> usize
     requires { ⌜ 40 ≤ length (now text) ⌝ }
     ensures { λ r. ⌜ Puts (textOf (keyGroups key)) 40 (now (text .entry)) (now (text .exit)) r ⌝ }
 {
@@ -184,6 +178,19 @@ pub fn put_text(text: &mut [u8], key: Key) -> usize
     put_back(text, end + 1, key, start + count)
 }
 
+// The text of a key, and its length. What the rest of the first 40 bytes holds is left free: four
+// digits are stored where fewer count, and a colon after the last group. Callers read the text alone,
+// or write on behind it. The bytes from place 40 on stay as they are.
+pub fn put_text(text: &mut [u8], key: Key) -> usize
+    requires { ⌜ 40 ≤ length (now text) ⌝ }
+    ensures { λ r. ⌜ Puts (written (key .high) (key .low)) 40 (now (text .entry)) (now (text .exit)) r ⌝ }
+{
+    if is_mapped(key) {
+        return put_mapped(text, key.low, decimal_ends(key.low));
+    }
+    put_hexadecimal(text, key)
+}
+
 // The first n bytes; the rest of `out` is left as it is.
 fn copy(text: &[u8], n: usize, out: &mut [u8])
     requires { ⌜ (n ≤ length (now text)) × (n ≤ length (now out)) ⌝ }
@@ -196,16 +203,39 @@ fn copy(text: &[u8], n: usize, out: &mut [u8])
     }
 }
 
-// Writes the text of a key, if it fits.
-pub fn write(key: Key, out: &mut [u8]) -> Written
+// Writes the text of a mapped address, if it fits.
+fn write_mapped(key: Key, out: &mut [u8]) -> Written
+    requires { ⌜ isMapped (key .high) (key .low) ≡ true ⌝ }
+    ensures { λ r. ⌜ Gives (writeCall key (now (out .entry))) r (now (out .exit)) ⌝ }
+{
+    let ends = decimal_ends(key.low);
+    if out.len() < ends.last {
+        return Written::Refused(Refusal::Output);
+    }
+    Written::Length(put_mapped(out, key.low, ends))
+}
+
+// Writes the text of any other address, if it fits.
+fn write_hexadecimal(key: Key, out: &mut [u8]) -> Written
+    requires { ⌜ isMapped (key .high) (key .low) ≡ false ⌝ }
     ensures { λ r. ⌜ Gives (writeCall key (now (out .entry))) r (now (out .exit)) ⌝ }
 {
     // At most 39 bytes, and the colon that is left out again.
     let mut text = [0u8; 40];
-    let n = put_text(&mut text, key);
+    let n = put_hexadecimal(&mut text, key);
     if out.len() < n {
         return Written::Refused(Refusal::Output);
     }
     copy(&text, n, out);
     Written::Length(n)
+}
+
+// Writes the text of a key, if it fits.
+pub fn write(key: Key, out: &mut [u8]) -> Written
+    ensures { λ r. ⌜ Gives (writeCall key (now (out .entry))) r (now (out .exit)) ⌝ }
+{
+    if is_mapped(key) {
+        return write_mapped(key, out);
+    }
+    write_hexadecimal(key, out)
 }

@@ -9,6 +9,9 @@ use Rattle.settings.specs.Reply.{Reply}
 use Rattle.table.specs.Calls.{Verb}
 use Rattle.table.specs.declared.answers.Answer as table
 use Rattle.text_read.specs.Answers.{readingOf}
+use Rattle.text_read.specs.Grammar.{Dotted}
+use Rattle.text_write.specs.Ascii.{ascii}
+use Rattle.text_calls.specs.theory.Mapped.{bare-mapped}
 use Rattle.text_calls.specs.TextCalls.{textCall}
 use Rattle.plain_set.specs.Set.{Answer}
 use Rattle.plain_set.specs.Plain.{plain}
@@ -29,6 +32,10 @@ lending c n = record { call = c; lent = n }
 pub data SameCalls : List Lending → List Lending → Type 0 where
   no-calls : SameCalls [] []
   one-more : {c d : Asked} {n : ℕ} {cs ds : List Lending} → SameCall c d → SameCalls cs ds → SameCalls (lending c n ∷ cs) (lending d n ∷ ds)
+
+-- a bare dotted text, and the same behind "::ffff:"
+pub bare-spelling : (v : Verb) {x l : List ℕ} → Dotted x l → SameCall (byText v (ascii "::ffff:" ++ x)) (byText v x)
+bare-spelling v d = respelled (bare-mapped d)
 
 module _ (s : Settings) where
   -- What a list of calls answers and leaves -------------------------------------------------------------------------------------
@@ -69,3 +76,9 @@ module _ (s : Settings) where
   same-memory t no-calls = refl
   same-memory t (one-more {c = c} {d = d} {n = n} {cs = cs} w ws) =
       ap (λ (u : List ℕ). memoryAfterAll u cs) (same-front t n w) ∙ same-memory (memoryAfter s t (lending d n)) ws
+
+  -- A bare dotted text ------------------------------------------------------------------------------------------------------
+
+  -- it and its mapped spelling are one entry: a call with the one is the call with the other, in answer and bytes, on any table
+  pub one-entry : (t : List ℕ) (v : Verb) {x l : List ℕ} → Dotted x l → tableCall s t (byText v (ascii "::ffff:" ++ x)) ≡ tableCall s t (byText v x)
+  one-entry t v d = same-call t (bare-spelling v d)

@@ -8,9 +8,9 @@ use native.Mathlib.Omega.{arith}
 use lib.ListN.{length, take, drop, replicate, length-append, length-replicate}
 use lib.Dec.{lit<}
 use Rattle.text_read.specs.Reading.{groupsOf, joined}
-use Rattle.text_read.specs.Grammar.{Group, hex1, hex2, hex3, hex4, Decimal, dec1, dec2, dec3, four, Groups, one, two, more, Side, empty, full, Spells, plain, gap}
+use Rattle.text_read.specs.Grammar.{Group, hex1, hex2, hex3, hex4, Decimal, dec1, dec2, dec3, Dotted, four, Groups, one, two, more, Side, empty, full, Spells, plain, gap, bare}
 use Rattle.text_read.specs.theory.Bytes.{digit-below}
-use Rattle.text_read.specs.theory.Grammar.{read-spells}
+use Rattle.text_read.specs.theory.Grammar.{dotted-two, read-spells}
 use Rattle.text_read.specs.theory.Joined.{Small, joined-lt}
 
 -- small groups, in lists that are put together and taken apart
@@ -39,15 +39,17 @@ group-small (hex2 a b) = omega (arith, digit-below a, digit-below b)
 group-small (hex3 a b c) = omega (arith, digit-below a, digit-below b, digit-below c)
 group-small (hex4 a b c d) = omega (arith, digit-below a, digit-below b, digit-below c, digit-below d)
 
-decimal-small : {s : List ℕ} {v : ℕ} → Decimal s v → v ≤ 255
+pub decimal-small : {s : List ℕ} {v : ℕ} → Decimal s v → v ≤ 255
 decimal-small (dec1 a h) = omega arith
 decimal-small (dec2 a b f h k) = omega arith
 decimal-small (dec3 a b c f h k l m) = m
 
+dotted-small : {s l : List ℕ} → Dotted s l → Small l
+dotted-small (four p q r w) = (omega (arith, decimal-small p, decimal-small q), (omega (arith, decimal-small r, decimal-small w), tt))
+
 groups-small : {end : Bool} {s l : List ℕ} → Groups end s l → Small l
 groups-small (one r) = (group-small r, tt)
-groups-small (two (four p q r w)) =
-    (omega (arith, decimal-small p, decimal-small q), (omega (arith, decimal-small r, decimal-small w), tt))
+groups-small (two r) = dotted-small r
 groups-small (more r rest) = (group-small r, groups-small rest)
 
 side-small : {end : Bool} {s l : List ℕ} → Side end s l → Small l
@@ -62,6 +64,8 @@ spells-small (gap {a = a} {b = b} p q h) =
       small-append (a ++ replicate n 0) b (small-append a (replicate n 0) (side-small p) (small-zeros n)) (side-small q),
       omega (arith, length-append (a ++ replicate n 0) b, length-append a (replicate n 0), length-replicate {A = ℕ} n 0),
     )
+spells-small (bare {l = l} r) =
+    (small-append (replicate 5 0) (65535 ∷ l) (small-zeros 5) (lit< tt, dotted-small r), omega (arith, dotted-two r))
 
 -- eight groups make a number below 2 ^ 128
 pub eight-below : (l : List ℕ) → Small l → length l ≡ 8 → joined 0 l < 2 ^ 128

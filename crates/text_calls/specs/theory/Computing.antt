@@ -4,12 +4,13 @@ use Prim.Native.Nat.{ℕ}
 use Rattle.keys.specs.Key.{keyOf}
 use Rattle.text_read.specs.Class.{classOf}
 use Rattle.text_read.specs.Numerals.{digits, number, group, noLeadingZero, decimal}
-use Rattle.text_read.specs.Reading.{onFirst, split, push, decimals, twoGroups, dotted, orElse, groups, part, behind, begins, tail, cut, eight, filled, groupsOfCut, groupsOf, joined}
+use Rattle.text_read.specs.Reading.{onFirst, split, push, decimals, twoGroups, dotted, orElse, groups, part, behind, begins, tail, cut, eight, filled, groupsOfCut, groupsOfColons, mapped, firstOf, groupsOf, joined}
 use Rattle.text_read.specs.Answers.{keyed, readingOf}
 use Rattle.text_read.specs.declared.Parsed.{Parsed}
 use Rattle.text_read.specs.declared.Parsed.the-variants as parsed
-use Rattle.text_write.specs.Writing.{hexDigit, trimmed, groupText, trailing, partText, zeros, longest, textOf, fourGroups, written}
-use Rattle.text_calls.specs.Ascii.{ascii}
+use Rattle.text_write.specs.Decimal.{decimalFrom, decimalText}
+use Rattle.text_write.specs.Writing.{hexDigit, trimmed, groupText, trailing, partText, zeros, longest, textOf, fourGroups, isMapped, dottedText, mappedText, written}
+use Rattle.text_write.specs.Ascii.{ascii}
 
 -- the text that an address is written as, once it is read; nothing for what is refused
 abbrev pub again : Parsed → List ℕ
@@ -20,5 +21,6 @@ again (parsed.Refused r) = []
 unfoldable pub computing : Unit {0}
 unfolding
     classOf digits number group noLeadingZero decimal onFirst split push decimals twoGroups dotted orElse groups part behind begins tail cut eight filled
-    groupsOfCut groupsOf joined hexDigit trimmed groupText trailing partText zeros longest textOf fourGroups written keyed readingOf keyOf ascii
+    groupsOfCut groupsOfColons mapped firstOf groupsOf joined hexDigit trimmed groupText trailing partText zeros longest textOf fourGroups decimalFrom
+    decimalText isMapped dottedText mappedText written keyed readingOf keyOf ascii
 computing = tt

@@ -6,7 +6,7 @@ use Prim.Native.Nat.{ℕ}
 use Prim.Native.String.{String}
 use Rattle.text_read.specs.Reading.{groupsOf}
 use Rattle.text_read.specs.Answers.{readingOf}
-use Rattle.text_calls.specs.Ascii.{ascii}
+use Rattle.text_write.specs.Ascii.{ascii}
 use Rattle.text_calls.specs.theory.Computing.{again, computing}
 
 -- texts and the groups that they spell: RFC 4291, section 2.2
@@ -70,21 +70,45 @@ forms =
     ∷ ("2001:db8::1:1:1:1:1", "2001:db8:0:1:1:1:1:1")
     -- 4.2.3
     ∷ ("2001:0:0:1:0:0:0:1", "2001:0:0:1::1")
-    -- section 5 of the RFC allows decimals here; clause 9.5 does not
-    ∷ ("::ffff:192.0.2.1", "::ffff:c000:201")
-    ∷ ("0:0:0:0:0:ffff:192.0.2.1", "::ffff:c000:201")
+    -- 5, under ::ffff:0:0/96
+    ∷ ("::ffff:192.0.2.1", "::ffff:192.0.2.1")
+    ∷ ("0:0:0:0:0:ffff:192.0.2.1", "::ffff:192.0.2.1")
     ∷ []
 
 pub forms-written : map (λ e. again (readingOf (ascii (e .0)))) forms ≡ map (λ e. ascii (e .1)) forms
 unfolding computing
 forms-written = refl
 
+-- the same for mapped addresses and those beside them: clauses 9.3 and 9.5
+abbrev pub mapped : List (String × String)
+mapped =
+    ("192.0.2.1", "::ffff:192.0.2.1")
+    ∷ ("::ffff:c000:201", "::ffff:192.0.2.1")
+    ∷ ("::FFFF:C000:201", "::ffff:192.0.2.1")
+    ∷ ("0.0.0.0", "::ffff:0.0.0.0")
+    ∷ ("255.255.255.255", "::ffff:255.255.255.255")
+    ∷ ("::ffff:a09:6309", "::ffff:10.9.99.9")
+    -- not under ::ffff:0:0/96
+    ∷ ("::192.0.2.1", "::c000:201")
+    ∷ ("::1.2.3.4", "::102:304")
+    ∷ ("::fffe:192.0.2.1", "::fffe:c000:201")
+    ∷ ("::1:ffff:192.0.2.1", "::1:ffff:c000:201")
+    ∷ ("::ffff:0:192.0.2.1", "::ffff:0:c000:201")
+    ∷ ("1::ffff:192.0.2.1", "1::ffff:c000:201")
+    ∷ ("64:ff9b::192.0.2.33", "64:ff9b::c000:221")
+    ∷ []
+
+pub mapped-written : map (λ e. again (readingOf (ascii (e .0)))) mapped ≡ map (λ e. ascii (e .1)) mapped
+unfolding computing
+mapped-written = refl
+
 -- texts that are not legal: "::" stands once, and for one group at least; there are eight groups of one to four digits; four decimals, from 0 to
--- 255 without leading zeros, come last, and not alone; there is neither a zone nor a prefix length
+-- 255 without leading zeros, come last, behind a colon or alone; there is neither a zone nor a prefix length
 abbrev pub illegal : List String
 illegal =
     "" ∷ ":" ∷ ":::" ∷ "1::2::3" ∷ "1:::2" ∷ ":1:2:3:4:5:6:7" ∷ "1:2:3:4:5:6:7:" ∷ "1:2:3:4:5:6:7" ∷ "1:2:3:4:5:6:7:8:9" ∷ "1:2:3:4::5:6:7:8"
-    ∷ "12345::" ∷ "::g" ∷ "192.0.2.1" ∷ "::192.0.2" ∷ "::192.0.2.1.1" ∷ "::192.0..1" ∷ "::192.0.2.01" ∷ "::192.0.2.00" ∷ "::192.0.2.1a"
+    ∷ "12345::" ∷ "::g" ∷ "::192.0.2" ∷ "::192.0.2.1.1" ∷ "::192.0..1" ∷ "::192.0.2.01" ∷ "::192.0.2.00" ∷ "::192.0.2.1a"
+    ∷ "1.2.3" ∷ "1.2.3.4.5" ∷ "01.2.3.4" ∷ "1.2.3.256" ∷ "1.2.3." ∷ ".1.2.3.4" ∷ "1.2.3.4::" ∷ "1.2.3.4:5" ∷ "a.2.3.4" ∷ "1.2.3.4 "
     ∷ "::192.0.2.1:1" ∷ "192.0.2.1::" ∷ "1:2:3:4:5:6:7:192.0.2.1" ∷ "fe80::1%1" ∷ "2001:db8::/32" ∷ " ::1" ∷ []
 
 pub illegal-refused : map (λ s. groupsOf (ascii s)) illegal ≡ map (λ s. none) illegal

@@ -12,7 +12,7 @@ use Rattle.text_read.specs.theory.Bytes.{digit-below}
 use Rattle.text_read.specs.theory.Joined.{Small}
 use Rattle.text_write.specs.Writing.{hexDigit, trimmed, groupText, trailing, partText}
 use Rattle.text_write.specs.theory.Digits.{text-1, text-2, text-3, text-4}
-use Rattle.text_calls.specs.Canonical.{Field, Fields, none, last, next}
+use Rattle.text_calls.specs.Canonical.{Field, hexadecimal, Fields, none, last, next}
 use Rattle.text_calls.specs.theory.Texts.{group-written}
 
 -- A field ---------------------------------------------------------------------------------------------------------------
@@ -31,7 +31,7 @@ not-zero (upperCase a h) z = omega arith
 not-zero (lowerCase a h) z = omega arith
 
 -- the text of a field is what is written for its group
-field-text : {s : List ℕ} {g : ℕ} → Field s g → s ≡ groupText g
+pub field-text : {s : List ℕ} {g : ℕ} → Field s g → s ≡ groupText g
 field-text f = go (f .group) f
   where
     go : {s : List ℕ} {g : ℕ} → Group s g → Field s g → s ≡ groupText g
@@ -96,7 +96,7 @@ no-zeros (d ∷ f ∷ l) x t e =
     cases (eqb d 0) (λ n. no-zeros (f ∷ l) x t (rw n at e))
     (λ n. let r = rw n at e in let q : hexDigit d ≡ 48 = cc in eqb-false d 0 n (hex-zero d q))
 
-group-field : (g : ℕ) → g < 65536 → Field (groupText g) g
+pub group-field : (g : ℕ) → g < 65536 → Field (groupText g) g
 unfolding groupText
 group-field g h =
     let l : List ℕ = g / 4096 ∷ g / 256 % 16 ∷ g / 16 % 16 ∷ g % 16 ∷ [] in
@@ -104,13 +104,13 @@ group-field g h =
 
 -- Fields parted by colons -----------------------------------------------------------------------------------------------
 
-pub fields-text : {s l : List ℕ} → Fields s l → s ≡ partText l
+pub fields-text : {s l : List ℕ} → Fields hexadecimal s l → s ≡ partText l
 unfolding partText trailing
 fields-text none = refl
 fields-text (last {g = g} f) = field-text f ∙ sym (append-nil (groupText g))
 fields-text (next f r) = rw (field-text f, fields-text r)
 
-pub part-fields : (l : List ℕ) → Small l → Fields (partText l) l
+pub part-fields : (l : List ℕ) → Small l → Fields hexadecimal (partText l) l
 unfolding partText trailing
 part-fields [] h = none
 part-fields (g ∷ []) h = rw (append-nil (groupText g)) (last (group-field g (h .0)))

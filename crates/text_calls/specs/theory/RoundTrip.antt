@@ -7,6 +7,7 @@ use Prim.Native.Nat.{ℕ, _+_, _*_, _^_, _<_}
 use native.Mathlib.Nat.{mod-lt, div-lt-iff-lt-mul}
 use native.Mathlib.Omega.{arith}
 use lib.Dec.{lit<}
+use Rattle.laws.specs.Cases.{cases}
 use Rattle.keys.specs.Key.{keyNumber, keyOf}
 use Rattle.keys.specs.theory.Keys.{key-number}
 use Rattle.keys.specs.declared.Key.{Key}
@@ -15,9 +16,12 @@ use Rattle.text_read.specs.Answers.{keyed, readingOf}
 use Rattle.text_read.specs.theory.Joined.{Small, joined-append}
 use Rattle.text_read.specs.declared.Parsed.the-variants as parsed
 use Rattle.text_read.specs.theory.Grammar.{spells-read}
-use Rattle.text_write.specs.Writing.{fourGroups, written}
+use Rattle.text_read.specs.Grammar.{Spells}
+use Rattle.text_write.specs.Writing.{fourGroups, isMapped, written}
+use Rattle.text_write.specs.theory.Mapped.{written-mapped, written-plain}
 use Rattle.text_calls.specs.theory.Bounds.{small-append, legal-below}
 use Rattle.text_calls.specs.theory.Texts.{text-spells}
+use Rattle.text_calls.specs.theory.Mapped.{mapped-spells}
 
 -- a key whose halves have 64 bits each
 pub record Fits (k : Key) : Type 0 where
@@ -48,12 +52,16 @@ pub key-fits : (n : ℕ) → n < 2 ^ 128 → Fits (keyOf n)
 unfolding keyOf
 key-fits n h = record { high-below = div-lt-iff-lt-mul (lit< tt) .1 h; low-below = mod-lt n (lit< tt) }
 
+-- what is written spells the key's groups
+pub written-spells : (k : Key) → Fits k → Spells (written (k .high) (k .low)) (fourGroups (k .high) ++ fourGroups (k .low))
+written-spells k f =
+    cases (isMapped (k .high) (k .low)) (λ t. rw (written-mapped (k .high) (k .low) t) (mapped-spells (k .high) (k .low) t))
+    (λ t. rw (written-plain (k .high) (k .low) t) (text-spells (fourGroups (k .high) ++ fourGroups (k .low)) (key-small k f) (unfold fourGroups in refl)))
+
 -- reading what is written gives the key back
 pub round-trip : (k : Key) → Fits k → readingOf (written (k .high) (k .low)) ≡ parsed.Key k
-unfolding readingOf keyed written
-round-trip k f =
-    let l : List ℕ = fourGroups (k .high) ++ fourGroups (k .low) in
-    rw (spells-read (text-spells l (key-small k f) (unfold fourGroups in refl)), joined-key k, key-number k (f .low-below))
+unfolding readingOf keyed
+round-trip k f = rw (spells-read (written-spells k f), joined-key k, key-number k (f .low-below))
 
 -- two keys never share a written text
 pub written-apart : (j k : Key) → Fits j → Fits k → written (j .high) (j .low) ≡ written (k .high) (k .low) → j ≡ k

@@ -11,8 +11,8 @@ use borrow.Author.Tests.{lt-ltb, ltb-true, eq-eqb, eqb-true}
 use Rattle.laws.specs.Options.{nothing, when-some}
 use Rattle.text_read.specs.Class.{classOf, colon}
 use Rattle.text_read.specs.Numerals.{group}
-use Rattle.text_read.specs.Reading.{split, push, dotted, orElse, groups, part, Cut, whole, parted, behind, begins, cut, eight, filled, groupsOfCut, groupsOf}
-use Rattle.text_read.specs.Grammar.{Groups, one, two, more, Side, empty, full, Spells, plain, gap}
+use Rattle.text_read.specs.Reading.{split, push, dotted, orElse, groups, part, Cut, whole, parted, behind, begins, cut, eight, filled, groupsOfCut, groupsOfColons, mapped, firstOf, groupsOf}
+use Rattle.text_read.specs.Grammar.{Dotted, four, Groups, one, two, more, Side, empty, full, Spells, plain, gap, bare}
 use Rattle.text_read.specs.theory.Bytes.{aColon}
 use Rattle.text_read.specs.theory.Options.{push-some}
 use Rattle.text_read.specs.theory.Numerals.{group-numeral, group-read, read-group}
@@ -91,11 +91,23 @@ cut-side empty t = cut-double t
 cut-side (full {s = s} r) t =
     cut-groups r (58 ∷ 58 ∷ t) ∙ ap (behinds s) (cut-double t) ∙ unfold behinds in ap (λ (l : List ℕ). parted l t) (append-nil s)
 
+-- a dotted text has no "::", and its two groups are not eight
+pub dotted-whole : {s l : List ℕ} → Dotted s l → cut s ≡ whole
+dotted-whole r = cut-whole {end = true} (two r)
+
+pub dotted-two : {s l : List ℕ} → Dotted s l → length l ≡ 2
+dotted-two (four p q r w) = refl
+
+dotted-alone : {s l : List ℕ} → Dotted s l → groupsOfColons s ≡ none
+unfolding groupsOfColons groupsOfCut eight
+dotted-alone r = rw (dotted-whole r, part-read (full (two r)), dotted-two r)
+
 -- a text that spells groups is read as these
 pub spells-read : {s l : List ℕ} → Spells s l → groupsOf s ≡ some l
-unfolding groupsOf groupsOfCut eight filled
+unfolding groupsOf firstOf groupsOfColons groupsOfCut eight filled
 spells-read (plain {s = s} {l = l} r e) = rw (cut-whole r, part-read (full r), eq-eqb (length l) 8 e)
 spells-read (gap {s = s} {t = t} {a = a} {b = b} p q h) = rw (cut-side p t, part-read p, part-read q, lt-ltb (length a + length b) 8 h)
+spells-read (bare r) = rw (dotted-alone r, dotted-read r) (unfold mapped in refl)
 
 -- the grammar has one reading of a text at most
 pub spells-once : {s l m : List ℕ} → Spells s l → Spells s m → l ≡ m
@@ -126,10 +138,10 @@ unfolding part
 read-part end [] l e = let q : [] ≡ l = cc in rw (← q) empty
 read-part end (x ∷ s) l e = full (read-groups (split-fields aColon (x ∷ s)) end l e)
 
--- a text that is read as groups spells these
-pub read-spells : (s l : List ℕ) → groupsOf s ≡ some l → Spells s l
-unfolding groupsOf groupsOfCut
-read-spells s l e = go (cut-parts s) e
+-- a text in one of the RFC's forms
+colons-spell : (s l : List ℕ) → groupsOfColons s ≡ some l → Spells s l
+unfolding groupsOfColons groupsOfCut
+colons-spell s l e = go (cut-parts s) e
   where
     uncut-spells : {s l : List ℕ} → Side true s l → length l ≡ 8 → Spells s l
     uncut-spells empty e = absurd (omega arith)
@@ -153,3 +165,13 @@ read-spells s l e = go (cut-parts s) e
     go : {s : List ℕ} {q : Cut} → Parts s q → groupsOfCut s q ≡ some l → Spells s l
     go (uncut {s = s}) e = by-eight s (part true s) refl e
     go (around {l = a} {r = b}) e = by-filled a b (part false a) (part true b) refl refl e
+
+-- a text that is read as groups spells these
+pub read-spells : (s l : List ℕ) → groupsOf s ≡ some l → Spells s l
+unfolding groupsOf
+read-spells s l e = go (groupsOfColons s) refl (dotted s) refl e
+  where
+    go : (o : Option (List ℕ)) → groupsOfColons s ≡ o → (d : Option (List ℕ)) → dotted s ≡ d → firstOf o (mapped d) ≡ some l → Spells s l
+    go (some m) g d f e = unfold firstOf in (let q : m ≡ l = cc in colons-spell s l (g ∙ ap some q))
+    go none g (some m) f e = unfold firstOf mapped in (let q : replicate 5 0 ++ 65535 ∷ m ≡ l = cc in rw q at (bare (read-dotted s m f)))
+    go none g none f e = unfold firstOf mapped in nothing e

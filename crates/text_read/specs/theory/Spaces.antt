@@ -9,7 +9,7 @@ use lib.Dec.{eqb}
 use borrow.Author.Tests.{ne-eqb}
 use Rattle.keys.specs.declared.Key.{Key}
 use Rattle.text_read.specs.Class.{classOf, other}
-use Rattle.text_read.specs.Grammar.{HexDigit, decimalDigit, Group, hex1, hex2, hex3, hex4, Decimal, dec1, dec2, dec3, Dotted, four, Groups, one, two, more, Side, empty, full, Spells, plain, gap}
+use Rattle.text_read.specs.Grammar.{HexDigit, decimalDigit, Group, hex1, hex2, hex3, hex4, Decimal, dec1, dec2, dec3, Dotted, four, Groups, one, two, more, Side, empty, full, Spells, plain, gap, bare}
 use Rattle.text_read.specs.Reading.{groupsOf}
 use Rattle.text_read.specs.Answers.{keyed, readingOf}
 use Rattle.text_read.specs.declared.Parsed.the-variants as parsed
@@ -60,6 +60,7 @@ side-known (full r) = groups-known r
 spells-known : {s l : List ℕ} → Spells s l → Without other s
 spells-known (plain r e) = groups-known r
 spells-known (gap {s = s} {t = t} p q h) = between aColon s (58 ∷ t) (side-known p) (separator-known aColon, side-known q)
+spells-known (bare r) = dotted-known r
 
 -- a text that is read as a key has no byte but these
 pub read-classes : (x : List ℕ) (k : Key) → readingOf x ≡ parsed.Key k → Without other x

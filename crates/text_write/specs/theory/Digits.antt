@@ -87,7 +87,7 @@ bytes-of : (u v v₁ v₀ w w₁ w₀ z z₁ z₀ : ℕ) → v ≡ v₁ * 16 + v
 bytes-of u v v₁ v₀ w w₁ w₀ z z₁ z₀ e f g = omega arith
 
 -- the bytes of a number that four were packed into
-unpacked-is : (p q r s : ℕ) → p < 256 → q < 256 → r < 256 → s < 256 → unpacked (packed p q r s) ≡ p ∷ q ∷ r ∷ s ∷ []
+pub unpacked-is : (p q r s : ℕ) → p < 256 → q < 256 → r < 256 → s < 256 → unpacked (packed p q r s) ≡ p ∷ q ∷ r ∷ s ∷ []
 unpacked-is p q r s hp hq hr hs =
     let d₁ : packed p q r s / 256 ≡ q + r * 256 + s * 65536 = omega arith in
     let d₂ : packed p q r s / 65536 ≡ r + s * 256 = omega arith in
@@ -96,6 +96,18 @@ unpacked-is p q r s hp hq hr hs =
     let e₁ : (q + r * 256 + s * 65536) % 256 ≡ q = omega arith in
     let e₂ : (r + s * 256) % 256 ≡ r = omega arith in
     let e₃ : s % 256 ≡ s = omega arith in
+    rw (d₁, d₂, d₃, e₀, e₁, e₂, e₃)
+
+-- and of one with the bytes a place higher: the first is zero, and the last goes
+pub unpacked-next : (p q r s : ℕ) → p < 256 → q < 256 → r < 256 → unpacked (packed p q r s * 256) ≡ 0 ∷ p ∷ q ∷ r ∷ []
+unpacked-next p q r s hp hq hr =
+    let d₁ : packed p q r s * 256 / 256 ≡ packed p q r s = omega arith in
+    let d₂ : packed p q r s * 256 / 65536 ≡ q + r * 256 + s * 65536 = omega arith in
+    let d₃ : packed p q r s * 256 / 16777216 ≡ r + s * 256 = omega arith in
+    let e₀ : packed p q r s * 256 % 256 ≡ 0 = omega arith in
+    let e₁ : packed p q r s % 256 ≡ p = omega arith in
+    let e₂ : (q + r * 256 + s * 65536) % 256 ≡ q = omega arith in
+    let e₃ : (r + s * 256) % 256 ≡ r = omega arith in
     rw (d₁, d₂, d₃, e₀, e₁, e₂, e₃)
 
 module _ (a b c d : ℕ) (ha : a < 16) (hb : b < 16) (hc : c < 16) (hd : d < 16) where

@@ -1,12 +1,15 @@
--- No text of an address is longer than 39 bytes: eight groups of four and seven colons, or "::" and six groups with a colon each.
+-- No text of an address is longer than 39 bytes: eight groups of four and seven colons, or "::" and six groups with a colon each. A mapped one has at
+-- most 22: "::ffff:", four decimals of three digits and three dots.
 use mathlib.Core.Path.{_≡_, refl}
 use mathlib.Core.Logic.{⊎-elim}
-use mathlib.Core.List.{List, [], _∷_}
+use mathlib.Core.List.{List, [], _∷_, _++_}
 use Prim.Native.Nat.{ℕ, _+_, _*_, _-_, _≤_}
 use native.Mathlib.Omega.{arith}
 use lib.ListN.{length, take, drop, length-append, length-take, length-drop}
-use Rattle.text_write.specs.Writing.{groupText, trailing, partText, longest, fourGroups, textOf, written}
+use Rattle.laws.specs.Cases.{cases}
+use Rattle.text_write.specs.Writing.{groupText, trailing, partText, longest, fourGroups, textOf, isMapped, written}
 use Rattle.text_write.specs.theory.Digits.{text-length}
+use Rattle.text_write.specs.theory.Mapped.{written-mapped, written-plain, mapped-length}
 use Rattle.text_write.specs.theory.LongestRun.{longest-run, gap-stands-for-two}
 
 -- a group with the colon before it has at most five bytes
@@ -37,5 +40,6 @@ text-length-of l e =
     (gap-stands-for-two l)
 
 pub written-length : (high low : ℕ) → length (written high low) ≤ 39
-unfolding written fourGroups
-written-length high low = text-length-of _ refl
+written-length high low =
+    cases (isMapped high low) (λ e. rw (written-mapped high low e) (omega (arith, mapped-length low)))
+    (λ e. rw (written-plain high low e) (text-length-of (fourGroups high ++ fourGroups low) (unfold fourGroups in refl)))

@@ -1,7 +1,7 @@
 -- Each number has at most ten digits.
 use native.Mathlib.Omega.{arith}
 use Rattle.program_answers.specs.Answer.{numbersText}
-use Rattle.program_answers.proofs.Decimal.{decimal-short}
+use Rattle.text_write.specs.theory.Decimal.{decimal-short}
 use Rattle.program_answers.proofs.Puts.{put-then}
 use borrow.Author.Needs.{needs}
 use Rattle.program_answers.proofs.answer.put_numbers.Statement.{statement}

@@ -2,7 +2,7 @@
 use mathlib.Core.Path.{sym, ap}
 use mathlib.Core.Logic.{⊎-elim}
 use native.Mathlib.Omega.{arith}
-use Rattle.text_calls.specs.Ascii.{ascii}
+use Rattle.text_write.specs.Ascii.{ascii}
 use Rattle.program_answers.specs.Answer.{wordText}
 use Rattle.program_answers.proofs.Puts.{put-as}
 use borrow.Author.Needs.{needs}

@@ -3,10 +3,10 @@ use mathlib.Core.Path.{ap}
 use mathlib.Core.List.{[], _∷_, _++_}
 use Prim.Native.Nat.{ℕ}
 use native.Mathlib.Omega.{arith}
-use Rattle.text_calls.specs.Ascii.{ascii}
+use Rattle.text_write.specs.Ascii.{ascii}
 use Rattle.program_answers.specs.Answer.{refusedText}
-use Rattle.program_answers.specs.Decimal.{decimalText}
-use Rattle.program_answers.proofs.Decimal.{decimal-short}
+use Rattle.text_write.specs.Decimal.{decimalText}
+use Rattle.text_write.specs.theory.Decimal.{decimal-short}
 use Rattle.program_answers.proofs.Puts.{put-then, put-as, put-wrote}
 use borrow.Author.Needs.{needs}
 use Rattle.program_answers.proofs.answer.refuse.Statement.{statement}

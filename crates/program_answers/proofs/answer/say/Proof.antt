@@ -3,8 +3,6 @@ use mathlib.Core.Path.{ap, _∙_}
 use mathlib.Core.List.{List, _++_}
 use Prim.Native.Nat.{ℕ}
 use native.Mathlib.Omega.{arith}
-use Rattle.text_write.specs.Writing.{written}
-use Rattle.text_write.specs.WriterSteps.{keyGroups}
 use Rattle.program_answers.specs.Answer.{wordText, saidText}
 use Rattle.program_answers.proofs.Texts.{word-short, numbers-short}
 use Rattle.program_answers.proofs.Puts.{wrote-then}
@@ -28,7 +26,7 @@ same-length : tie.Need-same-length
 same-length c = search needs
 
 returns : tie.Need-returns
-unfolding saidText written keyGroups
+unfolding saidText
 returns c =
     let n = c .before .before in
     let w = n .before .before .before .before in

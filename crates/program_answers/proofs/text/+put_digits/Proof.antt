@@ -3,8 +3,8 @@ use mathlib.Core.Path.{_≡_, sym, ap, _∙_}
 use mathlib.Core.List.{[], _∷_}
 use native.Mathlib.Omega.{arith}
 use lib.ListN.{length, length-append}
-use Rattle.program_answers.specs.Decimal.{decimalText}
-use Rattle.program_answers.proofs.Decimal.{decimal-one, decimal-more}
+use Rattle.text_write.specs.Decimal.{decimalText}
+use Rattle.text_write.specs.theory.Decimal.{decimal-one, decimal-more}
 use Rattle.program_answers.proofs.Puts.{put-then, put-as}
 use borrow.Author.Needs.{needs}
 use Prim.Native.Nat.{ℕ, _+_, _/_, _%_, _≤_, _<_}

@@ -1,7 +1,7 @@
 -- One, two or three digits are put without a call; more of them one by one.
 use mathlib.Core.Path.{sym}
 use native.Mathlib.Omega.{arith}
-use Rattle.program_answers.proofs.Decimal.{decimal-one, decimal-two, decimal-three, decimal-short}
+use Rattle.text_write.specs.theory.Decimal.{decimal-one, decimal-two, decimal-three, decimal-short}
 use Rattle.program_answers.proofs.Puts.{put-then, put-as}
 use borrow.Author.Needs.{needs}
 use Rattle.program_answers.proofs.text.put_decimal.Statement.{statement}

@@ -2,11 +2,9 @@
 use borrow.Author.Needs.{needs}
 use mathlib.Core.Path.{sym, ap, _∙_}
 use native.Mathlib.Omega.{arith}
-use native.Mathlib.Nat.{zero-add}
-use lib.ListN.{length}
 use lib.Dec.{lit<}
 use Rattle.text_read.specs.ReaderSteps.{headAnswer}
-use Rattle.text_read.proofs.Parts.{part-fine, read-open, read-plain}
+use Rattle.text_read.proofs.Parts.{start-fine, read-open, read-plain}
 use Rattle.text_read.proofs.reader.first_part.Statement.{statement}
 use Rattle.text_read.proofs.reader.first_part.Tie as tie
 
@@ -17,7 +15,7 @@ returns : tie.Need-returns
 returns c =
     let o = c .before in
     let r = read-open (o .before .before .args .text .now) (sym (o .opens .ensures) ∙ c .if1 .taken) in
-    (r .1, (record { fits = lit< tt; half = lit< tt }, omega arith, r .0))
+    (r .1, (record { fits = lit< tt; half = lit< tt }, omega arith, lit< tt, r .0))
 
 read-part-requires : tie.Need-read-part-requires
 read-part-requires c κs = search needs
@@ -28,7 +26,7 @@ returns-2 c =
     let o = e .before in
     let s = o .before .before .args .text .now in (
       read-plain s (sym (o .opens .ensures) ∙ e .if1 .left) ∙ ap (headAnswer s) (sym (c .read-part .ensures)),
-      rw (c .read-part .ensures) (rw (zero-add (length s)) at (part-fine s 0)),
+      rw (c .read-part .ensures) (start-fine s),
     )
 
 pub first-part-spec : {M : Type 1} → statement M

@@ -1,42 +1,62 @@
--- One group more is a digit more to the base 65536, and the low half's upper group goes to the high half.
+-- One law says that both halves have room, and that they are the groups.
 use borrow.Author.Needs.{needs}
-use Prim.Native.Nat.{_+_, _*_, _/_, _%_, _^_}
-use mathlib.Core.Path.{_≡_, sym}
+use mathlib.Core.Path.{sym}
 use native.Mathlib.Omega.{arith}
-use lib.Dec.{lit<}
-use Rattle.text_read.specs.ReaderSteps.{numberOf, made}
-use Rattle.text_read.proofs.Fields.{digit-most}
+use Rattle.text_read.proofs.Joined.{Moved, moved-up}
 use Rattle.text_read.proofs.reader.pushed.Statement.{statement}
 use Rattle.text_read.proofs.reader.pushed.Tie as tie
 
-mul-t3 : tie.Need-mul-t3
-mul-t3 c =
-    let k = c .before in
-    omega (arith, digit-most 65536 (k .args .groups .count) 7 (numberOf (k .args .groups)) (lit< tt) (k .pre .0 .fits) (k .pre .1))
+halves : (c : tie.After-power2) → let s = c .before .before in Moved (s .args .groups) (s .args .n) (s .args .x) (c .before .power .result) (c .power2 .result)
+halves c =
+    let p = c .before in
+    let s = p .before in
+    moved-up (s .args .groups) (s .args .n) (s .args .x) (p .power .result) (c .power2 .result) (s .pre .0) (omega arith) (s .pre .3) (s .pre .4) (p .power .ensures) (c .power2 .ensures)
 
-add-t5 : tie.Need-add-t5
-add-t5 c =
-    let k = c .before .before in
-    omega (arith, digit-most 65536 (k .args .groups .count) 7 (numberOf (k .args .groups)) (lit< tt) (k .pre .0 .fits) (k .pre .1))
+power-requires : tie.Need-power-requires
+power-requires c κs = search needs
+
+sub-power : tie.Need-sub-power
+sub-power c = search needs
+
+power-requires-2 : tie.Need-power-requires-2
+power-requires-2 c κs = search needs
 
 mul-t7 : tie.Need-mul-t7
-mul-t7 c = search needs
+mul-t7 c = omega (arith, halves (c .before) .high)
 
-add-t8 : tie.Need-add-t8
-add-t8 c = search needs
+div-t8 : tie.Need-div-t8
+div-t8 c = omega (arith, halves (c .before .before) .some)
 
 add-t9 : tie.Need-add-t9
-add-t9 c = search needs
+add-t9 c = omega (arith, halves (c .before .before) .high)
+
+rem-t10 : tie.Need-rem-t10
+rem-t10 c = omega (arith, halves (c .before .before .before) .some)
+
+mul-t11 : tie.Need-mul-t11
+mul-t11 c = omega (arith, halves (c .before .before .before) .low)
+
+add-t12 : tie.Need-add-t12
+add-t12 c = omega (arith, halves (c .before .before .before) .low)
+
+add-t6 : tie.Need-add-t6
+add-t6 c = search needs
 
 returns : tie.Need-returns
-unfolding made
-returns c =
-    let k = c .before .before .before .before in
-    let g = k .args .groups in
-    let n = numberOf g * 65536 + k .args .group in
-    let a : n / 2 ^ 64 ≡ g .high * 65536 + g .low / 281474976710656 = omega (arith, k .pre .2) in
-    let b : n % 2 ^ 64 ≡ g .low % 281474976710656 * 65536 + k .args .group = omega (arith, k .pre .2) in
-    sym (rw (a, b))
+returns c = sym (halves (c .before .before .before .before) .groups)
 
 pub pushed-spec : {M : Type 1} → statement M
-pushed-spec = tie.close (tie.spec mul-t3 add-t5 mul-t7 add-t8 add-t9 returns)
+pushed-spec =
+    tie.close
+    (tie.spec
+    power-requires
+    sub-power
+    power-requires-2
+    mul-t7
+    div-t8
+    add-t9
+    rem-t10
+    mul-t11
+    add-t12
+    add-t6
+    returns)

@@ -25,7 +25,7 @@ after-gap-requires c κs =
     let o = g .before .before in
     let s = o .before .before .args .text .now in
     let f : Fine (length s) (answer.Gap (g .groups .given .0 .0) (g .groups .given .0 .1 .0)) = rw (g .groups .given .1) at (o .first-part .ensures .1) in
-    (o .before .before .pre, f .2, f .0, f .1)
+    (o .before .before .pre, f .2, f .3, f .0, f .1)
 
 enum-known-groups-2 : tie.Need-enum-known-groups-2
 enum-known-groups-2 c = search needs

@@ -5,13 +5,13 @@ use native.Mathlib.Omega.{arith}
 use borrow.Author.Needs.{needs}
 use mathlib.Core.Option.{some}
 use lib.ListN.{length, drop}
-use lib.Dec.{lit<}
+use lib.Dec.{lit<, lit≤}
 use Rattle.text_read.specs.Class.{colon}
 use Rattle.text_read.specs.Numerals.{group}
-use Rattle.text_read.specs.ReaderSteps.{until, numberOf, Sized, partFrom}
+use Rattle.text_read.specs.ReaderSteps.{until, numberOf, Sized, partAt}
 use Rattle.text_read.proofs.Splits.{Past, no-group, one-group}
 use Rattle.text_read.proofs.Joined.{group-small, pushed-of}
-use Rattle.text_read.proofs.Parts.{part-dotted, turn-many, turn-last, turn-short, turn-gap, turn-more}
+use Rattle.text_read.proofs.Parts.{before-sized, part-tail, turn-many, turn-last, turn-short, turn-gap, turn-more}
 use Rattle.text_read.specs.declared.reader.Groups.{Groups}
 use Rattle.text_read.specs.declared.reader.Part.the-variants as answer
 use Rattle.text_read.proofs.reader.read_part.Statement.{statement}
@@ -20,7 +20,7 @@ use Rattle.text_read.proofs.reader.read_part.Tie as tie
 abbrev Inv-loop : tie.InvT-loop
 Inv-loop table text from groups₀ at₀ groups at =
     (at ≤ length text) × (groups .count ≤ 8) × Sized groups
-    × (partFrom 0 0 (drop from text) from ≡ partFrom (numberOf groups) (groups .count) (drop at text) at)
+    × (partAt 0 0 (drop from text) from ≡ partAt (numberOf groups) (groups .count) (drop at text) at)
 
 abbrev μ-loop : tie.MeasureT-loop
 μ-loop table text from groups₀ at₀ groups at = length text - at
@@ -62,21 +62,25 @@ group-requires c κs = (c .before .before .pre .0, c .loop .inv .0)
 enum-told : tie.Need-enum-told Inv-loop μ-loop
 enum-told c = search needs
 
+before-tail-requires : tie.Need-before-tail-requires Inv-loop μ-loop
+before-tail-requires c κs = search needs
+
 with-tail-requires : tie.Need-with-tail-requires Inv-loop μ-loop
 with-tail-requires c κs =
-    let a = c .before .before .before in
-    (start a .pre .0, a .loop .inv .0, a .loop .inv .2, a .loop .inv .1)
+    let a = c .before .before .before .before in
+    let b = c .before-tail .result in
+    let z : Sized b × (b .count ≤ 8) = rw (c .before-tail .ensures) (before-sized (a .loop .at) (a .loop .groups) (a .loop .inv .2) (a .loop .inv .1)) in
+    (start a .pre .0, a .loop .inv .0, z .0, z .1)
 
 returns : tie.Need-returns Inv-loop μ-loop
 returns c =
-    let e = c .before in
+    let e = c .before .before in
     let o = e .before .before in
     let a = o .before in
     let s = start a .args .text .now in
     let i = a .loop .at in
-    let g = a .loop .groups in
     c .with-tail .ensures
-    ∙ sym (a .loop .inv .3 ∙ part-dotted (numberOf g) (g .count) (drop i s) i (no-group s i (sym (o .group .ensures) ∙ e .enum-told .given .1)))
+    ∙ sym (a .loop .inv .3 ∙ part-tail (a .loop .groups) _ (drop i s) i (no-group s i (sym (o .group .ensures) ∙ e .enum-told .given .1)) (c .before .before-tail .ensures))
 
 enum-known-value : tie.Need-enum-known-value Inv-loop μ-loop
 enum-known-value c = search needs
@@ -91,7 +95,7 @@ returns-2 c =
 pushed-requires : tie.Need-pushed-requires Inv-loop μ-loop
 pushed-requires c κs =
     let w = c .before .before .before in
-    (head w .loop .inv .2, c .if1 .left, small w)
+    (head w .loop .inv .2, lit≤ tt, lit≤ tt, omega (arith, c .if1 .left), small w)
 
 returns-3 : tie.Need-returns-3 Inv-loop μ-loop
 returns-3 c =
@@ -119,8 +123,8 @@ shared-slice-read-class c = two-more (c .before)
 class-requires : tie.Need-class-requires Inv-loop μ-loop
 class-requires c κs = start (head (value (c .before))) .pre .0
 
-add-t14 : tie.Need-add-t14 Inv-loop μ-loop
-add-t14 c =
+add-t15 : tie.Need-add-t15 Inv-loop μ-loop
+add-t15 c =
     let e = c .before .before .before in
     omega (arith, two-more e, start (head (value e)) .good)
 
@@ -153,7 +157,7 @@ loop-again c =
       p .sized,
       a .loop .inv .3
           ∙ turn-more _ _ _ _ _ _ (f .0) (f .1) (two-more e) (λ y. c .if4 .left (c .before .class .ensures ∙ y))
-          ∙ ap₂ (λ (x y : ℕ). partFrom x y (drop next (start a .args .text .now)) next) (sym (p .number)) (sym (p .count)),
+          ∙ ap₂ (λ (x y : ℕ). partAt x y (drop next (start a .args .text .now)) next) (sym (p .number)) (sym (p .count)),
     )
 
 pub read-part-spec : {M : Type 1} → statement M
@@ -165,6 +169,7 @@ read-part-spec =
     loop-holds
     group-requires
     enum-told
+    before-tail-requires
     with-tail-requires
     returns
     enum-known-value
@@ -175,7 +180,7 @@ read-part-spec =
     returns-4
     shared-slice-read-class
     class-requires
-    add-t14
+    add-t15
     returns-5
     loop-less
     loop-again)

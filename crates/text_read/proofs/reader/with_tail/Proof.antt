@@ -1,17 +1,27 @@
 -- The dotted tail is two groups more.
 use borrow.Author.Needs.{needs}
-use Prim.Native.Nat.{_/_, _%_}
 use mathlib.Core.Path.{_≡_, sym, ap, _∙_}
 use mathlib.Core.Option.{some}
 use native.Mathlib.Omega.{arith}
 use lib.ListN.{length, drop}
+use lib.Dec.{lit≤}
 use Rattle.text_read.specs.ReaderSteps.{numberOf, dottedFrom}
 use Rattle.text_read.proofs.Splits.{numeral-bad, numeral-some, dotted-below}
-use Rattle.text_read.proofs.Joined.{pushed-of, pushed-twice}
 use Rattle.text_read.proofs.Parts.{tail-many, tail-none, tail-some}
 use Rattle.text_read.specs.declared.reader.Part.the-variants as answer
 use Rattle.text_read.proofs.reader.with_tail.Statement.{statement}
 use Rattle.text_read.proofs.reader.with_tail.Tie as tie
+
+-- the number of the tail that was found
+tail : (w : tie.After-value)
+    → let k = w .before .before .before .before .before .before in
+    dottedFrom 0 0 (drop (k .args .at) (k .args .text .now)) ≡ some (w .value .given .0 .0)
+tail w =
+    let o = w .before .before in
+    let k = o .before .before .before .before in
+    let s = k .args .text .now in
+    let t = drop (k .args .at) s in
+    numeral-some (dottedFrom 0 0 t) (length s) (w .value .given .0 .0) (w .value .given .0 .1 .0) (sym (o .dotted .ensures) ∙ w .value .given .1)
 
 returns : tie.Need-returns
 returns c =
@@ -33,25 +43,7 @@ pushed-requires c κs =
     let w = c .before in
     let o = w .before .before in
     let k = o .before .before .before .before in
-    let s = k .args .text .now in
-    let t = drop (k .args .at) s in
-    let g = k .args .groups in
-    let v = w .value .given .0 .0 in
-    let e : dottedFrom 0 0 t ≡ some v = numeral-some (dottedFrom 0 0 t) (length s) v (w .value .given .0 .1 .0) (sym (o .dotted .ensures) ∙ w .value .given .1) in
-    (k .pre .2, omega (arith, o .before .if1 .left), omega (arith, dotted-below t v e))
-
-pushed-requires-2 : tie.Need-pushed-requires-2
-pushed-requires-2 c κs =
-    let w = c .before .before in
-    let o = w .before .before in
-    let k = o .before .before .before .before in
-    let s = k .args .text .now in
-    let t = drop (k .args .at) s in
-    let g = k .args .groups in
-    let v = w .value .given .0 .0 in
-    let e : dottedFrom 0 0 t ≡ some v = numeral-some (dottedFrom 0 0 t) (length s) v (w .value .given .0 .1 .0) (sym (o .dotted .ensures) ∙ w .value .given .1) in
-    let p = pushed-of g (v / 65536) (c .pushed .result) (k .pre .2) (omega (arith, dotted-below t v e)) (c .pushed .ensures) in
-    (p .sized, omega (arith, p .count, o .before .if1 .left), omega arith)
+    (k .pre .2, lit≤ tt, lit≤ tt, omega (arith, o .before .if1 .left), dotted-below _ _ (tail w))
 
 returns-2 : tie.Need-returns-2
 returns-2 c =
@@ -64,17 +56,12 @@ returns-2 c =
 
 returns-3 : tie.Need-returns-3
 returns-3 c =
-    let w = c .before .before .before in
+    let w = c .before .before in
     let o = w .before .before in
     let k = o .before .before .before .before in
-    let s = k .args .text .now in
-    let t = drop (k .args .at) s in
     let g = k .args .groups in
-    let v = w .value .given .0 .0 in
-    let e : dottedFrom 0 0 t ≡ some v = numeral-some (dottedFrom 0 0 t) (length s) v (w .value .given .0 .1 .0) (sym (o .dotted .ensures) ∙ w .value .given .1) in
-    let p = pushed-of g (v / 65536) (c .before .pushed .result) (k .pre .2) (omega (arith, dotted-below t v e)) (c .before .pushed .ensures) in
-    ap answer.Whole (pushed-twice g (v / 65536) (v % 65536) (c .before .pushed .result) (c .pushed2 .result) p (c .pushed2 .ensures))
-    ∙ sym (tail-some (numberOf g) (g .count) t v e (omega (arith, o .before .if1 .left)))
+    ap answer.Whole (c .pushed .ensures)
+    ∙ sym (tail-some (numberOf g) (g .count) (drop (k .args .at) (k .args .text .now)) (w .value .given .0 .0) (tail w) (omega (arith, o .before .if1 .left)))
 
 pub with-tail-spec : {M : Type 1} → statement M
 with-tail-spec =
@@ -85,6 +72,5 @@ with-tail-spec =
     enum-told
     enum-known-value
     pushed-requires
-    pushed-requires-2
     returns-2
     returns-3)

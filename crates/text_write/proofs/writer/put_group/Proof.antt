@@ -57,6 +57,9 @@ shl-characters c = search needs
 characters-requires : tie.Need-characters-requires
 characters-requires c κs = up (c .before) .0
 
+cast-put-four : tie.Need-cast-put-four
+cast-put-four c = search needs
+
 put-four-requires : tie.Need-put-four-requires
 put-four-requires c κs = search needs
 
@@ -104,6 +107,7 @@ put-group-spec =
     sub-characters
     shl-characters
     characters-requires
+    cast-put-four
     put-four-requires
     cast-end
     add-end

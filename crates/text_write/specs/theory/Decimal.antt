@@ -8,7 +8,7 @@ use lib.Dec.{ltb}
 use lib.Pow.{pow-add}
 use borrow.Author.Tests.{lt-ltb, le-ltb, ltb-true, ltb-false}
 use Rattle.laws.specs.Cases.{cases}
-use Rattle.program_answers.specs.Decimal.{decimalFrom, decimalText}
+use Rattle.text_write.specs.Decimal.{decimalFrom, decimalText}
 
 -- more digits than enough are enough
 enough : (k n : ℕ) → n ≤ k → decimalFrom k n ≡ decimalFrom (suc k) n
@@ -61,3 +61,9 @@ decimal-three n l h =
 -- a number of 32 bits has at most ten digits
 pub decimal-short : (n : ℕ) → n < 2 ^ 32 → length (decimalText n) ≤ 10
 decimal-short n h = decimal-length 9 n (omega (arith, h))
+
+-- the three cases of a byte: one, two or three digits
+pub by-count : {A : Type 0} (n : ℕ) → (n < 10 → A) → (10 ≤ n → n < 100 → A) → (100 ≤ n → A) → A
+by-count n one two three =
+    cases (ltb n 10) (λ e. one (ltb-true n 10 e))
+    (λ d. cases (ltb n 100) (λ e. two (ltb-false n 10 d) (ltb-true n 100 e)) (λ e. three (ltb-false n 100 e)))

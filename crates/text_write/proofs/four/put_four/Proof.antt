@@ -6,8 +6,8 @@ use denote.Ref.{now}
 use lib.ListN.{take, drop}
 use borrow.Author.Needs.{needs}
 use Rattle.text_write.specs.theory.Stores.{fill-four, kept-four}
-use Rattle.text_write.proofs.writer.put_four.Statement.{statement}
-use Rattle.text_write.proofs.writer.put_four.Tie as tie
+use Rattle.text_write.proofs.four.put_four.Statement.{statement}
+use Rattle.text_write.proofs.four.put_four.Tie as tie
 
 store-four-requires : tie.Need-store-four-requires
 store-four-requires c κs = search needs
