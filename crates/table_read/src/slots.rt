@@ -14,7 +14,7 @@ ghost use Rattle.settings.specs.Legal.{mostBits};
 ghost use Rattle.bits.specs.Field.{field};
 ghost use Rattle.settings.specs.Proper.{Proper};
 ghost use Rattle.keys.specs.Key.{keyNumber, keyOf};
-ghost use Rattle.table.specs.State.{labelOf};
+ghost use Rattle.table.specs.State.{entryOf, labelOf};
 ghost use Rattle.table_read.specs.Steps.{restoredBytes, FieldWithin, First, SlotsWithin, slotsIn};
 ghost use Rattle.table_read.specs.Rows.{Row};
 
@@ -244,6 +244,14 @@ pub fn label_at(t: &[u8], b: Slots, at: usize, val: usize) -> u32
         return bits::get(t, at, val) as u32;
     }
     restored(&t[..], b, at, val) as u32
+}
+
+// The entry in slot j.
+pub fn entry_in(t: &[u8], g: Layout, b: Slots, j: SlotNumber) -> Key
+    requires { ⌜ Proper g × SlotsWithin g (now t) b × (j .0 < b .count) ⌝ }
+    ensures { λ r. ⌜ r ≡ keyOf (entryOf g (getD (slotsIn g (now (t .entry)) b) (j .0) 0)) ⌝ }
+{
+    entry_at(t, b, b.start + j.0 * g.slot, g.bie)
 }
 
 // The label in slot j.

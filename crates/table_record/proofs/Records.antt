@@ -2,7 +2,7 @@
 use mathlib.Core.Path.{_≡_, refl, sym, ap, ap₂, _∙_}
 use mathlib.Core.List.{List, _∷_, _++_}
 use mathlib.Core.Option.{Option, none, some}
-use Prim.Native.Nat.{ℕ, suc, _+_, _-_, _*_, _^_, _≤_, _<_}
+use Prim.Native.Nat.{ℕ, suc, _+_, _-_, _^_, _≤_, _<_}
 use native.Mathlib.Omega.{arith}
 use native.Mathlib.Decide.{decLe}
 use lib.ListN.{length, getD, drop, length-append, List·getD-append, drop-of-length-le}
@@ -10,8 +10,6 @@ use lib.Seq.{getD-append-add, drop-cons}
 use lib.Dec.{ltb}
 use borrow.Author.Tests.{lt-ltb, le-ltb, ltb-true, ltb-false}
 use Rattle.laws.specs.Cases.{cases}
-use Rattle.bits.specs.theory.Fields.{field-lt}
-use Rattle.settings.specs.Proper.{Proper}
 use Rattle.settings.specs.Sizes.{bie, lists}
 use Rattle.settings.specs.Layout.{layoutOf}
 use Rattle.keys.specs.Key.{keyNumber, keyOf, rebuilt}
@@ -20,14 +18,14 @@ use Rattle.settings.specs.declared.settings.Settings.{Settings}
 use Rattle.keys.specs.declared.Key.{Key}
 use Rattle.settings.specs.declared.layout.Layout.{Layout}
 use Rattle.settings.specs.declared.refusal.Refusal.the-variants as refusal
-use Rattle.table.specs.State.{Basic, Overflow, State, basicAt, overflowAt, unpack, entryOf, emptyBasic}
+use Rattle.table.specs.State.{Basic, Overflow, State, basicAt, overflowAt, unpack, emptyBasic}
 use Rattle.table.specs.Decode.{decode}
 use Rattle.table.specs.Table.{Table}
 use Rattle.table.specs.Follow.{Content, contentOf, content}
 use Rattle.table.specs.Record.{recordFrom, recordIn}
-use Rattle.table_read.specs.Steps.{restoredBytes, slotsIn, basicRun, displacedRun, overflowRun, lastFrom, Followed, Overflows, gatherFrom}
+use Rattle.table_read.specs.Steps.{slotsIn, basicRun, displacedRun, overflowRun, lastFrom, Followed, Overflows, gatherFrom}
 use Rattle.table_record.specs.RecordSteps.{slotNth, nthOf, nthIn, Bounded, recordsFrom}
-use Rattle.table_read.specs.theory.Reads.{slots-length, entry-in, unpack-length, basic-slots-in, displaced-slots-in, link-lt}
+use Rattle.table_read.specs.theory.Reads.{slots-length, unpack-length, basic-slots-in, displaced-slots-in, link-lt}
 use Rattle.table_read.specs.theory.Walks.{one-step, followed, content-short, content-bad, content-long, OneStep}
 use Rattle.table_read.specs.theory.Finds.{block-last, block-more}
 use Rattle.table_read.specs.declared.slots.Slots.{Slots}
@@ -80,12 +78,6 @@ module _ (g : Layout) where
 
   pub bounded-slot : (k : Key) (l : ℕ) → keyNumber k < 2 ^ g .bie → Bounded g (nth.Slot k l)
   bounded-slot k l h = record { below = λ k' l' e. let z : k ≡ k' = cc in rw z at h }
-
--- ---- a slot's entry
-
-pub entry-bound : (g : Layout) → Proper g → (t : List ℕ) (b : Slots) (j : ℕ) → j < b .count → (k : Key) → k ≡ keyOf (entryOf g (getD (slotsIn g t b) j 0)) → keyNumber k < 2 ^ g .bie
-entry-bound g F t b j l k e =
-    rw (e, number-key (entryOf g (getD (slotsIn g t b) j 0)), entry-in g t b F j l) (field-lt (restoredBytes t b) (b .start + j * g .slot) (g .bie))
 
 -- ---- the slots of an overflow block, and those of the blocks behind it
 
@@ -209,13 +201,3 @@ module _ (s : Settings) where
         ∙ record-step i (basicAt (st .basic) i) (drop (suc i) (st .basic)) (st .overflow) n (contentOf (layoutOf s) (basicAt (st .basic) i) (st .overflow)) refl
         ∙ ap (λ (x : Nth). onNth i x (λ m. recordFrom s (suc i) (drop (suc i) (st .basic)) (st .overflow) m))
         (ap (λ (x : Layout). nthIn x (contentOf x (basicAt (st .basic) i) (st .overflow)) n) e ∙ sym w)
-
--- as many lists as index bits tell, and entries of bie bits
-module _ (s : Settings) (g : Layout) (e : layoutOf s ≡ g) where
-  pub lists-are : g .lists ≡ 2 ^ s .bii
-  unfolding layoutOf lists
-  lists-are = sym (ap (λ (x : Layout). x .lists) e)
-
-  pub bie-is : g .bie ≡ bie s
-  unfolding layoutOf
-  bie-is = sym (ap (λ (x : Layout). x .bie) e)

@@ -21,16 +21,14 @@ use table_read::lists::displaced_run;
 use table_read::lists::follow;
 use table_read::lists::overflow_run;
 use table_read::slots::Slots;
-use table_read::slots::entry_at;
+use table_read::slots::entry_in;
 use table_read::slots::label_in;
 ghost use mathlib.Core.Path.{_≡_};
 ghost use Prim.Native.Nat.{_^_, _<_};
-ghost use lib.ListN.{getD};
 ghost use Rattle.settings.specs.Proper.{Proper};
 ghost use Rattle.settings.specs.Sizes.{bie};
 ghost use Rattle.settings.specs.Legal.{Legal};
 ghost use Rattle.keys.specs.Key.{keyNumber, keyOf, rebuilt};
-ghost use Rattle.table.specs.State.{entryOf};
 ghost use Rattle.table.specs.Decode.{decode};
 ghost use Rattle.table.specs.Table.{Table};
 ghost use Rattle.table.specs.Follow.{content};
@@ -165,12 +163,4 @@ fn nth_of(t: &[u8], g: Layout, b: Slots, n: u64) -> Nth
         entry: entry_in(t, g, b, j),
         label: label_in(t, g, b, j),
     }
-}
-
-// The entry in slot j.
-fn entry_in(t: &[u8], g: Layout, b: Slots, j: SlotNumber) -> Key
-    requires { ⌜ Proper g × SlotsWithin g (now t) b × (j .0 < b .count) ⌝ }
-    ensures { λ r. ⌜ r ≡ keyOf (entryOf g (getD (slotsIn g (now (t .entry)) b) (j .0) 0)) ⌝ }
-{
-    entry_at(t, b, b.start + j.0 * g.slot, g.bie)
 }

@@ -1,14 +1,15 @@
--- The layout of legal settings is proper, and widths are small.
-use mathlib.Core.Path.{refl}
-use Prim.Native.Nat.{_+_, _≤_}
+-- The layout of legal settings is proper, and widths are small; what a layout says of its settings.
+use mathlib.Core.Path.{_≡_, refl, sym, ap}
+use Prim.Native.Nat.{_+_, _^_, _≤_}
 use native.Mathlib.Omega.{arith}
 use lib.Pow.{pow-pos, pow-mono}
-use Rattle.settings.specs.Sizes.{linkBits, freeStartBits, basicCounterBits, basicBlockBits, lists, overflowCounterBits, overflowBlockBits, overflowStart, tableBits, tableBytes}
+use Rattle.settings.specs.Sizes.{bie, linkBits, freeStartBits, basicCounterBits, basicBlockBits, lists, overflowCounterBits, overflowBlockBits, overflowStart, tableBits, tableBytes}
 use Rattle.settings.specs.Legal.{Ranges, Legal}
 use Rattle.settings.specs.Layout.{layoutOf}
 use Rattle.settings.specs.Proper.{Proper}
 use Rattle.settings.specs.theory.Logs.{log-holds, log-least}
 use Rattle.settings.specs.declared.settings.Settings.{Settings}
+use Rattle.settings.specs.declared.layout.Layout.{Layout}
 
 pub widths-small : (s : Settings) → Ranges s → (linkBits s ≤ 16) × (basicCounterBits s ≤ 9) × (overflowCounterBits s ≤ 4)
 unfolding linkBits basicCounterBits overflowCounterBits
@@ -48,3 +49,13 @@ layout-proper s l =
       link-holds = log-holds (s .nob);
       free-holds = omega (arith, log-holds (1 + s .nob));
     }
+
+-- as many lists as index bits tell, and entries of bie bits
+module _ (s : Settings) (g : Layout) (e : layoutOf s ≡ g) where
+  pub lists-are : g .lists ≡ 2 ^ s .bii
+  unfolding layoutOf lists
+  lists-are = sym (ap (λ (x : Layout). x .lists) e)
+
+  pub bie-is : g .bie ≡ bie s
+  unfolding layoutOf
+  bie-is = sym (ap (λ (x : Layout). x .bie) e)

@@ -3,7 +3,7 @@ use mathlib.Core.Path.{_≡_, _∙_}
 use mathlib.Core.List.{List, [], _∷_, _++_, map}
 use Prim.Native.Nat.{ℕ, zero, suc, _+_, _*_, _^_, _<_}
 use native.Mathlib.Omega.{arith}
-use lib.ListN.{length, getD, take, set, length-set}
+use lib.ListN.{length, getD, take, drop, set, length-set}
 use Rattle.bits.specs.theory.Fields.{field-lt}
 use Rattle.settings.specs.declared.layout.Layout.{Layout}
 use Rattle.table.specs.Arrays.{tabulate}
@@ -39,6 +39,11 @@ module _ {A : Type 0} {P : A → Type 0} where
   all-take zero ps = all-nil
   all-take (suc n) all-nil = all-nil
   all-take (suc n) (all-cons p ps) = all-cons p (all-take n ps)
+
+  pub all-drop : {xs : List A} (n : ℕ) → All P xs → All P (drop n xs)
+  all-drop zero ps = ps
+  all-drop (suc n) all-nil = all-nil
+  all-drop (suc n) (all-cons p ps) = all-drop n ps
 
   pub all-append : {xs ys : List A} → All P xs → All P ys → All P (xs ++ ys)
   all-append all-nil qs = qs

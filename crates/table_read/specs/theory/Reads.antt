@@ -17,7 +17,7 @@ use Rattle.bits.specs.theory.Fields.{field-lt, field-fits, field-cat, first-fie
 use Rattle.bits.specs.theory.Puts.{put-zero, put-same, put-own, put-out}
 use Rattle.settings.specs.Proper.{Proper}
 use Rattle.keys.specs.Key.{keyNumber, keyOf}
-use Rattle.keys.specs.theory.Keys.{key-from}
+use Rattle.keys.specs.theory.Keys.{number-key, key-from}
 use Rattle.keys.specs.declared.Key.{Key}
 use Rattle.settings.specs.declared.layout.Layout.{Layout}
 use Rattle.table.specs.Arrays.{tabulate, unpacked}
@@ -117,6 +117,11 @@ module _ (g : Layout) (t : List ℕ) (b : Slots) where
 
   pub entry-in : Proper g → (k : ℕ) → k < b .count → entryOf g (getD (slotsIn g t b) k 0) ≡ field (restoredBytes t b) (b .start + k * g .slot) (g .bie)
   entry-in F k h = ap (entryOf g) (slot-in k h) ∙ slot-entry g F (restoredBytes t b) (b .start + k * g .slot)
+
+  -- and it has bie bits
+  pub entry-bound : Proper g → (j : ℕ) → j < b .count → (k : Key) → k ≡ keyOf (entryOf g (getD (slotsIn g t b) j 0)) → keyNumber k < 2 ^ g .bie
+  entry-bound F j l k e =
+      rw (e, number-key (entryOf g (getD (slotsIn g t b) j 0)), entry-in F j l) (field-lt (restoredBytes t b) (b .start + j * g .slot) (g .bie))
 
   pub label-in : Proper g → (k : ℕ) → k < b .count
       → labelOf g (getD (slotsIn g t b) k 0) ≡ field (restoredBytes t b) (b .start + k * g .slot + g .bie) (g .val)

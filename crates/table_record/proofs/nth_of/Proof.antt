@@ -6,8 +6,8 @@ use denote.Ref.{now}
 use lib.ListN.{length}
 use borrow.Author.Needs.{needs}
 use Rattle.table_read.specs.Steps.{slotsIn}
-use Rattle.table_read.specs.theory.Reads.{slots-length}
-use Rattle.table_record.proofs.Records.{nth-here, nth-past, bounded-past, bounded-slot, entry-bound}
+use Rattle.table_read.specs.theory.Reads.{slots-length, entry-bound}
+use Rattle.table_record.proofs.Records.{nth-here, nth-past, bounded-past, bounded-slot}
 use Rattle.table_record.specs.declared.Nth.the-variants as nth
 use Rattle.table_record.proofs.nth_of.Statement.{statement}
 use Rattle.table_record.proofs.nth_of.Tie as tie
@@ -33,7 +33,7 @@ returns-2 c =
     let h : a .n < a .b .count = omega (arith, c .before .before .if1 .left) in
     let l : a .n < length es = omega (arith, slots-length (a .g) (now (a .t)) (a .b)) in (
       ap₂ nth.Slot (c .before .entry-in .ensures) (c .label-in .ensures) ∙ sym (nth-here (a .g) es (a .n) l),
-      bounded-slot (a .g) _ _ (entry-bound (a .g) (p .pre .0) (now (a .t)) (a .b) (a .n) h _ (c .before .entry-in .ensures)),
+      bounded-slot (a .g) _ _ (entry-bound (a .g) (now (a .t)) (a .b) (p .pre .0) (a .n) h _ (c .before .entry-in .ensures)),
     )
 
 pub nth-of-spec : {M : Type 1} → statement M

@@ -10,8 +10,9 @@ use Rattle.table.specs.Decode.{decode}
 use Rattle.table.specs.Record.{recordIn}
 use Rattle.table.specs.theory.Formed.{basics}
 use Rattle.table_record.specs.RecordSteps.{recordsFrom}
-use Rattle.table_record.proofs.Records.{onNth, records-all, records-none, records-step, lists-are, bie-is}
+use Rattle.table_record.proofs.Records.{onNth, records-all, records-none, records-step}
 use Rattle.table_record.specs.declared.Nth.{Nth}
+use Rattle.settings.specs.theory.Proper.{lists-are, bie-is}
 use Rattle.table_record.proofs.record_in.Statement.{statement}
 use Rattle.table_record.proofs.record_in.Tie as tie
 

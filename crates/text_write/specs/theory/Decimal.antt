@@ -40,13 +40,20 @@ decimal-more (suc n) h =
     (ap (λ (d : List ℕ). d ++ (48 + suc n % 10) ∷ [])
     (ap (λ (m : ℕ). decimalFrom m (suc n / 10)) (sym e) ∙ sym (enough-from (suc n / 10) (suc n / 10) (n - suc n / 10) (omega arith))))
 
+-- a number of two or more digits has one more than its tenth
+pub decimal-longer : (n : ℕ) → 10 ≤ n → length (decimalText n) ≡ length (decimalText (n / 10)) + 1
+decimal-longer n h = ap length (decimal-more n h) ∙ length-append (decimalText (n / 10)) ((48 + n % 10) ∷ [])
+
+pub decimal-some : (n : ℕ) → 0 < length (decimalText n)
+decimal-some n =
+    cases (ltb n 10) (λ e. omega (arith, ap length (decimal-one n (ltb-true n 10 e)))) (λ e. omega (arith, decimal-longer n (ltb-false n 10 e)))
+
 pub decimal-length : (k n : ℕ) → n < 10 ^ suc k → length (decimalText n) ≤ suc k
 decimal-length zero n h = rw (decimal-one n (omega (arith, h))) (omega arith)
 decimal-length (suc k) n h =
     cases (ltb n 10) (λ e. rw (decimal-one n (ltb-true n 10 e)) (omega arith))
     (λ e.
-    rw (decimal-more n (ltb-false n 10 e), length-append (decimalText (n / 10)) ((48 + n % 10) ∷ []))
-    (omega (arith, decimal-length k (n / 10) (omega (arith, h, pow-add 10 (suc k) 1)))))
+    omega (arith, decimal-longer n (ltb-false n 10 e), decimal-length k (n / 10) (omega (arith, h, pow-add 10 (suc k) 1))))
 
 pub decimal-two : (n : ℕ) → 10 ≤ n → n < 100 → decimalText n ≡ (48 + n / 10) ∷ (48 + n % 10) ∷ []
 decimal-two n l h = decimal-more n l ∙ ap (λ (d : List ℕ). d ++ (48 + n % 10) ∷ []) (decimal-one (n / 10) (omega arith))

@@ -1,13 +1,11 @@
 -- The measure is n. A number is put as a tenth of it is, and one digit more.
-use mathlib.Core.Path.{_≡_, sym, ap, _∙_}
-use mathlib.Core.List.{[], _∷_}
+use mathlib.Core.Path.{sym, ap}
 use native.Mathlib.Omega.{arith}
-use lib.ListN.{length, length-append}
-use Rattle.text_write.specs.Decimal.{decimalText}
-use Rattle.text_write.specs.theory.Decimal.{decimal-one, decimal-more}
+use lib.ListN.{length}
+use Rattle.text_write.specs.theory.Decimal.{decimal-one, decimal-more, decimal-longer}
 use Rattle.program_answers.proofs.Puts.{put-then, put-as}
 use borrow.Author.Needs.{needs}
-use Prim.Native.Nat.{ℕ, _+_, _/_, _%_, _≤_, _<_}
+use Prim.Native.Nat.{ℕ, _+_, _<_}
 use borrow.Fn.Kinds.{In}
 use borrow.Fn.PlainCycle.{Measures, is, falls, and}
 use Rattle.program_answers.proofs.text.put_digits.Reads as put-digits
@@ -16,10 +14,6 @@ use Rattle.program_answers.proofs.text.+put_digits.Lts-put_digits as pu
 use Rattle.program_answers.proofs.text.put_digit.Reads as put-digit-reads
 use Rattle.program_answers.proofs.text.+put_digits.{statement}
 use Rattle.program_answers.proofs.text.+put_digits.Tie.{close}
-
--- a number of two or more digits has one more than its tenth
-longer : (n : ℕ) → 10 ≤ n → length (decimalText n) ≡ length (decimalText (n / 10)) + 1
-longer n h = ap length (decimal-more n h) ∙ length-append (decimalText (n / 10)) ((48 + n % 10) ∷ [])
 
 abbrev μ-put-digits : Measures 1 put-digits-kinds.ps ℕ
 μ-put-digits κs a = a .0
@@ -67,7 +61,7 @@ put-digits-put-digits-requires : (t : ℕ) → put-digits-lts.Need-put-digits-re
 ) (put-digits-at t) put-digits.Post
 put-digits-put-digits-requires t c κs =
     let a = c .before .before .before .args in
-    (omega (arith, c .before .if1 .left), omega (arith, longer (a .n) (c .before .if1 .left)))
+    (omega (arith, c .before .if1 .left), omega (arith, decimal-longer (a .n) (c .before .if1 .left)))
 
 put-digits-put-digit-requires-2 : (t : ℕ) → put-digits-lts.Need-put-digit-requires-2 (
   put-digit-reads.Asked,
@@ -79,7 +73,7 @@ put-digits-put-digit-requires-2 t c κs =
     let p = c .before .before .before in
     let h = p .before .before in
     let a = h .before .before .args in
-    (omega arith, omega (arith, longer (a .n) (h .if1 .left), p .put-digits .ensures .end))
+    (omega arith, omega (arith, decimal-longer (a .n) (h .if1 .left), p .put-digits .ensures .end))
 
 put-digits-same-length-2 : (t : ℕ) → put-digits-lts.Need-same-length-2 (
   put-digit-reads.Asked,

@@ -3,9 +3,9 @@ use mathlib.Core.Path.{sym, ap, _∙_, refl}
 use native.Mathlib.Omega.{arith}
 use denote.Ref.{now}
 use Rattle.keys.specs.Key.{keyOf}
 use Rattle.table_read.specs.theory.Reads.{slot-inside, entry-in, entry-within}
-use Rattle.table_record.proofs.entry_in.Statement.{statement}
-use Rattle.table_record.proofs.entry_in.Tie as tie
+use Rattle.table_read.proofs.slots.entry_in.Statement.{statement}
+use Rattle.table_read.proofs.slots.entry_in.Tie as tie
 
 mul-entry-at : tie.Need-mul-entry-at
 mul-entry-at c =
