@@ -17,12 +17,15 @@ Answer baseline_check(Settings, const uint8_t *, size_t, uint8_t *, size_t);
 Answer baseline_find_text(Settings, const uint8_t *, size_t, const uint8_t *, size_t);
 Answer baseline_read_text(const uint8_t *, size_t);
 Answer baseline_write_text(Key, uint8_t *, size_t);
+Answer baseline_page(Settings, const uint8_t *, size_t, uint64_t, uint8_t *, size_t);
 
 const Library libraries[LIBRARIES] = {
     { "product", shelfegret_size, shelfegret_make, shelfegret_enter, shelfegret_relabel, shelfegret_find,
-      shelfegret_delete, shelfegret_check, shelfegret_find_text, shelfegret_read_text, shelfegret_write_text },
+      shelfegret_delete, shelfegret_check, shelfegret_find_text, shelfegret_read_text, shelfegret_write_text,
+      shelfegret_page },
     { "baseline", baseline_size, baseline_make, baseline_enter, baseline_relabel, baseline_find,
-      baseline_delete, baseline_check, baseline_find_text, baseline_read_text, baseline_write_text },
+      baseline_delete, baseline_check, baseline_find_text, baseline_read_text, baseline_write_text,
+      baseline_page },
 };
 
 int library_named(const char *name)

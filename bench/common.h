@@ -27,6 +27,7 @@ typedef struct {
     Answer (*find_text)(Settings, const uint8_t *, size_t, const uint8_t *, size_t);
     Answer (*read_text)(const uint8_t *, size_t);
     Answer (*write_text)(Key, uint8_t *, size_t);
+    Answer (*page)(Settings, const uint8_t *, size_t, uint64_t, uint8_t *, size_t);
 } Library;
 
 enum { PRODUCT, BASELINE, LIBRARIES };

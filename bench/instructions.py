@@ -20,6 +20,10 @@ CALLS = {
     "op_read_tail": "read_text, dotted tail",
     "op_read_bare": "read_text, bare dotted",
     "op_write_mapped": "write_text, mapped",
+    "op_page_first": "page, the first",
+    "op_page_middle": "page, the middle one",
+    "op_page_last": "page, the last",
+    "op_page_beyond": "page, one beyond, refused",
 }
 
 
@@ -54,7 +58,12 @@ def rows(title, driver, *words):
             print(f"| {title} | {CALLS[name]} | {a:.0f} | {b:.0f} | {a / b:.2f} |")
 
 
+def on_tables(driver):
+    for table in output(work + "/" + driver, "tables").splitlines()[:1 if quick else None]:
+        rows(table, driver, table)
+
+
 print("| table | call | product | baseline | product / baseline |\n|---|---|---|---|---|")
-for table in output(work + "/calls", "tables").splitlines()[:1 if quick else None]:
-    rows(table, "calls", table)
+on_tables("calls")
 rows("the program's, n 800", "text")
+on_tables("pages")

@@ -47,14 +47,15 @@ STUB(stub_find_text, settings s, const uint8_t *t, size_t n, const uint8_t *x, s
 STUB(stub_delete_text, settings s, uint8_t *t, size_t n, const uint8_t *x, size_t xn)
 STUB(stub_read_text, const uint8_t *x, size_t xn)
 STUB(stub_write_text, key k, uint8_t *o, size_t on)
+STUB(stub_page, settings s, const uint8_t *t, size_t n, uint64_t p, uint8_t *o, size_t on)
 
 enum {
     SIZE, MAKE, ENTER, RELABEL, FIND, DELETE, RECORD, CHECK,
-    ENTER_TEXT, RELABEL_TEXT, FIND_TEXT, DELETE_TEXT, READ_TEXT, WRITE_TEXT, CALLS
+    ENTER_TEXT, RELABEL_TEXT, FIND_TEXT, DELETE_TEXT, READ_TEXT, WRITE_TEXT, PAGE, CALLS
 };
 static const char *const names[CALLS] = {
     "size",       "make",         "enter",     "relabel",     "find",      "delete",    "record", "check",
-    "enter_text", "relabel_text", "find_text", "delete_text", "read_text", "write_text"};
+    "enter_text", "relabel_text", "find_text", "delete_text", "read_text", "write_text", "page"};
 
 static const struct {
     answer (*size)(settings);
@@ -71,12 +72,13 @@ static const struct {
     answer (*delete_text)(settings, uint8_t *, size_t, const uint8_t *, size_t);
     answer (*read_text)(const uint8_t *, size_t);
     answer (*write_text)(key, uint8_t *, size_t);
+    answer (*page)(settings, const uint8_t *, size_t, uint64_t, uint8_t *, size_t);
 } volatile ways[2] = {
     {stub_size, stub_make, stub_enter, stub_relabel, stub_find, stub_delete, stub_record, stub_check, stub_enter_text,
-     stub_relabel_text, stub_find_text, stub_delete_text, stub_read_text, stub_write_text},
+     stub_relabel_text, stub_find_text, stub_delete_text, stub_read_text, stub_write_text, stub_page},
     {shelfegret_size, shelfegret_make, shelfegret_enter, shelfegret_relabel, shelfegret_find, shelfegret_delete,
      shelfegret_record, shelfegret_check, shelfegret_enter_text, shelfegret_relabel_text, shelfegret_find_text,
-     shelfegret_delete_text, shelfegret_read_text, shelfegret_write_text},
+     shelfegret_delete_text, shelfegret_read_text, shelfegret_write_text, shelfegret_page},
 };
 
 static struct {
@@ -86,7 +88,7 @@ static struct {
     uint64_t label, n;
     size_t size, text_len, out_len;
 } now;
-static uint8_t table[TABLE_MOST], marks[8192], text[TEXT_MOST], out[39];
+static uint8_t table[TABLE_MOST], marks[8192], text[TEXT_MOST], out[SHELFEGRET_PAGE_BYTES];
 static int way;
 static answer last;
 
@@ -107,7 +109,8 @@ static void ask(void)
     case FIND_TEXT: last = ways[way].find_text(now.s, t, now.size, text, now.text_len); break;
     case DELETE_TEXT: last = ways[way].delete_text(now.s, t, now.size, text, now.text_len); break;
     case READ_TEXT: last = ways[way].read_text(text, now.text_len); break;
-    default: last = ways[way].write_text(now.k, out, now.out_len); break;
+    case WRITE_TEXT: last = ways[way].write_text(now.k, out, now.out_len); break;
+    default: last = ways[way].page(now.s, t, now.size, now.n, out, now.out_len); break;
     }
 }
 
@@ -187,9 +190,10 @@ static void some_call(int damaged)
     now.k = keys[below(KEYS)];
     now.label = random_bits() >> (64 - now.s.val) % 64;
     if (now.s.val == 0) now.label = 0;
-    now.n = below(64);
+    now.n = below(now.what == PAGE ? 4 : 64);
     now.text_len = one_in(2) ? legal_text(now.k, text) : any_text(now.k, text);
-    now.out_len = one_in(8) ? below(39) : 39;
+    now.out_len = now.what == PAGE ? sizeof out : 39;
+    if (one_in(8)) now.out_len = below(now.out_len);
     if (damaged && one_in(20)) table[TABLE_MOST - 1 - below(now.size)] = (uint8_t)random_bits();
     measured(one_in(2) ? 0xa5 : 0x5a);
 }

@@ -19,7 +19,7 @@ typedef struct shelfegret_answer answer;
 
 enum { TABLE_MOST = 16777216 };
 
-static uint8_t table[TABLE_MOST], marks[8192];
+static uint8_t table[TABLE_MOST], marks[8192], out[SHELFEGRET_PAGE_BYTES];
 static size_t size;
 static settings s;
 
@@ -117,6 +117,7 @@ static uint64_t entries(void)
 
 static answer find(key k) { return shelfegret_find(s, table, size, k); }
 static answer record(uint64_t n) { return shelfegret_record(s, table, size, n); }
+static answer page(uint64_t n) { return shelfegret_page(s, table, size, n, out, sizeof out); }
 static answer check(void) { return shelfegret_check(s, table, size, marks, sizeof marks); }
 
 static double least(double a, double b) { return a < b ? a : b; }
@@ -141,6 +142,18 @@ static double record_beyond(void)
         answer a = record(~0ull);
         best = least(best, seconds() - start);
         expect(a.word == SHELFEGRET_NONE, "a record behind the last");
+    }
+    return best;
+}
+
+static double first_page(void)
+{
+    double best = 1e9;
+    for (int i = 0; i < 3; i++) {
+        double start = seconds();
+        answer a = page(1);
+        best = least(best, seconds() - start);
+        expect(a.number == sizeof out, "a full page");
     }
     return best;
 }
@@ -197,17 +210,20 @@ static void one_list(int in_order, int whole)
     show(what, find_miss(entries()), "measured");
     snprintf(what, sizeof what, "record behind the last, in that list, %s", way);
     show(what, record_beyond(), "measured");
+    snprintf(what, sizeof what, "page 1, of that list, %s", way);
+    show(what, first_page(), "measured");
 }
 
 static void shared_blocks(void)
 {
     settings given = {128, 16, 1, 65535, 15, 0, 1, 1};
     all_blocks(given, 1, 0);
-    double one = record_beyond();
+    double one = record_beyond(), one_page = first_page();
     all_blocks(given, 9, 0);
-    double nine = record_beyond();
+    double nine = record_beyond(), nine_page = first_page();
     show("record behind the last, 65,536 lists through the same 65,535 blocks in random order (unsound)",
          one + (nine - one) / 8 * 65535, "computed from 1 and 9 such lists");
+    show("page 1, of that table", one_page + (nine_page - one_page) / 8 * 65535, "computed from 1 and 9 such lists");
 }
 
 /* A table with n random addresses, its check, and a copy of it by record 0, 1, .. */
@@ -231,6 +247,10 @@ static void filled(const char *name, settings given, uint64_t n)
     for (uint64_t i = 0; i < n; i += n / 100) expect(record(i).word == SHELFEGRET_RECORD, "a record is not there");
     snprintf(what, sizeof what, "record 0, 1, .. to the last, %s", name);
     show(what, (seconds() - start) * (double)n / 100, "computed from a hundred of them");
+    snprintf(what, sizeof what, "page 1, 2, .. to the last, %s", name);
+    start = seconds();
+    for (uint64_t i = 1; i <= (n + 39) / 40; i++) expect(page(i).code == 0, "a page is not there");
+    show(what, seconds() - start, "measured");
 }
 
 int main(int argc, char **argv)

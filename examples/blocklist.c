@@ -17,7 +17,7 @@ static uint8_t marks[1];    /* scratch for check: a bit for each shared block */
 static const char *const words[] = {"-",      "added", "held",    "gone",      "none",
                                     "record", "sound", "unsound", "relabelled"};
 static const char *const refusals[] = {"-",      "settings", "short",  "width", "text", "key", "label",
-                                       "damage", "full",     "output", "marks", "-",    "known"};
+                                       "damage", "full",     "output", "marks", "-",    "known", "page"};
 
 /* Prints an address. The library writes it into our buffer, without a terminator. */
 static void print_address(struct shelfegret_key key)
@@ -80,6 +80,21 @@ static void print_all(void)
     }
 }
 
+/* Prints the list as a sheet: page 1, 2, .. until one is refused. */
+static void print_sheet(void)
+{
+    uint8_t page[SHELFEGRET_PAGE_BYTES];
+    for (uint64_t n = 1;; n++) {
+        struct shelfegret_answer answer = shelfegret_page(settings, table, sizeof table, n, page, sizeof page);
+        printf("page %u: ", (unsigned)n);
+        if (answer.code != 0) {
+            print_answer(answer);
+            break;
+        }
+        printf("%u bytes\n%.*s", (unsigned)answer.number, (int)answer.number, (const char *)page);
+    }
+}
+
 static void print_check(void)
 {
     struct shelfegret_answer answer = shelfegret_check(settings, table, sizeof table, marks, sizeof marks);
@@ -103,6 +118,7 @@ int main(void)
     block("192.0.2.1", 2);         /* an IPv4 device is one entry too: ::ffff:192.0.2.1, */
     relabel("::ffff:c000:201", 3); /* however it is spelled */
     print_all();
+    print_sheet();
 
     look_up(source);
     look_up(other);

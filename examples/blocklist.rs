@@ -60,6 +60,16 @@ fn print_all(table: &[u8]) {
     }
 }
 
+fn print_sheet(table: &[u8]) {
+    let mut page = [0; shelfegret::PAGE_BYTES];
+    for n in 1.. {
+        print!("page {n}: ");
+        let result = shelfegret::page(SETTINGS, table, n, &mut page);
+        let Ok(a) = result else { return print_answer(result) };
+        print!("{} bytes\n{}", a.number, String::from_utf8_lossy(&page[..a.number as usize]));
+    }
+}
+
 fn print_check(table: &[u8]) {
     let mut marks = [0; 1]; // a bit for each shared block
     match shelfegret::check(SETTINGS, table, &mut marks) {
@@ -81,6 +91,7 @@ fn main() -> Result<(), Refusal> {
     block(&mut table, "192.0.2.1", 2); // an IPv4 device is one entry too: ::ffff:192.0.2.1,
     relabel(&mut table, "::ffff:c000:201", 3); // however it is spelled
     print_all(&table);
+    print_sheet(&table);
 
     look_up(&table, [0x20, 0x01, 0x0d, 0xb8, 0, 0, 0, 0, 0, 0, 0, 0, 0, 0, 0, 1]);
     look_up(&table, [0x20, 0x01, 0x0d, 0xb8, 0, 0, 0, 0, 0, 0, 0, 0, 0, 0, 0, 2]);

@@ -2,7 +2,7 @@
  *
  *     cc -Iinclude examples/salvage.c target/staticlib/libshelfegret.a -o salvage
  *
- * A call is refused with 7 if the list that it follows is damaged; the other lists can still be read. shelfegret_record
+ * A call is refused with 7 if a list that it follows is damaged; the other lists can still be read. shelfegret_record
  * goes from list to list, and comes to no entry behind a damaged one. So a copy of the bytes is made in which the
  * damaged lists are empty, and that is read to its end. */
 #include <stdio.h>

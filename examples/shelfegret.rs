@@ -71,6 +71,7 @@ pub enum Refusal {
     Output,
     Marks,
     Known = 12, // 11 is the program's alone
+    Page,
 }
 
 impl Answer {
@@ -87,6 +88,7 @@ impl Answer {
         match self.code {
             0 => Ok(self),
             12 => Err(Known),
+            13 => Err(Page),
             code => Err(all[code as usize - 1]),
         }
     }
@@ -136,6 +138,14 @@ mod c {
         ) -> Answer;
         pub fn shelfegret_read_text(text: *const u8, text_len: usize) -> Answer;
         pub fn shelfegret_write_text(key: Key, out: *mut u8, out_len: usize) -> Answer;
+        pub fn shelfegret_page(
+            s: Settings,
+            table: *const u8,
+            len: usize,
+            page: u64,
+            out: *mut u8,
+            out_len: usize,
+        ) -> Answer;
     }
 }
 
@@ -198,4 +208,11 @@ pub fn read_text(text: &[u8]) -> Result<Answer, Refusal> {
 
 pub fn write_text(key: Key, out: &mut [u8]) -> Result<Answer, Refusal> {
     unsafe { c::shelfegret_write_text(key, out.as_mut_ptr(), out.len()) }.or_refusal()
+}
+
+/// The bytes that `page` must be lent, however few it writes.
+pub const PAGE_BYTES: usize = 2091;
+
+pub fn page(s: Settings, table: &[u8], n: u64, out: &mut [u8]) -> Result<Answer, Refusal> {
+    unsafe { c::shelfegret_page(s, table.as_ptr(), table.len(), n, out.as_mut_ptr(), out.len()) }.or_refusal()
 }

@@ -53,7 +53,7 @@ struct shelfegret_answer {
                                   none */
     uint32_t compared;         /* enter, relabel, find, delete: entries compared, up to and including the match, or the
                                   list's length if there is none (with ADDED, before it); else 0 */
-    uint64_t number;           /* size, write_text: bytes; else 0 */
+    uint64_t number;           /* size, write_text, page: bytes; else 0 */
 };
 
 /* words */
@@ -72,17 +72,18 @@ enum {
 enum {
     SHELFEGRET_REFUSED_SETTINGS = 1, /* a range or rule of the settings is broken */
     SHELFEGRET_REFUSED_SHORT = 2,    /* the lent table is smaller than its size */
-    SHELFEGRET_REFUSED_WIDTH = 3,    /* a text goes to a table with w other than 128 */
+    SHELFEGRET_REFUSED_WIDTH = 3,    /* addresses are given or wanted as text, and w is not 128 */
     SHELFEGRET_REFUSED_TEXT = 4,     /* the text is not a legal address */
     SHELFEGRET_REFUSED_KEY = 5,      /* the key is 2^w or more */
     SHELFEGRET_REFUSED_LABEL = 6,    /* the label is 2^val or more */
-    SHELFEGRET_REFUSED_DAMAGE = 7,   /* the list that the call follows is damaged; or the chain of free blocks is, where
+    SHELFEGRET_REFUSED_DAMAGE = 7,   /* a list that the call follows is damaged; or the chain of free blocks is, where
                                         enter takes a block or delete frees one */
     SHELFEGRET_REFUSED_FULL = 8,     /* a new entry needs an overflow block, and none is free; docs/LIBRARY.md says
                                         which deletes make room */
-    SHELFEGRET_REFUSED_OUTPUT = 9,   /* fewer bytes are lent than the text has */
+    SHELFEGRET_REFUSED_OUTPUT = 9,   /* fewer bytes are lent than the text has, or than a page may have */
     SHELFEGRET_REFUSED_MARKS = 10,   /* fewer mark bytes are lent than check needs */
-    SHELFEGRET_REFUSED_KNOWN = 12    /* the key that is to be entered is there already (11 is the program's own) */
+    SHELFEGRET_REFUSED_KNOWN = 12,   /* the key that is to be entered is there already (11 is the program's own) */
+    SHELFEGRET_REFUSED_PAGE = 13     /* the page number is 0 or beyond the last page */
 };
 
 /* The bytes that a table with these settings needs, in number. Refuses 1. */
@@ -143,6 +144,18 @@ struct shelfegret_answer shelfegret_read_text(const uint8_t *text, size_t text_l
 /* Writes the address in RFC 5952 form, with a dotted tail under ::ffff:0:0/96 and in hexadecimal elsewhere, at most 39
  * bytes, without a terminator; number is its length, and the rest of out stays as it is. Refuses 9. */
 struct shelfegret_answer shelfegret_write_text(struct shelfegret_key key, uint8_t *out, size_t out_len);
+
+/* The bytes that page must be lent: a heading and 40 rows, of 51 bytes each. */
+#define SHELFEGRET_PAGE_BYTES 2091
+
+/* Writes a page of a table with w 128: a heading and up to 40 rows, each 50 bytes and a line feed. A row is an address,
+ * as write_text writes it, left in 39 columns, a space, and its label in decimal, right in 10; the heading has ADDRESS
+ * and LABEL there. Rows come in the order of record. Pages count from 1; every page but the last has 40 rows, and a
+ * table without entries has one page, the heading alone. number is the bytes written, and the rest of out stays as it
+ * is; however few they are, SHELFEGRET_PAGE_BYTES must be lent, or 9 is refused. Every list is followed to its end
+ * first, and 7 is refused if one of them is damaged. The table is only read. Refuses 1, 2, 3, 9, 7, 13. */
+struct shelfegret_answer shelfegret_page(struct shelfegret_settings settings, const uint8_t *table, size_t len,
+                                         uint64_t page, uint8_t *out, size_t out_len);
 
 #ifdef __cplusplus
 }

@@ -1,4 +1,5 @@
-/* claims.c - what docs/LIBRARY.md says of refusals 7, 8 and 12 and of check, on tables small enough to try every case.
+/* claims.c - what docs/LIBRARY.md says of refusals 7, 8 and 12, of check and of pages, on tables small enough to try
+ * every case.
  *
  *     claims [SEED]
  *
@@ -15,7 +16,7 @@ typedef struct shelfegret_settings settings;
 typedef struct shelfegret_key key;
 typedef struct shelfegret_answer answer;
 
-enum { TABLE_MOST = 32768 };
+enum { TABLE_MOST = 2097152 };
 
 static settings s;
 static size_t size;
@@ -203,6 +204,99 @@ static void broken_list(void)
     expect(n == all && record(table, n).code == 0, "with the damaged list empty, record reads all others");
 }
 
+/* ---- page, on tables that are sound and not */
+
+enum { ROWS = 40, LINE = 51 };
+static uint8_t sheet[SHELFEGRET_PAGE_BYTES];
+
+static answer page(uint64_t n) { return shelfegret_page(s, table, size, n, sheet, sizeof sheet); }
+
+static void expect_row(uint32_t row, key k, uint32_t label)
+{
+    char address[39], due[LINE + 1];
+    int n = (int)shelfegret_write_text(k, (uint8_t *)address, sizeof address).number;
+    snprintf(due, sizeof due, "%-39.*s %10u\n", n, address, (unsigned)label);
+    expect(memcmp(sheet + (1 + row) * LINE, due, LINE) == 0, "a row is its record");
+}
+
+/* The pages, without their headings, are the records: each once, and in their order. */
+static void pages_are_records(void)
+{
+    uint64_t n = 0, pages = 0;
+    do {
+        answer a = page(++pages);
+        uint32_t rows = (uint32_t)(a.number / LINE) - 1;
+        expect(a.code == 0 && a.number == LINE * (1 + rows) && rows <= ROWS, "a page with whole lines");
+        expect(memcmp(sheet, "ADDRESS                                      LABEL\n", LINE) == 0, "the heading");
+        for (uint32_t i = 0; i < rows; i++) {
+            answer r = record(table, n++);
+            expect(r.word == SHELFEGRET_RECORD, "a row that is no record");
+            expect_row(i, r.key, r.label);
+        }
+        expect(rows == ROWS || record(table, n).word == SHELFEGRET_NONE, "every page but the last is full");
+    } while (record(table, n).word == SHELFEGRET_RECORD);
+    expect(pages == (n ? (n + ROWS - 1) / ROWS : 1), "no page more than the records need");
+    expect(page(pages + 1).code == SHELFEGRET_REFUSED_PAGE, "no page behind the last");
+    expect(page(0).code == SHELFEGRET_REFUSED_PAGE, "no page 0");
+}
+
+/* The list gets another's counter and link: if that one overflows, it goes on through the same blocks. */
+static void share(uint32_t list, uint32_t with)
+{
+    uint32_t bits = basic_counter_bits(s) + link_bits(s);
+    put_bits(table, basic_at(s, list), bits, get_bits(table, basic_at(s, with), bits));
+}
+
+static void shared_lists(void)
+{
+    new_table((settings){128, 3, 3, 60, 2, 5, 3, 4});
+    for (uint32_t i = 0; i < 8; i++) {
+        uint32_t length = (uint32_t)below(1 + below(18));
+        fill(i, length);
+        for (uint32_t n = 0; n < length; n++) relabel(table, key_of(i, n), (uint32_t)below(32));
+    }
+    pages_are_records();
+    for (uint64_t left = 1 + below(3); left; left--) {
+        uint32_t list = (uint32_t)below(8), with = (uint32_t)below(8);
+        share(list, with);
+    }
+    pages_are_records();
+    uint64_t bad = below(8);
+    put_bits(table, basic_at(s, bad), basic_counter_bits(s), s.sib + 2 + below(3));
+    for (uint64_t n = 0; n < 5; n++)
+        expect(page(n).code == SHELFEGRET_REFUSED_DAMAGE, "no page while a list is damaged, wherever it is");
+}
+
+/* No entry; then a list through all blocks, alone and twice. */
+static void long_list(void)
+{
+    new_table((settings){128, 1, 1, 100, 15, 8, 1, 1});
+    pages_are_records();
+    fill(1, 1501);
+    pages_are_records();
+    share(0, 1);
+    pages_are_records();
+}
+
+/* Every list goes through all blocks, and so there are more than 2^32 records. Every entry is 0. */
+static void many_records(void)
+{
+    new_table((settings){128, 16, 1, 4370, 15, 0, 1, 1});
+    memset(table, 0, size);
+    for (uint32_t i = 0; i < s.nob; i++) {
+        int last = i + 1 == s.nob;
+        put_bits(table, block_at(s, i), counter_bits(s), last ? s.sio - 1 : s.sio);
+        put_bits(table, link_at(s, i), link_bits(s), last ? 0 : i + 1);
+    }
+    for (uint32_t list = 0; list < 65536; list++) put_bits(table, basic_at(s, list), basic_counter_bits(s), s.sib + 1);
+    uint64_t records = 65536 * (uint64_t)(s.sib + s.nob * s.sio), last = records / ROWS + 1;
+    uint32_t rows = (uint32_t)(records % ROWS);
+    expect(records >> 32 == 1 && rows != 0, "the test's own numbers");
+    expect(page(last).number == LINE * (1 + rows), "the last of a hundred million pages");
+    for (uint32_t i = 0; i < rows; i++) expect_row(i, key_in_list(s, (key){0, 0}, 65535), 0);
+    expect(page(last + 1).code == SHELFEGRET_REFUSED_PAGE, "and none behind it");
+}
+
 /* ---- other settings than the table's */
 
 /* Returns how many of 700 addresses are found with another a and b. */
@@ -240,6 +334,9 @@ int main(int argc, char **argv)
     for (int i = 0; i < 2000; i++) full_table();
     broken_chain();
     for (int i = 0; i < 2000; i++) broken_list();
+    for (int i = 0; i < 500; i++) shared_lists();
+    long_list();
+    many_records();
     no_secret();
     unsigned found = other_spread();
     printf("claims: %u cases on %u tables; %u of 700 found with another a and b\n", cases, tables, found);

@@ -7,8 +7,9 @@
  * buffer lies between two pages without access, against one of them or with guard bytes on both sides, so that reads
  * outside are caught as well. The settings are legal and not, the tables new, in use, damaged and random. Behind each
  * relabel the table must be the one before with the label's bits changed, each where format.c finds it. At the end
- * each call must have given each of its refusals and words many times, and no other; and labels of every kind must have
- * been changed, such as those that lie where a block's number is.
+ * each call must have given each of its refusals and words many times, and no other; labels of every kind must have
+ * been changed, such as those that lie where a block's number is; and pages of every kind printed, such as those of
+ * tables whose lists share blocks. How many records these have is counted with format.c, and gives the page's length.
  *
  * The baseline is compiled with base_ in the place of shelfegret_ in its names. */
 #define _DEFAULT_SOURCE /* MAP_ANONYMOUS */
@@ -46,6 +47,7 @@ struct library {
     answer (*delete_text)(settings, uint8_t *, size_t, const uint8_t *, size_t);
     answer (*read_text)(const uint8_t *, size_t);
     answer (*write_text)(key, uint8_t *, size_t);
+    answer (*page)(settings, const uint8_t *, size_t, uint64_t, uint8_t *, size_t);
 };
 
 answer base_size(settings);
@@ -62,20 +64,21 @@ answer base_find_text(settings, const uint8_t *, size_t, const uint8_t *, size_t
 answer base_delete_text(settings, uint8_t *, size_t, const uint8_t *, size_t);
 answer base_read_text(const uint8_t *, size_t);
 answer base_write_text(key, uint8_t *, size_t);
+answer base_page(settings, const uint8_t *, size_t, uint64_t, uint8_t *, size_t);
 
 enum { LIBRARY, BASELINE, BOTH };
 static const char *const names[BOTH + 1] = {"library", "baseline", "test itself"};
 static const struct library libraries[BOTH] = {
     {shelfegret_size, shelfegret_make, shelfegret_enter, shelfegret_relabel, shelfegret_find, shelfegret_delete,
      shelfegret_record, shelfegret_check, shelfegret_enter_text, shelfegret_relabel_text, shelfegret_find_text,
-     shelfegret_delete_text, shelfegret_read_text, shelfegret_write_text},
+     shelfegret_delete_text, shelfegret_read_text, shelfegret_write_text, shelfegret_page},
     {base_size, base_make, base_enter, base_relabel, base_find, base_delete, base_record, base_check, base_enter_text,
-     base_relabel_text, base_find_text, base_delete_text, base_read_text, base_write_text},
+     base_relabel_text, base_find_text, base_delete_text, base_read_text, base_write_text, base_page},
 };
 
 /* ---- lent buffers */
 
-enum { TABLE_MOST = 16777216, LONGER_MOST = 32, MARKS_MOST = 8192, OUT_MOST = 48, GUARD = 64 };
+enum { TABLE_MOST = 16777216, LONGER_MOST = 32, MARKS_MOST = 8192, WRITTEN_MOST = 48, GUARD = 64 };
 
 struct buffer {
     const char *name;
@@ -92,7 +95,7 @@ struct buffer {
 static struct buffer table = {.name = "table", .most = TABLE_MOST + LONGER_MOST};
 static struct buffer marks = {.name = "marks", .most = MARKS_MOST + LONGER_MOST};
 static struct buffer text = {.name = "text", .most = TEXT_MOST};
-static struct buffer out = {.name = "out", .most = OUT_MOST};
+static struct buffer out = {.name = "out", .most = SHELFEGRET_PAGE_BYTES + LONGER_MOST};
 static uint8_t guard[GUARD];
 
 static void *or_give_up(void *memory)
@@ -173,9 +176,10 @@ enum what {
     FIND_TEXT,
     DELETE_TEXT,
     READ_TEXT,
-    WRITE_TEXT
+    WRITE_TEXT,
+    PAGE
 };
-enum { WHATS = WRITE_TEXT + 1 };
+enum { WHATS = PAGE + 1 };
 
 struct call {
     enum what what;
@@ -185,7 +189,7 @@ struct call {
 };
 
 enum { TAKES_TABLE = 1, TAKES_MARKS = 2, TAKES_TEXT = 4, TAKES_OUT = 8 };
-enum { CODES = 13, WORDS = 9 };
+enum { CODES = 14, WORDS = 9 };
 #define BIT(n) (1u << (n))
 
 /* what each call takes, and the refusals and words that shelfegret.h gives it; word 0 is no word */
@@ -214,6 +218,7 @@ static const struct {
                      BIT(SHELFEGRET_GONE) | BIT(SHELFEGRET_NONE)},
     [READ_TEXT] = {"read_text", TAKES_TEXT, BIT(4), BIT(0)},
     [WRITE_TEXT] = {"write_text", TAKES_OUT, BIT(9), BIT(0)},
+    [PAGE] = {"page", TAKES_TABLE | TAKES_OUT, BIT(1) | BIT(2) | BIT(3) | BIT(9) | BIT(7) | BIT(13), BIT(0)},
 };
 
 static uint8_t *lent(const struct buffer *b, int i)
@@ -239,7 +244,8 @@ static answer ask(int i, const struct call *c)
     case FIND_TEXT: return l->find_text(c->settings, t, table.len, lent(&text, i), text.len);
     case DELETE_TEXT: return l->delete_text(c->settings, t, table.len, lent(&text, i), text.len);
     case READ_TEXT: return l->read_text(lent(&text, i), text.len);
-    default: return l->write_text(c->key, lent(&out, i), out.len);
+    case WRITE_TEXT: return l->write_text(c->key, lent(&out, i), out.len);
+    default: return l->page(c->settings, t, table.len, c->n, lent(&out, i), out.len);
     }
 }
 
@@ -391,6 +397,80 @@ static void expect_relabelled(const answer *both)
         }
 }
 
+/* The records of the table, counted list by list; none is given where a list is damaged. */
+struct sheet {
+    uint64_t records;
+    int damaged, shared; /* blocks are in two lists */
+};
+
+static struct sheet count_records(settings s)
+{
+    static struct followed f;
+    static uint8_t met[65535];
+    struct sheet sheet = {0, 0, 0};
+    memset(met, 0, s.nob);
+    for (uint64_t list = 0; list < (uint64_t)1 << s.bii; list++) {
+        if (!follow(s, table.held, list, &f)) return (struct sheet){0, 1, 0};
+        sheet.records += f.length;
+        for (uint32_t i = 0; i < f.blocks; i++) {
+            sheet.shared |= met[f.block[i]];
+            met[f.block[i]] = 1;
+        }
+    }
+    return sheet;
+}
+
+/* Pages that were asked for, by what was special about them. */
+enum { EMPTY, ONE_ROW, FULL_AND_LAST, FULL_AND_MORE, THIRD, OF_SHARED, BEHIND_FULL, PAGE_ZERO, PAGE_HUGE, PAGES };
+static const char *const page_kinds[PAGES] = {
+    [EMPTY] = "of an empty table",
+    [ONE_ROW] = "with one row behind full ones",
+    [FULL_AND_LAST] = "full, and the last",
+    [FULL_AND_MORE] = "full, and not the last",
+    [THIRD] = "from the third on",
+    [OF_SHARED] = "of lists that share blocks",
+    [BEHIND_FULL] = "refused, right behind a full one",
+    [PAGE_ZERO] = "refused, 0",
+    [PAGE_HUGE] = "refused, of 2^29 or more",
+};
+static uint64_t asked_pages[PAGES];
+
+enum { ROWS = 40, LINE = 51, FEW_LISTS = 6 };
+
+static uint64_t pages_of(uint64_t records)
+{
+    return records == 0 ? 1 : (records + ROWS - 1) / ROWS;
+}
+
+static void count_page(uint64_t page, uint64_t pages, uint64_t rows, struct sheet sheet)
+{
+    asked_pages[EMPTY] += page == 1 && sheet.records == 0;
+    asked_pages[ONE_ROW] += rows == 1 && page > 1;
+    asked_pages[FULL_AND_LAST] += rows == ROWS && page == pages;
+    asked_pages[FULL_AND_MORE] += rows == ROWS && page < pages;
+    asked_pages[THIRD] += rows != 0 && page >= 3;
+    asked_pages[OF_SHARED] += rows != 0 && sheet.shared;
+    asked_pages[BEHIND_FULL] += page == pages + 1 && sheet.records == ROWS * pages;
+    asked_pages[PAGE_ZERO] += page == 0;
+    asked_pages[PAGE_HUGE] += page >> 29 != 0;
+}
+
+/* The refusals 7 and 13, and the number of bytes, are those that the records give. */
+static void expect_page(const answer *both)
+{
+    answer a = both[LIBRARY];
+    if (a.code && a.code != SHELFEGRET_REFUSED_DAMAGE && a.code != SHELFEGRET_REFUSED_PAGE) return;
+    if (now.settings.bii > FEW_LISTS) return; /* slow to count */
+    struct sheet sheet = count_records(now.settings);
+    uint64_t pages = pages_of(sheet.records), before = ROWS * (now.n - 1), rows = 0;
+    int there = now.n != 0 && now.n <= pages;
+    uint32_t code = sheet.damaged ? SHELFEGRET_REFUSED_DAMAGE : there ? 0 : SHELFEGRET_REFUSED_PAGE;
+    if (!code) rows = sheet.records - before < ROWS ? sheet.records - before : ROWS;
+    if (a.code != code) differ("not the refusal of such a page", both);
+    if (a.number != (code ? 0 : LINE * (1 + rows))) differ("not the length of such a page", both);
+    if (!sheet.damaged) count_page(now.n, pages, rows, sheet);
+}
+
 static void settle(struct buffer *b, const answer *a, const char *trouble)
 {
     size_t n = written(&now, a[LIBRARY], b);
@@ -408,6 +488,7 @@ static answer call_both(struct call c)
     if (!same(a[LIBRARY], a[BASELINE])) differ("the answers differ", a);
     count(a[LIBRARY], a);
     if (a[LIBRARY].word == SHELFEGRET_RELABELLED) expect_relabelled(a);
+    if (c.what == PAGE) expect_page(a);
     if (takes & TAKES_TABLE) settle(&table, a, "bytes of the table differ");
     if (takes & TAKES_MARKS) settle(&marks, a, "bytes of the marks differ");
     if (takes & TAKES_TEXT) settle(&text, a, "bytes of the text differ");
@@ -615,12 +696,24 @@ static size_t some_bit(void)
     return below(8 * size_at_hand);
 }
 
+/* One list gets another's counter and link: with an overflowing list it shares the blocks, and both can be followed. */
+static void share(void)
+{
+    settings s = at_hand;
+    uint64_t lists = (uint64_t)1 << s.bii;
+    uint32_t bits = basic_counter_bits(s) + link_bits(s);
+    uint64_t head = get_bits(table.held, basic_at(s, below(lists)), bits);
+    put_bits(table.held, basic_at(s, below(lists)), bits, head);
+}
+
 static void damage(void)
 {
-    for (uint64_t flips = 1 + below(3); flips; flips--) {
-        size_t bit = some_bit();
-        table.held[bit / 8] ^= (uint8_t)(0x80 >> bit % 8);
-    }
+    if (one_in(3)) share();
+    else
+        for (uint64_t flips = 1 + below(3); flips; flips--) {
+            size_t bit = some_bit();
+            table.held[bit / 8] ^= (uint8_t)(0x80 >> bit % 8);
+        }
     lend(&table, table.len);
 }
 
@@ -668,6 +761,26 @@ static uint64_t some_number(void)
     return one_in(12) ? random_bits() >> below(64) : below(one_in(2) ? 8 : pool_len + 4);
 }
 
+/* Often a page that is there, the last, or one of the first that are not; else 0, or a number that is so large that its
+ * first record's has no place in 32 or 64 bits. */
+static uint64_t some_page(void)
+{
+    struct sheet sheet = {0, 0, 0};
+    if (at_hand.bii <= FEW_LISTS) sheet = count_records(at_hand);
+    uint64_t pages = pages_of(sheet.records), page = 1 + below(pages);
+    switch (below(12)) {
+    case 0: return 0;
+    case 1: return UINT64_MAX - below(3);
+    case 2: return page + ((uint64_t)1 << (29 + below(35)));
+    case 3: return random_bits() >> below(64);
+    case 4:
+    case 5: return pages + 1 + below(one_in(2) ? 1 : 3);
+    case 6:
+    case 7: return pages;
+    default: return page;
+    }
+}
+
 /* mostly right; else one short, empty, shorter or longer */
 static size_t some_len(size_t right)
 {
@@ -698,10 +811,10 @@ static void lend_text(settings s)
 
 enum { MOODS = 3 };
 static const unsigned weights[MOODS][WHATS] = {
-    /* size, make, enter, relabel, find, delete, record, check, the four with texts, read text and write text */
-    {10, 2, 320, 60, 60, 40, 50, 40, 280, 60, 40, 30, 30, 30}, /* grow */
-    {10, 2, 150, 80, 80, 150, 50, 40, 140, 70, 70, 140, 30, 30},
-    {10, 2, 40, 60, 60, 320, 50, 40, 30, 60, 40, 280, 30, 30}, /* shrink */
+    /* size, make, enter, relabel, find, delete, record, check, the four with texts, read text, write text and page */
+    {10, 2, 320, 60, 60, 40, 50, 40, 280, 60, 40, 30, 30, 30, 40}, /* grow */
+    {10, 2, 150, 80, 80, 150, 50, 40, 140, 70, 70, 140, 30, 30, 40},
+    {10, 2, 40, 60, 60, 320, 50, 40, 30, 60, 40, 280, 30, 30, 40}, /* shrink */
 };
 
 static enum what some_call(void)
@@ -711,6 +824,7 @@ static enum what some_call(void)
     for (int i = 0; i < WHATS; i++) sum += weights[mood][i];
     for (uint64_t left = below(sum); left >= weights[mood][what]; what++) left -= weights[mood][what];
     if (what >= ENTER_TEXT && what <= DELETE_TEXT && at_hand.w != 128 && !one_in(6)) what -= ENTER_TEXT - ENTER;
+    if (what == PAGE && at_hand.w != 128 && !one_in(6)) what = RECORD;
     return (enum what)what;
 }
 
@@ -726,7 +840,11 @@ static void step(void)
     lend_table();
     if (c.what == CHECK) lend_noise(&marks, some_len(smaller((c.settings.nob + 7) / 8, MARKS_MOST)));
     if (of_call[c.what].takes & TAKES_TEXT) lend_text(c.settings);
-    if (c.what == WRITE_TEXT) lend_noise(&out, below(OUT_MOST + 1));
+    if (c.what == WRITE_TEXT) lend_noise(&out, below(WRITTEN_MOST + 1));
+    if (c.what == PAGE) {
+        c.n = some_page();
+        lend_noise(&out, some_len(SHELFEGRET_PAGE_BYTES));
+    }
     call_both(c);
 }
 
@@ -780,6 +898,53 @@ static void all_small_slots(void)
                                            between(1, 3), val, between(1, 2), between(1, 2)});
 }
 
+static void ask_page(uint64_t n)
+{
+    lend_noise(&out, some_len(SHELFEGRET_PAGE_BYTES));
+    call_both((struct call){.what = PAGE, .settings = at_hand, .n = n});
+}
+
+/* Each page that is there, and some that are not. */
+static void ask_pages(void)
+{
+    uint64_t pages = pages_of(count_records(at_hand).records);
+    for (uint64_t n = 0; n <= pages + 1; n++) ask_page(n);
+    for (int i = 0; i < 4; i++) ask_page(some_page());
+}
+
+/* A table with so many random addresses, or as many as it holds; then with lists that share blocks; then damaged. */
+static void sheet_of(settings s, uint64_t records)
+{
+    at_hand = s;
+    size_at_hand = base_size(s).number;
+    fill_table(100);
+    lend(&table, size_at_hand);
+    call_both((struct call){.what = MAKE, .settings = s});
+    while (records) {
+        struct call c = {.what = ENTER, .settings = s, .key = random_address()};
+        c.label = below((uint64_t)1 << s.val);
+        uint32_t code = call_both(c).code;
+        if (code == SHELFEGRET_REFUSED_FULL) break;
+        records -= code == 0;
+    }
+    ask_pages();
+    for (uint64_t left = 1 + below(4); left; left--) share();
+    lend(&table, size_at_hand);
+    ask_pages();
+    damage();
+    ask_pages();
+    tables++;
+}
+
+static void all_sheets(void)
+{
+    static const struct shape sheets = {128, 128, 5, 16, 60, 15, 32, 65536, 0};
+    for (uint64_t i = 0; i < 1500; i++) {
+        uint64_t full = ROWS * (1 + below(5)); /* as many as fill pages, one fewer or more; or any number */
+        sheet_of(legal_settings(&sheets), one_in(2) ? full - 1 + below(3) : below(300));
+    }
+}
+
 /* ---- the run */
 
 static int seen_enough(const char *name, const char *kind, unsigned i, uint64_t times)
@@ -800,6 +965,7 @@ static int all_seen(void)
             if (of_call[what].words & BIT(i)) good &= seen_enough(of_call[what].name, "word", i, words[what][i]);
     }
     for (unsigned i = 0; i < KINDS; i++) good &= seen_enough(kinds[i], "labels of kind", i, relabelled[i]);
+    for (unsigned i = 0; i < PAGES; i++) good &= seen_enough(page_kinds[i], "pages of kind", i, asked_pages[i]);
     return good;
 }
 
@@ -817,6 +983,8 @@ static void tell_counts(void)
     }
     printf("  labels changed\n");
     for (unsigned i = 0; i < KINDS; i++) printf("    %s: %" PRIu64 "\n", kinds[i], relabelled[i]);
+    printf("  pages\n");
+    for (unsigned i = 0; i < PAGES; i++) printf("    %s: %" PRIu64 "\n", page_kinds[i], asked_pages[i]);
 }
 
 int main(int argc, char **argv)
@@ -832,6 +1000,7 @@ int main(int argc, char **argv)
     signal(SIGSEGV, on_fault);
     largest_table();
     all_small_slots();
+    all_sheets();
     uint64_t last = call_number + calls;
     while (call_number < last) {
         const struct shape *shape = &shapes[one_in(2000) ? SHAPES - 1 : below(SHAPES - 1)];

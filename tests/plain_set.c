@@ -1,12 +1,12 @@
-/* plain_set.c - enter, relabel, find and delete against a plain set, on tables that stay sound.
+/* plain_set.c - enter, relabel, find, delete, record and page against a plain set, on tables that stay sound.
  *
  *     plain_set [SEED]
  *
  * The set has each list's keys in their order, with their labels (docs/SPECIFICATION.md, section 8): enter puts a key
  * last, delete the last one into the gap, relabel changes a label alone. Every field of every answer must be the set's,
- * compared and refusals among them, and the records are the set, list by list. A relabel leaves the free start, the
- * free chain and the blocks of every list as they were. Then the order of the refusals of enter and relabel, on tables
- * made by hand. Prints how many calls were tried. */
+ * compared and refusals among them, and the records are the set, list by list, and so are the rows of all pages. A
+ * relabel leaves the free start, the free chain and the blocks of every list as they were. Then the order of the
+ * refusals of enter, relabel and page, on tables made by hand. Prints how many calls were tried. */
 #include <stdio.h>
 #include <stdlib.h>
 #include <string.h>
@@ -19,12 +19,13 @@ typedef struct shelfegret_settings settings;
 typedef struct shelfegret_key key;
 typedef struct shelfegret_answer answer;
 
-enum { TABLE_MOST = 8192, LISTS_MOST = 16, KEYS_MOST = 48, MARKS_MOST = 64 };
+enum { TABLE_MOST = 8192, LISTS_MOST = 16, LIST_MOST = 128, KEYS_MOST = 48, MARKS_MOST = 64 };
 
 static settings s;
 static size_t size;
 static uint8_t table[TABLE_MOST], before[TABLE_MOST], marks[MARKS_MOST];
-static unsigned tables, calls;
+static uint8_t out[SHELFEGRET_PAGE_BYTES + 8], out_before[sizeof out]; /* lent to page, all but the last 8 */
+static unsigned tables, calls, pages;
 static unsigned codes[13], words[9]; /* how often each came in random calls */
 
 static void fail(const char *what)
@@ -47,7 +48,7 @@ struct pair {
     uint32_t label;
 };
 
-static struct pair set[LISTS_MOST][KEYS_MOST];
+static struct pair set[LISTS_MOST][LIST_MOST];
 static uint32_t length[LISTS_MOST];
 
 /* the key's place in its list, or the list's length */
@@ -162,6 +163,59 @@ static void records_are_the_set(void)
     if (shelfegret_check(s, table, size, marks, sizeof marks).word != SHELFEGRET_SOUND) fail("the table is not sound");
 }
 
+/* ---- pages */
+
+enum { ROWS = 40, LINE = 51 };
+
+/* A line of a page: 39 columns, a space and 10 columns. */
+static size_t put_line(uint8_t *to, const char *left, const char *right)
+{
+    char line[LINE + 1];
+    if (snprintf(line, sizeof line, "%-39s %10s\n", left, right) != LINE) fail("the test's own line is too long");
+    memcpy(to, line, LINE);
+    return LINE;
+}
+
+static size_t put_row(uint8_t *to, struct pair pair)
+{
+    char address[40], label[11];
+    address[shelfegret_write_text(pair.key, (uint8_t *)address, 39).number] = 0;
+    snprintf(label, sizeof label, "%lu", (unsigned long)pair.label);
+    return put_line(to, address, label);
+}
+
+/* The page is refused with 13, or has the heading and so many rows, which are put behind it into out_before. */
+static void expect_page(uint64_t page, uint32_t code, const struct pair *rows, uint64_t count)
+{
+    size_t n = 0;
+    for (size_t i = 0; i < sizeof out; i++) out[i] = out_before[i] = (uint8_t)random_bits();
+    if (!code) n = put_line(out_before, "ADDRESS", "LABEL");
+    for (uint64_t i = 0; i < count; i++) n += put_row(out_before + n, rows[i]);
+    answer due = {0};
+    due.code = code;
+    due.number = n;
+    if (!same(shelfegret_page(s, table, size, page, out, SHELFEGRET_PAGE_BYTES), due)) fail("not the page's answer");
+    if (memcmp(out, out_before, sizeof out) != 0) fail("not the set's rows, or more is written");
+    pages++;
+}
+
+/* All pages have each pair of the set in its place, and no others are there. */
+static void pages_are_the_set(void)
+{
+    static struct pair all[LISTS_MOST * LIST_MOST];
+    uint64_t count = 0, page = 0;
+    memcpy(before, table, size);
+    for (uint64_t list = 0; list < (uint64_t)1 << s.bii; list++)
+        for (uint32_t i = 0; i < length[list]; i++) all[count++] = set[list][i];
+    expect_page(0, SHELFEGRET_REFUSED_PAGE, all, 0);
+    for (uint64_t n = 0; n < count; n += ROWS)
+        expect_page(++page, 0, all + n, count - n < ROWS ? count - n : ROWS);
+    if (count == 0) expect_page(++page, 0, all, 0);
+    expect_page(page + 1, SHELFEGRET_REFUSED_PAGE, all, 0);
+    expect_page(page + ((uint64_t)1 << (32 + below(32))), SHELFEGRET_REFUSED_PAGE, all, 0);
+    if (memcmp(before, table, size) != 0) fail("page changed the table");
+}
+
 static void free_chain_is_as_before(void)
 {
     uint64_t block = get_bits(table, 0, start_bits(s));
@@ -240,6 +294,7 @@ static void one_call(const key *keys, uint64_t count)
         lists_are_as_before();
     }
     if (writes && (a.word == SHELFEGRET_RELABELLED || one_in(8))) records_are_the_set();
+    if (writes && s.w == 128 && one_in(16)) pages_are_the_set();
 }
 
 /* Each refusal and word that a sound table gives came many times. */
@@ -267,6 +322,28 @@ static void one_table(void)
         else keys[i] = key_in_list(s, low_bits((key){random_bits(), random_bits()}, entry_bits(s)), below(lists));
     for (int i = 0; i < 400; i++) one_call(keys, count);
     records_are_the_set();
+}
+
+/* From none to enough for some pages, and back: after each call all pages are the set. */
+static void one_sheet(uint32_t bii, uint32_t val)
+{
+    static key keys[3 * ROWS + 2];
+    enum { KEYS = sizeof keys / sizeof *keys };
+    s = (settings){128, bii, 2, 60, 2, val, 1, 1};
+    size = shelfegret_size(s).number;
+    memset(length, 0, sizeof length);
+    if (size > TABLE_MOST || shelfegret_make(s, table, size).code) fail("make");
+    tables++;
+    pages_are_the_set();
+    for (uint32_t i = 0; i < 2 * KEYS; i++) {
+        enum what what = i < KEYS ? ENTER : DELETE;
+        if (what == ENTER) keys[i] = key_in_list(s, low_bits(random_address(), entry_bits(s)), i & ((1u << bii) - 1));
+        uint64_t label = below((uint64_t)1 << val);
+        answer due = step(what, keys[i % KEYS], label);
+        if (!same(ask(what, keys[i % KEYS], label), due)) fail("not the set's answer");
+        calls++;
+        pages_are_the_set();
+    }
 }
 
 /* ---- the order of refusals */
@@ -379,6 +456,47 @@ static void order_by_text(void)
     }
 }
 
+static answer page(uint64_t n, size_t len)
+{
+    return shelfegret_page(s, table, size, n, out, len);
+}
+
+/* Every refusal of page, each before those that are due as well. */
+static void order_by_page(void)
+{
+    size_t short_of_it = SHELFEGRET_PAGE_BYTES - 1;
+    s = (settings){128, 1, 1, 1, 1, 4, 1, 1};
+    size = shelfegret_size(s).number;
+    memset(out, 0xaa, sizeof out);
+    memcpy(out_before, out, sizeof out);
+    for (int damaged = 1; damaged >= 0; damaged--) {
+        shelfegret_make(s, table, size);
+        put_bits(table, basic_at(s, 1), basic_counter_bits(s), damaged ? 3 : 0); /* list 1, behind an empty list 0 */
+        memcpy(before, table, sizeof table);
+        answer damage = refused(SHELFEGRET_REFUSED_DAMAGE), output = refused(SHELFEGRET_REFUSED_OUTPUT);
+        answer no_page = refused(damaged ? SHELFEGRET_REFUSED_DAMAGE : SHELFEGRET_REFUSED_PAGE);
+        if (damaged) expect(page(1, sizeof out), damage, "a list behind the page's rows is damaged");
+        expect(page(0, sizeof out), no_page, "damage before page 0");
+        expect(page(2, sizeof out), no_page, "damage before a page behind the last");
+        expect(page(0, short_of_it), output, "the output before damage and the page");
+        expect(page(1, short_of_it), output, "as many bytes must be lent to a page without rows");
+        expect(page(1, 0), output, "no output");
+    }
+    settings good = s;
+    s.w = 127;
+    put_bits(table, basic_at(s, 0), basic_counter_bits(s), 3);
+    memcpy(before, table, sizeof table);
+    expect(page(0, short_of_it), refused(SHELFEGRET_REFUSED_WIDTH), "the width before the output");
+    expect(page(1, sizeof out), refused(SHELFEGRET_REFUSED_WIDTH), "the width before damage");
+    size = 3;
+    expect(page(0, short_of_it), refused(SHELFEGRET_REFUSED_SHORT), "short before the width");
+    s.sio = 0;
+    expect(page(0, short_of_it), refused(SHELFEGRET_REFUSED_SETTINGS), "the settings before short");
+    s = good;
+    expect(page(0, short_of_it), refused(SHELFEGRET_REFUSED_SHORT), "short before the output");
+    if (memcmp(out, out_before, sizeof out) != 0) fail("a refused page wrote");
+}
+
 /* One entry, which fills its list's basic block; the free start, in the table's first two bits, is nob or above it. */
 static void known_by_text(void)
 {
@@ -421,9 +539,12 @@ int main(int argc, char **argv)
     seed_random(argc > 1 ? strtoull(argv[1], NULL, 0) : 1);
     for (int i = 0; i < 3000; i++) one_table();
     all_seen();
+    for (uint32_t bii = 0; bii <= 4; bii++) one_sheet(bii, 8 * bii);
+    if (pages < 10000) fail("too few pages");
     order_by_key();
     twice();
     order_by_text();
+    order_by_page();
     known_by_text();
     ipv4_by_text();
     printf("plain_set: %u calls on %u tables, all as the plain set's\n", calls, tables);

@@ -26,6 +26,10 @@ use Rattle.text_write.specs.Answers.{writeCall}
 use Rattle.text_write.specs.declared.Written.{Written}
 use Rattle.text_write.specs.declared.Written.the-variants as writing
 use Rattle.text_calls.specs.Asked.{Asked, verbAsked, tableCall}
+use Rattle.text_sheet.specs.Pages.{pageText}
+use Rattle.text_sheet.specs.Answers.{records, pageCall}
+use Rattle.text_sheet.specs.declared.PageAnswer.{PageAnswer}
+use Rattle.text_sheet.specs.declared.PageAnswer.the-variants as paging
 
 -- The calls of the specification ------------------------------------------------------------------------------------------------
 
@@ -37,8 +41,9 @@ pub data Call : Type 0 where
   check : Call
   readText : List ℕ → Call
   writeText : Key → Call
+  pageAt : ℕ → Call
 
--- what a call is lent: the table, and check's marks or the buffer for a text
+-- what a call is lent: the table, and check's marks or the buffer for a text or a page
 pub record Lent : Type 0 where
   pub table : List ℕ
   pub buffer : List ℕ
@@ -49,7 +54,7 @@ pub data Said : Type 0 where
   refused : Refusal → Said
   made : Said
   worded : Word → Said
-  -- a record, check's answer, a key that was read, a text's length
+  -- a record, check's answer, a key that was read, the length of a text or a page
   told : Said
 
 abbrev pub ofMake : MakeAnswer → Said
@@ -78,6 +83,10 @@ abbrev pub ofWritten : Written → Said
 ofWritten (writing.Length n) = told
 ofWritten (writing.Refused why) = refused why
 
+abbrev pub ofPage : PageAnswer → Said
+ofPage (paging.Bytes n) = told
+ofPage (paging.Refused why) = refused why
+
 -- The answer and all lent bytes after it, by the definitions that the contracts of the calls cite -----------------------------
 
 pub record Outcome : Type 0 where
@@ -103,6 +112,7 @@ module _ (s : Settings) (l : Lent) where
   outcome check = onBuffer ofCheck (checkCall s (l .table) (l .buffer))
   outcome (readText x) = onNothing (ofRead (readingOf x))
   outcome (writeText k) = onBuffer ofWritten (writeCall k (l .buffer))
+  outcome (pageAt k) = onBuffer ofPage (pageCall s (l .table) k (l .buffer))
 
 -- The words of the claim -----------------------------------------------------------------------------------------------------
 
@@ -113,14 +123,15 @@ pub data Writes : Call → Said → Type 0 where
   relabels : (q : Asked) (label : ℕ) → verbAsked q ≡ relabel label → Writes (ask q) (worded word.Relabelled)
   deletes : (q : Asked) → verbAsked q ≡ delete → Writes (ask q) (worded word.Gone)
 
--- how many bytes of the buffer a call may write: the marks of clause 6.11, or those of the text
-abbrev pub bufferBytes : Settings → Call → ℕ
-bufferBytes s make = 0
-bufferBytes s (ask q) = 0
-bufferBytes s (recordAt n) = 0
-bufferBytes s check = (s .nob + 7) / 8
-bufferBytes s (readText x) = 0
-bufferBytes s (writeText k) = length (written (k .high) (k .low))
+-- how many bytes of the buffer a call may write: the marks of clause 6.11, or those of the text or the page
+abbrev pub bufferBytes : Settings → List ℕ → Call → ℕ
+bufferBytes s t make = 0
+bufferBytes s t (ask q) = 0
+bufferBytes s t (recordAt n) = 0
+bufferBytes s t check = (s .nob + 7) / 8
+bufferBytes s t (readText x) = 0
+bufferBytes s t (writeText k) = length (written (k .high) (k .low))
+bufferBytes s t (pageAt k) = length (pageText (records s t) k)
 
 -- bytes beyond the first n stay, and none comes or goes
 pub record Untouched (n : ℕ) (before after : List ℕ) : Type 0 where

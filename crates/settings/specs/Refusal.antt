@@ -16,3 +16,4 @@ numberOf refusal.Output = 9
 numberOf refusal.Marks = 10
 numberOf refusal.Line = 11
 numberOf refusal.Known = 12
+numberOf refusal.Page = 13

@@ -15,6 +15,7 @@ pub enum Refusal {
     Marks,
     Line,
     Known,
+    Page,
 }
 
 impl Refusal {
@@ -35,6 +36,7 @@ impl Refusal {
             Refusal::Marks => 10,
             Refusal::Line => 11,
             Refusal::Known => 12,
+            Refusal::Page => 13,
         }
     }
 }

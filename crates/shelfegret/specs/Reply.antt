@@ -20,6 +20,8 @@ use Rattle.text_read.specs.declared.Parsed.the-variants as parsed
 use Rattle.text_write.specs.declared.Written.{Written}
 use Rattle.text_write.specs.declared.Written.the-variants as out
 use Rattle.text_calls.specs.declared.calls.TextAnswer.{TextAnswer}
+use Rattle.text_sheet.specs.declared.PageAnswer.{PageAnswer}
+use Rattle.text_sheet.specs.declared.PageAnswer.the-variants as paging
 use Rattle.shelfegret.specs.declared.Answer.{Answer}
 
 -- clause 7.1: a refusal has its number, and 0 everywhere else
@@ -74,3 +76,8 @@ readReply (parsed.Refused why) = refusedReply why
 abbrev pub writeReply : Written → Answer
 writeReply (out.Length n) = numbered n
 writeReply (out.Refused why) = refusedReply why
+
+-- the bytes of a page
+abbrev pub pageReply : PageAnswer → Answer
+pageReply (paging.Bytes n) = numbered n
+pageReply (paging.Refused why) = refusedReply why

@@ -8,11 +8,12 @@ use table::MakeAnswer;
 use table::RecordAnswer;
 use table::Word;
 use text_read::Parsed;
+use text_sheet::PageAnswer;
 use text_write::Written;
 ghost use mathlib.Core.Path.{_≡_};
 ghost use Prim.Native.Nat.{_+_, _*_, _/_, _≤_};
 ghost use Rattle.table.specs.Answer.{wordNumber};
-ghost use Rattle.shelfegret.specs.Reply.{refusedReply, saying, numbered, sizeReply, makeReply, answerReply, recordReply, checkReply, readReply, writeReply};
+ghost use Rattle.shelfegret.specs.Reply.{refusedReply, saying, numbered, sizeReply, makeReply, answerReply, recordReply, checkReply, readReply, writeReply, pageReply};
 
 // Numbers of words; those of find, enter, relabel and delete are computed (`number_of`). 0 is no word.
 const NO_WORD: u32 = 0;
@@ -167,5 +168,14 @@ pub(crate) fn written(a: Written) -> Answer
     match a {
         Written::Length(n) => counted(n),
         Written::Refused(why) => refused(why),
+    }
+}
+
+pub(crate) fn paged(a: PageAnswer) -> Answer
+    ensures { λ r. ⌜ r ≡ pageReply a ⌝ }
+{
+    match a {
+        PageAnswer::Bytes(n) => counted(n),
+        PageAnswer::Refused(why) => refused(why),
     }
 }

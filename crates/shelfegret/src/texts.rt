@@ -1,6 +1,7 @@
-// The calls with texts, reading and writing.
+// The calls with texts, reading and writing, and pages.
 use crate::Answer;
 use crate::answers::answered;
+use crate::answers::paged;
 use crate::answers::parsed;
 use crate::answers::written;
 use keys::Key;
@@ -11,7 +12,8 @@ ghost use Rattle.table.specs.Calls.{find, enter, relabel, delete};
 ghost use Rattle.text_read.specs.Answers.{readingOf};
 ghost use Rattle.text_write.specs.Answers.{writeCall};
 ghost use Rattle.text_calls.specs.TextCalls.{textCall};
-ghost use Rattle.shelfegret.specs.Reply.{readReply, writeReply, textReply};
+ghost use Rattle.text_sheet.specs.Answers.{pageCall};
+ghost use Rattle.shelfegret.specs.Reply.{readReply, writeReply, textReply, pageReply};
 
 // "held" with the label, or "none", and the key that the text spells.
 #[no_mangle]
@@ -81,4 +83,12 @@ pub extern "C" fn shelfegret_write_text(key: Key, out: &mut [u8]) -> Answer
     ensures { λ r. ⌜ Gives (answering writeReply (writeCall key (now (out .entry)))) r (now (out .exit)) ⌝ }
 {
     written(text_write::write(key, out))
+}
+
+// The number of bytes of the page.
+#[no_mangle]
+pub extern "C" fn shelfegret_page(s: Settings, t: &[u8], page: u64, out: &mut [u8]) -> Answer
+    ensures { λ r. ⌜ Gives (answering pageReply (pageCall s (now (t .entry)) page (now (out .entry)))) r (now (out .exit)) ⌝ }
+{
+    paged(text_sheet::page(s, t, page, out))
 }

@@ -6,8 +6,8 @@ use native.Mathlib.Omega.{arith}
 use Rattle.settings.specs.declared.settings.Settings.{Settings}
 use Rattle.settings.specs.declared.refusal.Refusal.{Refusal}
 use Rattle.settings.specs.Sizes.{tableBytes}
-use Rattle.demand1.specs.Claim.{Call, make, ask, recordAt, check, readText, writeText, Lent, Said, refused, outcome, Writes, makes, enters, relabels, deletes, bufferBytes, Untouched}
-use Rattle.demand1.specs.theory.Kept.{untouched, Accepted, make-kept, ask-kept, check-kept, write-kept}
+use Rattle.demand1.specs.Claim.{Call, make, ask, recordAt, check, readText, writeText, pageAt, Lent, Said, refused, outcome, Writes, makes, enters, relabels, deletes, bufferBytes, Untouched}
+use Rattle.demand1.specs.theory.Kept.{untouched, Accepted, make-kept, ask-kept, check-kept, write-kept, page-kept}
 
 -- what writes the table is no refusal
 writes-accepted : {c : Call} {a : Said} → Writes c a → Accepted a
@@ -25,6 +25,7 @@ module _ (s : Settings) (l : Lent) where
   only-these-write check = inl refl
   only-these-write (readText x) = inl refl
   only-these-write (writeText k) = inl refl
+  only-these-write (pageAt k) = inl refl
 
   -- only accepted calls write a buffer
   accepted-write : (c : Call) → (outcome s l c .after .buffer ≡ l .buffer) ⊎ Accepted (outcome s l c .said)
@@ -34,6 +35,7 @@ module _ (s : Settings) (l : Lent) where
   accepted-write check = check-kept s (l .table) (l .buffer) .unless
   accepted-write (readText x) = inl refl
   accepted-write (writeText k) = write-kept k (l .buffer) .unless
+  accepted-write (pageAt k) = page-kept s (l .table) k (l .buffer) .unless
 
   -- clause 7.1: a refusal leaves every lent byte
   pub refused-leaves : (c : Call) (why : Refusal) → outcome s l c .said ≡ refused why → outcome s l c .after ≡ l
@@ -42,12 +44,13 @@ module _ (s : Settings) (l : Lent) where
       let b : outcome s l c .after .buffer ≡ l .buffer = ⊎-elim (λ x. x) (λ w. absurd (w why e)) (accepted-write c) in
       λ k. record { table = t k; buffer = b k }
 
-  -- clauses 6.11, 6.13 and 9.5: the bytes behind the table, the marks and the text stay
+  -- clauses 6.11, 6.13, 9.5 and 9.10: the bytes behind the table, the marks, the text and the page stay
   pub beyond-stays : (c : Call)
-      → Untouched (tableBytes s) (l .table) (outcome s l c .after .table) × Untouched (bufferBytes s c) (l .buffer) (outcome s l c .after .buffer)
+      → Untouched (tableBytes s) (l .table) (outcome s l c .after .table) × Untouched (bufferBytes s (l .table) c) (l .buffer) (outcome s l c .after .buffer)
   beyond-stays make = (make-kept s (l .table) .untouched, untouched 0 (l .buffer))
   beyond-stays (ask q) = (ask-kept s (l .table) q .untouched, untouched 0 (l .buffer))
   beyond-stays (recordAt n) = (untouched (tableBytes s) (l .table), untouched 0 (l .buffer))
   beyond-stays check = (untouched (tableBytes s) (l .table), check-kept s (l .table) (l .buffer) .untouched)
   beyond-stays (readText x) = (untouched (tableBytes s) (l .table), untouched 0 (l .buffer))
   beyond-stays (writeText k) = (untouched (tableBytes s) (l .table), write-kept k (l .buffer) .untouched)
+  beyond-stays (pageAt k) = (untouched (tableBytes s) (l .table), page-kept s (l .table) k (l .buffer) .untouched)

@@ -19,6 +19,7 @@ use Rattle.settings.specs.Layout.{layoutOf}
 use Rattle.settings.specs.Due.{due, settingsDue, shortDue, widthDue, keyDue}
 use Rattle.settings.specs.Reply.{Reply, reply, answering}
 use Rattle.settings.specs.theory.Dues.{by-dues, passed}
+use Rattle.settings.specs.theory.Legal.{legal-means}
 use Rattle.keys.specs.declared.Key.{Key}
 use Rattle.keys.specs.Key.{keyNumber, listNumber, entry}
 use Rattle.table.specs.Arrays.{cleared}
@@ -52,7 +53,12 @@ use Rattle.text_write.specs.declared.Written.the-variants as writing
 use Rattle.text_calls.specs.TextCalls.{keyRead, textDue, forKey, textCall}
 use Rattle.text_calls.specs.declared.calls.TextAnswer.{TextAnswer}
 use Rattle.text_calls.specs.Asked.{Asked, byKey, byText, verbAsked, tableCall}
-use Rattle.demand1.specs.Claim.{Said, refused, told, ofMake, ofKey, ofCheck, ofWritten, make, ask, Writes, makes, enters, relabels, deletes, Untouched}
+use Rattle.text_sheet.specs.Pages.{pageText}
+use Rattle.text_sheet.specs.Answers.{pageRoom, records, damageDue, pageDue, pageCall}
+use Rattle.text_sheet.specs.theory.Sheet.{page-fits}
+use Rattle.text_sheet.specs.declared.PageAnswer.{PageAnswer}
+use Rattle.text_sheet.specs.declared.PageAnswer.the-variants as paging
+use Rattle.demand1.specs.Claim.{Said, refused, told, ofMake, ofKey, ofCheck, ofWritten, ofPage, make, ask, Writes, makes, enters, relabels, deletes, Untouched}
 
 -- Bytes beyond -----------------------------------------------------------------------------------------------------------------
 
@@ -238,3 +244,27 @@ write-kept k b =
     (due (not (leb (length x) (length b))) refusal.Output ∷ [])
     (λ why. stays (refused why))
     (λ d. writes told-accepted (front-untouched x b (leb-true (length x) (length b) (passed (d .0)))))
+
+pub page-kept : (s : Settings) (t : List ℕ) (k : ℕ) (b : List ℕ)
+    → Kept (length (pageText (records s t) k)) b Accepted (answering ofPage (pageCall s t k b))
+unfolding pageCall
+page-kept s t k b =
+    let x : List ℕ = pageText (records s t) k in
+    by-dues (λ choose.
+    Kept (length x) b Accepted
+    (answering ofPage
+    (choose (Reply PageAnswer) (λ why. reply (paging.Refused why) b) (reply (paging.Bytes (length x)) (x ++ drop (length x) b)))))
+    (
+    settingsDue s
+    ∷ shortDue s (length t)
+    ∷ widthDue s
+    ∷ due (not (leb pageRoom (length b))) refusal.Output
+    ∷ damageDue s t
+    ∷ pageDue s t k
+    ∷ []
+    )
+    (λ why. stays (refused why))
+    (λ d.
+    let fits = page-fits s t (legal-means s (passed (d .0))) k in
+    let room = leb-true pageRoom (length b) (passed (d .1 .1 .1 .0)) in
+    writes told-accepted (front-untouched x b (omega arith)))

@@ -1,0 +1,4 @@
+-- Laws that only the proofs of this crate use.
+mod Fills
+mod PageLaws
+mod CallLaws
