@@ -6,9 +6,8 @@ use Prim.Native.Nat.{ℕ, _+_, _-_, _*_, _^_, _≤_, _<_}
 use native.Mathlib.Omega.{arith}
 use native.Mathlib.Decide.{decLe}
 use lib.ListN.{length, take, drop}
-use lib.Dec.{leb, ltb}
-use borrow.Author.Tests.{le-leb, lt-leb, lt-ltb, eq-eqb, ne-eqb, leb-true, ltb-true}
-use Rattle.laws.specs.Cases.{both-true, true-both, never}
+use lib.Dec.{leb}
+use borrow.Author.Tests.{le-leb, lt-leb, eq-eqb, ne-eqb}
 use Rattle.settings.specs.Layout.{layoutOf}
 use Rattle.settings.specs.Legal.{legal}
 use Rattle.settings.specs.Due.{Due, due, unlessDue, widthDue}
@@ -114,25 +113,14 @@ module _ (s : Settings) (g : Layout) (t : List ℕ) (laid : layoutOf s ≡ g) (k
     page-is e a =
         ap (λ (ps : List Pair). heading ++ rows (take 40 ps)) (a ∙ ap₂ (λ (m : ℕ) (ps : List Pair). drop m ps) e held-is)
 
-    pub no-such : (ltb 0 n && leb count n) ≡ true → Gives (pageAfter s t k out) (paging.Refused refusal.Page) out
-    no-such q =
-        let b = both-true (ltb 0 n) (leb count n) q in
-        let h : 0 < n = ltb-true 0 n (b .0) in
-        let l : count ≤ n = leb-true count n (b .1) in
+    pub no-such : 0 < n → count ≤ n → Gives (pageAfter s t k out) (paging.Refused refusal.Page) out
+    no-such h l =
         let e : isPage k (length (records s t)) ≡ false = ap (isPage k) counted ∙ not-there k count begins (C .few) h l in
         rw (whole, e) (record { answer = refl; bytes = refl })
 
-    some-there : (ltb 0 n && leb count n) ≡ false → 0 < n → n < count
-    some-there q h = pick (decLe count n)
-      where
-        pick : Dec (count ≤ n) → n < count
-        pick (yes l) = never (sym q ∙ true-both (lt-ltb 0 n h) (le-leb count n l))
-        pick (no l) = omega arith
-
     -- the lines of the page's records are the page
-    pub put : (ltb 0 n && leb count n) ≡ false → (r : ℕ) (out′ : List ℕ) → Lines (take 40 (ahead s t c)) out out′ r → Gives (pageAfter s t k out) (paging.Bytes r) out′
-    put q r out′ L =
-        let h = some-there q in
+    pub put : (0 < n → n < count) → (r : ℕ) (out′ : List ℕ) → Lines (take 40 (ahead s t c)) out out′ r → Gives (pageAfter s t k out) (paging.Bytes r) out′
+    put h r out′ L =
         let w = there k count begins (C .few) h in
         let e : isPage k (length (records s t)) ≡ true = ap (isPage k) counted ∙ w .0 in
         let same : heading ++ rows (take 40 (ahead s t c)) ≡ pageText (records s t) k = page-is (w .1) (C .are h s laid) in

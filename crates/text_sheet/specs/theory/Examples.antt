@@ -1,7 +1,6 @@
 -- Lines and numbers of pages, by computation. A line feed is 10.
 use mathlib.Core.Path.{_≡_, refl}
 use mathlib.Core.List.{List, [], _∷_, _++_, map}
-use Prim.Native.Nat.{ℕ}
 use Prim.Native.String.{String}
 use Rattle.keys.specs.Key.{keyOf}
 use Rattle.text_write.specs.Ascii.{ascii}

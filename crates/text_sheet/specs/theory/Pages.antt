@@ -3,6 +3,7 @@ use mathlib.Core.Path.{_≡_, refl, sym, ap, ap₂, _∙_}
 use mathlib.Core.List.{List, _++_}
 use Prim.Native.Nat.{ℕ, zero, suc, _+_, _-_, _*_, _/_, _≤_, _<_}
 use native.Mathlib.Omega.{arith}
+use native.Mathlib.Numerals.{unary-clauses}
 use lib.ListN.{length, take, drop, length-take, length-drop}
 use lib.Seq.{length-take-le, take-all, take-add}
 use borrow.Author.Tests.{eq-eqb, ne-eqb}
@@ -34,9 +35,9 @@ module _ (ps : List Pair) where
   unfolding pairsOn
   joined-first zero = refl
   joined-first (suc n) =
-      let a : 40 * (suc n - 1) ≡ 40 * n = omega arith in
+      let a : pairsOn ps (suc n) ≡ take 40 (drop (40 * n) ps) = simp unary-clauses refl in
       let b : 40 * n + 40 ≡ 40 * suc n = omega arith in
-      ap₂ _++_ (joined-first n) (ap (λ (x : ℕ). take 40 (drop x ps)) a)
+      ap₂ _++_ (joined-first n) a
       ∙ sym (take-add (40 * n) 40 ps)
       ∙ ap (λ (x : ℕ). take x ps) b
 

@@ -1,6 +1,10 @@
 -- The survey decides between refusal 7, refusal 13 and the page.
+use native.Mathlib.Omega.{arith}
 use denote.Ref.{now}
+use lib.Dec.{ltb}
 use borrow.Author.Needs.{needs}
+use borrow.Author.Tests.{ltb-true, ltb-false, leb-true, leb-false, lt-ltb}
+use Rattle.laws.specs.Cases.{both-true}
 use Rattle.table_cursor.specs.Survey.{Counts}
 use Rattle.text_sheet.proofs.CallLaws.{damaged, no-such, put}
 use Rattle.text_sheet.proofs.call.surveyed.Statement.{statement}
@@ -29,13 +33,16 @@ returns c =
     let a = v .before .before .before .before in
     damaged (a .args .s) (a .args .g) (now (a .args .t)) (a .pre .1) (a .args .page) (now (a .args .out)) (rw (c .enum-told .given .1) at (v .survey .ensures))
 
+-- here and in returns-3 `omega` reads the comparison with the count: a wrong one fails at its numbers, not its form
 returns-2 : tie.Need-returns-2
 returns-2 c =
     let k = c .before .before in
     let f = k .before .before .before in
     let a = f .before .before .before in
-    no-such (a .args .s) (a .args .g) (now (a .args .t)) (a .pre .1) (a .args .page) (now (a .args .out)) (f .first-record .result) (k .count .given .0 .0) (k .count .given .0 .1 .0)
-    (f .first-record .ensures) (counts k) (c .if1 .taken)
+    let n = f .first-record .result in
+    let b = both-true (ltb 0 n) _ (c .if1 .taken) in
+    no-such (a .args .s) (a .args .g) (now (a .args .t)) (a .pre .1) (a .args .page) (now (a .args .out)) n (k .count .given .0 .0) (k .count .given .0 .1 .0)
+    (f .first-record .ensures) (counts k) (omega (arith, ltb-true, b .0)) (omega (arith, ltb-true, leb-true, b .1))
 
 put-page-requires : tie.Need-put-page-requires
 put-page-requires c κs =
@@ -56,8 +63,10 @@ returns-3 c =
     let k = e .before .before in
     let f = k .before .before .before in
     let a = f .before .before .before in
-    put (a .args .s) (a .args .g) (now (a .args .t)) (a .pre .1) (a .args .page) (now (a .args .out)) (f .first-record .result) (k .count .given .0 .0) (k .count .given .0 .1 .0)
-    (f .first-record .ensures) (counts k) (e .if1 .left) _ _ (p .put-page .ensures)
+    let n = f .first-record .result in
+    put (a .args .s) (a .args .g) (now (a .args .t)) (a .pre .1) (a .args .page) (now (a .args .out)) n (k .count .given .0 .0) (k .count .given .0 .1 .0)
+    (f .first-record .ensures) (counts k) (λ h. omega (arith, ltb-false, leb-false, rw (lt-ltb 0 n h) at (e .if1 .left)))
+    _ _ (p .put-page .ensures)
 
 pub surveyed-spec : {M : Type 1} → statement M
 surveyed-spec =
