@@ -1,5 +1,5 @@
 /* claims.c - what docs/LIBRARY.md says of refusals 7, 8 and 12, of check and of pages, on tables small enough to try
- * every case.
+ * every case; and the widths of the fields, for every number that they depend on.
  *
  *     claims [SEED]
  *
@@ -328,6 +328,25 @@ static void no_secret(void)
         }
 }
 
+/* ---- the widths of the fields */
+
+/* The size tells the sum of them; format.c finds each by doubling. */
+static void expect_size(settings given)
+{
+    s = given;
+    expect(shelfegret_size(s).number == (block_at(s, s.nob) + 7) / 8, "the size is that of fields of these widths");
+}
+
+/* Every sib, sio and nob. In eight blocks a bit is a byte of the size; a bit of the free start moves it with one of
+ * sixteen sib, since with them the other fields leave every remainder modulo 8. */
+static void every_width(void)
+{
+    for (uint32_t sib = 1; sib <= 255; sib++) expect_size((settings){8, 3, sib, 0, 1, 0, 1, 1});
+    for (uint32_t sio = 1; sio <= 15; sio++) expect_size((settings){8, 3, 1, 8, sio, 0, 1, 1});
+    for (uint32_t nob = 0; nob <= 65535; nob++)
+        for (uint32_t sib = 1; sib <= 16; sib++) expect_size((settings){17, 0, sib, nob, 1, 0, 1, 1});
+}
+
 int main(int argc, char **argv)
 {
     seed_random(argc > 1 ? strtoull(argv[1], NULL, 0) : 1);
@@ -338,6 +357,7 @@ int main(int argc, char **argv)
     long_list();
     many_records();
     no_secret();
+    every_width();
     unsigned found = other_spread();
     printf("claims: %u cases on %u tables; %u of 700 found with another a and b\n", cases, tables, found);
     return 0;

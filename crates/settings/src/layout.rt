@@ -1,10 +1,10 @@
 // The layout of the table's bits, computed once a call from the settings.
 ghost use mathlib.Core.Path.{_≡_};
 ghost use Prim.Native.Nat.{_+_, _*_, _≤_};
-ghost use Rattle.settings.specs.Log.{ceilLog2};
-ghost use Rattle.settings.specs.Sizes.{linkBits, basicCounterBits, overflowCounterBits};
+ghost use Rattle.settings.specs.Sizes.{slotBits, linkBits, overflowStart};
 ghost use Rattle.settings.specs.Legal.{Ranges};
-ghost use Rattle.settings.specs.Layout.{layoutOf};
+ghost use Rattle.settings.specs.Layout.{basicBlocks, overflowBlocks, layoutOf};
+use crate::log::ceil_log2;
 use crate::refusal::Refusal;
 use crate::settings::Settings;
 use crate::settings::lists_of;
@@ -39,7 +39,7 @@ pub enum Laid {
     Refused(Refusal),
 }
 
-pub(crate) fn wide(x: u32) -> usize
+fn wide(x: u32) -> usize
     ensures { λ r. ⌜ r ≡ x ⌝ }
 {
     x as usize
@@ -61,47 +61,57 @@ fn blocks_bits(blocks: usize, block: usize) -> usize
     blocks * block
 }
 
-// ⌈log2(1 + nob)⌉ from ⌈log2 nob⌉: it is 1 more where nob is a power of two, and the quotient is 1 there alone.
-fn free_bits(nob: usize, link: usize) -> usize
-    requires { ⌜ (nob ≤ 65535) × (link ≤ 16) × (link ≡ ceilLog2 nob) ⌝ }
-    ensures { λ r. ⌜ (r ≡ ceilLog2 (1 + nob)) × (r ≤ 16) ⌝ }
-{
-    link + (nob >> link)
+impl Blocks {
+    // The basic blocks, behind the free start.
+    fn basic(s: Settings, slot: usize) -> Blocks
+        requires { ⌜ Ranges s × (slot ≡ slotBits s) ⌝ }
+        ensures { λ r. ⌜ (r ≡ basicBlocks s) × (r .start ≤ 16) × (r .bits ≤ 40832) ⌝ }
+    {
+        let counter = ceil_log2(2 + s.sib);
+        Blocks {
+            start: ceil_log2(1 + s.nob),
+            counter: counter,
+            bits: block_bits(counter, wide(s.sib), slot),
+        }
+    }
+
+    // The overflow blocks, behind the basic ones.
+    fn overflow(s: Settings, slot: usize, link: usize, start: usize) -> Blocks
+        requires { ⌜ Ranges s × (slot ≡ slotBits s) × (link ≡ linkBits s) × (start ≡ overflowStart s) ⌝ }
+        ensures { λ r. ⌜ (r ≡ overflowBlocks s) × (r .bits ≤ 40832) ⌝ }
+    {
+        let counter = ceil_log2(1 + s.sio);
+        Blocks {
+            start: start,
+            counter: counter,
+            bits: block_bits(counter + link, wide(s.sio), slot),
+        }
+    }
 }
 
 impl Layout {
-    // The layout for settings in their ranges, from the widths that a search has found for them: of a link, and of the
-    // counters of basic and of overflow blocks.
-    pub(crate) fn with(s: Settings, link: usize, counter: usize, further: usize) -> Layout
-        requires { ⌜ Ranges s × (link ≡ linkBits s) × (link ≤ 16) × (counter ≡ basicCounterBits s) × (counter ≤ 9) × (further ≡ overflowCounterBits s) × (further ≤ 4) ⌝ }
+    // The layout for settings in their ranges.
+    pub(crate) fn of(s: Settings) -> Layout
+        requires { ⌜ Ranges s ⌝ }
         ensures { λ r. ⌜ r ≡ layoutOf s ⌝ }
     {
         let bie = wide(s.w - s.bii);
         let val = wide(s.val);
         let slot = bie + val;
-        let sib = wide(s.sib);
         let nob = wide(s.nob);
-        let sio = wide(s.sio);
         let lists = lists_of(s.bii).0;
-        let free_start = free_bits(nob, link);
-        let basic = Blocks {
-            start: free_start,
-            counter: counter,
-            bits: block_bits(counter, sib, slot),
-        };
-        let overflow = Blocks {
-            start: free_start + blocks_bits(lists, basic.bits),
-            counter: further,
-            bits: block_bits(further + link, sio, slot),
-        };
+        let link = ceil_log2(s.nob);
+        let basic = Blocks::basic(s, slot);
+        let behind = basic.start + blocks_bits(lists, basic.bits);
+        let overflow = Blocks::overflow(s, slot, link, behind);
         let bits = overflow.start + blocks_bits(nob, overflow.bits);
         Layout {
             bie: bie,
             val: val,
             slot: slot,
-            sib: sib,
+            sib: wide(s.sib),
             nob: nob,
-            sio: sio,
+            sio: wide(s.sio),
             lists: lists,
             link: link,
             basic: basic,

@@ -4,15 +4,11 @@ ghost use mathlib.Core.Bool.{_&&_};
 ghost use Prim.Native.Nat.{_^_, _≤_};
 ghost use lib.Dec.{leb, ltb};
 ghost use Rattle.settings.specs.Prime.{primeAbove};
-ghost use Rattle.settings.specs.Legal.{Ranges, fits, belowPrime};
+ghost use Rattle.settings.specs.Legal.{Ranges, inRanges, fits, belowPrime};
 ghost use Rattle.settings.specs.Layout.{layoutOf};
 ghost use Rattle.settings.specs.Made.{madeOf, sizeOf, laidOf};
 use crate::layout::Laid;
 use crate::layout::Layout;
-use crate::layout::wide;
-use crate::log::byte_log2;
-use crate::log::ceil_log2;
-use crate::log::small_log2;
 use crate::refusal::Refusal;
 
 // The number of lists, 2^bii, and p, the smallest prime above it.
@@ -134,44 +130,34 @@ impl Settings {
         }
     }
 
-    // The layout of the table's bits, if the settings are legal. Every call on a table starts with it. A number's range is
-    // tested behind the search for the width of its field: on most ways through the search it is then known to be kept,
-    // and the compiler leaves the test out.
+    // The layout of the table's bits, if the settings are legal. Every call on a table starts with it.
     pub fn layout(self) -> Laid
         ensures { λ r. ⌜ r ≡ laidOf self ⌝ }
     {
-        if !self.widths_in_ranges() {
+        if !self.in_ranges() {
             return Laid::Refused(Refusal::Settings);
         }
         if !self.below_prime() {
             return Laid::Refused(Refusal::Settings);
         }
-        let further = small_log2(1 + wide(self.sio));
-        if !between(Settings::SIO_MIN, self.sio, Settings::SIO_MAX) {
-            return Laid::Refused(Refusal::Settings);
-        }
-        let counter = byte_log2(2 + wide(self.sib));
-        if !between(Settings::SIB_MIN, self.sib, Settings::SIB_MAX) {
-            return Laid::Refused(Refusal::Settings);
-        }
-        let link = ceil_log2(wide(self.nob));
-        if self.nob > Settings::NOB_MAX {
-            return Laid::Refused(Refusal::Settings);
-        }
-        let g = Layout::with(self, link, counter, further);
+        let g = Layout::of(self);
         if !self.keeps_rules(g) {
             return Laid::Refused(Refusal::Settings);
         }
         Laid::Layout(g)
     }
 
-    // The two groups are for speed: with one comparison alone as its last part the whole would be compiled without jumps.
-    fn widths_in_ranges(self) -> bool
-        ensures { λ r. ⌜ r ≡ ((leb 2 (self .w) && leb (self .w) 128) && (leb (self .bii) 16 && ltb (self .bii) (self .w) && leb (self .val) 32)) ⌝ }
+    // The group at the end is for speed: with one comparison alone as its last part the whole would be compiled without
+    // jumps.
+    fn in_ranges(self) -> bool
+        ensures { λ r. ⌜ r ≡ inRanges self ⌝ }
     {
         between(Settings::W_MIN, self.w, Settings::W_MAX)
-            & ((self.bii <= Settings::BII_MAX)
-                & (self.bii < self.w)
+            & (self.bii <= Settings::BII_MAX)
+            & (self.bii < self.w)
+            & between(Settings::SIB_MIN, self.sib, Settings::SIB_MAX)
+            & (self.nob <= Settings::NOB_MAX)
+            & (between(Settings::SIO_MIN, self.sio, Settings::SIO_MAX)
                 & (self.val <= Settings::VAL_MAX))
     }
 

@@ -1,7 +1,7 @@
 -- What legal settings keep, as facts; and what the answers to settings tell.
 use mathlib.Core.Path.{_≡_, sym, _∙_}
-use mathlib.Core.Bool.{Bool, true, false, true≢false, _&&_}
-use Prim.Native.Nat.{ℕ, _*_, _≤_, _<_}
+use mathlib.Core.Bool.{Bool, true, false, true≢false}
+use Prim.Native.Nat.{ℕ, _*_}
 use native.Mathlib.Omega.{arith}
 use lib.Dec.{leb, ltb}
 use borrow.Author.Tests.{leb-true, ltb-true, le-leb, lt-ltb}
@@ -63,7 +63,7 @@ module _ (s : Settings) where
       }
 
   -- and back: settings that keep every range and rule are legal
-  in-ranges-if : Ranges s → inRanges s ≡ true
+  pub in-ranges-if : Ranges s → inRanges s ≡ true
   unfolding inRanges
   in-ranges-if r =
       rw (
@@ -98,56 +98,11 @@ module _ (s : Settings) where
   unfolding legal
   legal-if l = rw (in-ranges-if (l .ranges), fits-if l, below-prime-if l)
 
-  -- ---- the ranges as the code tests them
-
-  abbrev pub widthsKept : Bool
-  widthsKept = (leb 2 (s .w) && leb (s .w) 128) && (leb (s .bii) 16 && ltb (s .bii) (s .w) && leb (s .val) 32)
-
-  pub widths-if : Ranges s → widthsKept ≡ true
-  widths-if r =
-      rw (
-        le-leb 2 (s .w) (r .w-low),
-        le-leb (s .w) 128 (r .w-high),
-        le-leb (s .bii) 16 (r .bii-high),
-        lt-ltb (s .bii) (s .w) (r .bii-below),
-        le-leb (s .val) 32 (r .val-high),
-      )
-
-  widths-mean : widthsKept ≡ true → (2 ≤ s .w) × (s .w ≤ 128) × (s .bii ≤ 16) × (s .bii < s .w) × (s .val ≤ 32)
-  widths-mean h =
-      let t = both-true (leb 2 (s .w) && leb (s .w) 128) _ h in
-      let w = both-true (leb 2 (s .w)) (leb (s .w) 128) (t .0) in
-      let v = both-true _ (leb (s .val) 32) (t .1) in
-      let b = both-true (leb (s .bii) 16) (ltb (s .bii) (s .w)) (v .0) in
-      (leb-true 2 (s .w) (w .0), leb-true (s .w) 128 (w .1), leb-true (s .bii) 16 (b .0), ltb-true (s .bii) (s .w) (b .1), leb-true (s .val) 32 (v .1))
-
-  pub bii-means : widthsKept ≡ true → s .bii ≤ 16
-  bii-means h = widths-mean h .2
-
-  pub ranges-from : widthsKept ≡ true → (leb 1 (s .sio) && leb (s .sio) 15) ≡ true
-      → (leb 1 (s .sib) && leb (s .sib) 255) ≡ true → s .nob ≤ 65535 → Ranges s
-  ranges-from h o b n =
-      let w = widths-mean h in
-      let sio = both-true (leb 1 (s .sio)) (leb (s .sio) 15) o in
-      let sib = both-true (leb 1 (s .sib)) (leb (s .sib) 255) b in
-      record {
-        w-low = w .0;
-        w-high = w .1;
-        bii-high = w .2;
-        bii-below = w .3;
-        sib-low = leb-true 1 (s .sib) (sib .0);
-        sib-high = leb-true (s .sib) 255 (sib .1);
-        nob-high = n;
-        sio-low = leb-true 1 (s .sio) (sio .0);
-        sio-high = leb-true (s .sio) 15 (sio .1);
-        val-high = w .4;
-      }
-
   -- ---- what the answers to settings tell
 
-  pub laid-if : Ranges s → belowPrime s ≡ true → fits s ≡ true → laid.Layout (layoutOf s) ≡ laidOf s
+  pub laid-if : inRanges s ≡ true → belowPrime s ≡ true → fits s ≡ true → laid.Layout (layoutOf s) ≡ laidOf s
   unfolding laidOf legal
-  laid-if r p f = rw (in-ranges-if r, f, p)
+  laid-if r p f = rw (r, f, p)
 
   -- a test that legal settings pass refuses the others
   pub refused-if : {t : Bool} → (Legal s → t ≡ true) → t ≡ false → laid.Refused refusal.Settings ≡ laidOf s

@@ -1,11 +1,12 @@
 -- ⌈log2 n⌉ is what its name says: the least k with n ≤ 2 ^ k.
 use mathlib.Core.Path.{_≡_}
-use Prim.Native.Nat.{ℕ, zero, suc, _+_, _/_, _≤_, _<_, _^_}
-use native.Mathlib.Nat.{pow-suc, lt-of-le-of-lt, div-eq-of-lt, div-self}
+use Prim.Native.Nat.{ℕ, zero, suc, _+_, _-_, _*_, _/_, _≤_, _<_, _^_}
+use native.Mathlib.Nat.{pow-suc, lt-of-le-of-lt}
 use native.Mathlib.Omega.{arith}
 use native.Mathlib.Decide.{decLt}
 use lib.Dec.{leb}
-use lib.Pow.{pow-pos, pow-mono}
+use lib.Count.{leadingZeros, leading-le, leading-length}
+use lib.Pow.{pow-mono}
 use borrow.Author.Tests.{le-leb, leb-true}
 use Rattle.settings.specs.Log.{ceilLog2}
 use Rattle.settings.specs.theory.Least.{least-le, least-holds}
@@ -33,22 +34,30 @@ log-is n k h below = pick (decLt (ceilLog2 n) k)
     pick (no l) = omega (arith, log-least n k h)
 
 -- where n is above the power before
-pub log-next : (n k m : ℕ) → m ≡ k + 1 → 2 ^ k < n → n ≤ 2 ^ m → ceilLog2 n ≡ m
+log-next : (n k m : ℕ) → m ≡ k + 1 → 2 ^ k < n → n ≤ 2 ^ m → ceilLog2 n ≡ m
 log-next n k m e l h = log-is n m h (λ j b. lt-of-le-of-lt (pow-mono (omega arith)) l)
 
-same-quotient : (n d : ℕ) → n ≡ d → 0 < d → n / d ≡ 1
-same-quotient n d e l = rw e (div-self l)
+-- where the number less one has k bits
+bits-are : (n k : ℕ) → 1 ≤ n → n - 1 < 2 ^ k → 2 ^ k ≤ 2 * (n - 1) + 1 → ceilLog2 n ≡ k
+bits-are n zero l h k = log-is n 0 (omega (arith, h)) (λ j b. absurd (omega arith))
+bits-are n (suc m) l h k =
+    let d : 2 ^ suc m ≡ 2 ^ m * 2 = pow-suc 2 m in
+    log-next n m (suc m) (omega arith) (omega (arith, d, k)) (omega (arith, h))
 
--- ⌈log2(1 + n)⌉ is ⌈log2 n⌉, or 1 more where n is a power of two: n / 2 ^ ⌈log2 n⌉ is 1 there, and 0 elsewhere
-pub log-suc : (n : ℕ) → ceilLog2 n + n / 2 ^ ceilLog2 n ≡ ceilLog2 (1 + n)
-log-suc n = pick (decLt n (2 ^ ceilLog2 n))
-  where
-    pick : Dec (n < 2 ^ ceilLog2 n) → ceilLog2 n + n / 2 ^ ceilLog2 n ≡ ceilLog2 (1 + n)
-    pick (yes l) =
-        let low = log-least n (ceilLog2 (1 + n)) (omega (arith, log-holds (1 + n))) in
-        let high = log-least (1 + n) (ceilLog2 n) (omega arith) in
-        omega (arith, div-eq-of-lt l)
-    pick (no l) =
-        let one = same-quotient n (2 ^ ceilLog2 n) (omega (arith, log-holds n)) (pow-pos (ceilLog2 n)) in
-        let high : 1 + n ≤ 2 ^ suc (ceilLog2 n) = rw pow-suc (omega (arith, pow-pos (ceilLog2 n), log-holds n)) in
-        omega (arith, one, log-next (1 + n) (ceilLog2 n) (suc (ceilLog2 n)) (omega arith) (omega arith) high)
+-- request 4's rule: as many bits as the number less one has behind its leading zeros, of the w that it stands in
+pub leading-log : (w n : ℕ) → 1 ≤ n → n - 1 < 2 ^ w → w - leadingZeros w (n - 1) ≡ ceilLog2 n
+leading-log w n l h =
+    let b = leading-length w (n - 1) h in
+    omega (arith, b .1, bits-are n (b .0) l (b .2) (b .3))
+
+-- a bit 1 that is put behind a number leaves its leading zeros
+pub leading-behind : (w x y : ℕ) → y ≡ 2 * x + 1 → leadingZeros (suc w) y ≡ leadingZeros w x
+unfolding leadingZeros
+leading-behind w x zero e = absurd (omega arith)
+leading-behind w x (suc n) e = let h : suc n / 2 ≡ x = omega arith in rw h
+
+-- a number other than 0 has a bit behind them
+pub leading-below : (w x : ℕ) → 1 ≤ x → leadingZeros (suc w) x ≤ w
+unfolding leadingZeros
+leading-below w zero l = absurd (omega arith)
+leading-below w (suc n) l = leading-le w (suc n / 2)

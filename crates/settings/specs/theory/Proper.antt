@@ -11,10 +11,15 @@ use Rattle.settings.specs.theory.Logs.{log-holds, log-least}
 use Rattle.settings.specs.declared.settings.Settings.{Settings}
 use Rattle.settings.specs.declared.layout.Layout.{Layout}
 
-pub widths-small : (s : Settings) → Ranges s → (linkBits s ≤ 16) × (basicCounterBits s ≤ 9) × (overflowCounterBits s ≤ 4)
-unfolding linkBits basicCounterBits overflowCounterBits
-widths-small s r =
-    (log-least (s .nob) 16 (omega arith), log-least (2 + s .sib) 9 (omega arith), log-least (1 + s .sio) 4 (omega arith))
+pub widths-small : (s : Settings) → Ranges s
+    → (linkBits s ≤ 16) × (freeStartBits s ≤ 16) × (basicCounterBits s ≤ 9) × (overflowCounterBits s ≤ 4)
+unfolding linkBits freeStartBits basicCounterBits overflowCounterBits
+widths-small s r = (
+  log-least (s .nob) 16 (omega arith),
+  log-least (1 + s .nob) 16 (omega arith),
+  log-least (2 + s .sib) 9 (omega arith),
+  log-least (1 + s .sio) 4 (omega arith),
+)
 
 pub layout-proper : (s : Settings) → Legal s → Proper (layoutOf s)
 unfolding layoutOf linkBits freeStartBits basicCounterBits basicBlockBits lists overflowCounterBits overflowBlockBits overflowStart tableBits tableBytes
@@ -34,9 +39,9 @@ layout-proper s l =
       lists-low = pow-pos (s .bii);
       lists-high = pow-mono (r .bii-high);
       link-high = small .0;
-      free-high = log-least (1 + s .nob) 16 (omega arith);
-      basic-high = small .1;
-      overflow-high = small .2;
+      free-high = small .1;
+      basic-high = small .2;
+      overflow-high = small .3;
       link-fits = l .link-fits;
       basic-is = refl;
       overflow-is = refl;
