@@ -26,23 +26,20 @@ unfolding ceilLog2
 log-least n k h = least-le (λ k. leb n (2 ^ k)) n 0 k (le-leb n (2 ^ k) h) (omega arith)
 
 -- the least, from both sides
-pub log-is : (n k : ℕ) → n ≤ 2 ^ k → ((j : ℕ) → j < k → 2 ^ j < n) → ceilLog2 n ≡ k
+log-is : (n k : ℕ) → n ≤ 2 ^ k → ((j : ℕ) → j < k → 2 ^ j < n) → ceilLog2 n ≡ k
 log-is n k h below = pick (decLt (ceilLog2 n) k)
   where
     pick : Dec (ceilLog2 n < k) → ceilLog2 n ≡ k
     pick (yes l) = absurd (omega (arith, below (ceilLog2 n) l, log-holds n))
     pick (no l) = omega (arith, log-least n k h)
 
--- where n is above the power before
-log-next : (n k m : ℕ) → m ≡ k + 1 → 2 ^ k < n → n ≤ 2 ^ m → ceilLog2 n ≡ m
-log-next n k m e l h = log-is n m h (λ j b. lt-of-le-of-lt (pow-mono (omega arith)) l)
-
 -- where the number less one has k bits
 bits-are : (n k : ℕ) → 1 ≤ n → n - 1 < 2 ^ k → 2 ^ k ≤ 2 * (n - 1) + 1 → ceilLog2 n ≡ k
 bits-are n zero l h k = log-is n 0 (omega (arith, h)) (λ j b. absurd (omega arith))
 bits-are n (suc m) l h k =
     let d : 2 ^ suc m ≡ 2 ^ m * 2 = pow-suc 2 m in
-    log-next n m (suc m) (omega arith) (omega (arith, d, k)) (omega (arith, h))
+    let above : 2 ^ m < n = omega (arith, d, k) in
+    log-is n (suc m) (omega (arith, h)) (λ j b. lt-of-le-of-lt (pow-mono (omega arith)) above)
 
 -- request 4's rule: as many bits as the number less one has behind its leading zeros, of the w that it stands in
 pub leading-log : (w n : ℕ) → 1 ≤ n → n - 1 < 2 ^ w → w - leadingZeros w (n - 1) ≡ ceilLog2 n

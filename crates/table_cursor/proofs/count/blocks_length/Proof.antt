@@ -54,19 +54,19 @@ returns-2 c =
     (k .overflow-front .ensures .0) (told-last _ _ _ _ (w .step-of .ensures) (c .enum-told .given .1)) (omega arith)
     ∙ m .loop .inv .2
 
-add-t12 : tie.Need-add-t12 Inv-loop μ-loop
-add-t12 c =
+-- the entries up to the last block's are few
+few : (c : tie.After-enum-told Inv-loop μ-loop) → let k = c .before .before .before in head k .loop .n + k .overflow-front .result .counter ≤ 983040
+few c =
     let w = c .before .before in
     let m = head (w .before) in
     let s = m .before .before in
     omega (arith, m .loop .inv .1, s .pre .proper .nob-high, s .pre .proper .sio-high, told-last _ _ _ _ (w .step-of .ensures) (c .enum-told .given .1))
 
+add-t12 : tie.Need-add-t12 Inv-loop μ-loop
+add-t12 c = omega (arith, few c)
+
 add-t13 : tie.Need-add-t13 Inv-loop μ-loop
-add-t13 c =
-    let w = c .before .before in
-    let m = head (w .before) in
-    let s = m .before .before in
-    omega (arith, m .loop .inv .1, s .pre .proper .nob-high, s .pre .proper .sio-high, told-last _ _ _ _ (w .step-of .ensures) (c .enum-told .given .1))
+add-t13 c = omega (arith, few c)
 
 enum-known-next : tie.Need-enum-known-next Inv-loop μ-loop
 enum-known-next c = search needs
