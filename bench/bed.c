@@ -3,6 +3,8 @@
 #include <stdlib.h>
 #include <string.h>
 
+#include "../tests/format.h"
+
 static void compare_tables(const Bed *bed)
 {
     if (memcmp(bed->table[PRODUCT], bed->table[BASELINE], bed->size) != 0) fail("the tables differ");
@@ -41,6 +43,28 @@ static void choose_misses(Bed *bed)
     }
 }
 
+/* The number of each key's slot is what find answers; which lists have overflow blocks is told by their keys' slots. */
+static void choose_slots(Bed *bed)
+{
+    Settings s = bed->settings;
+    uint64_t own = basic_slots(s);
+    unsigned count[SLOT_KINDS] = { 0 };
+    uint8_t *overflows = room((size_t)1 << s.bii);
+    memset(overflows, 0, (size_t)1 << s.bii);
+    for (int pass = 0; pass < 2; pass++)
+        for (unsigned i = 0; i < bed->n; i++) {
+            uint64_t slot = libraries[BASELINE].find(s, bed->table[BASELINE], bed->size, bed->in[i]).number;
+            uint64_t list = list_of(s, bed->in[i]);
+            int kind = slot >= own ? OVERFLOW_BLOCK : overflows[list] ? LONG_LIST : SHORT_LIST;
+            if (pass == 0) overflows[list] |= slot >= own;
+            else bed->slots[kind][count[kind]++] = slot;
+        }
+    for (int kind = 0; kind < SLOT_KINDS; kind++)
+        for (unsigned i = count[kind]; i < bed->n; i++)
+            bed->slots[kind][i] = count[kind] ? bed->slots[kind][i - count[kind]] : UINT64_MAX;
+    free(overflows);
+}
+
 Bed *new_bed(Settings s, unsigned n)
 {
     restart_random();
@@ -57,8 +81,10 @@ Bed *new_bed(Settings s, unsigned n)
     bed->out = room(n * sizeof *bed->out);
     bed->marks_size = (s.nob + 7) / 8;
     bed->marks = room(bed->marks_size + 1);
+    for (int kind = 0; kind < SLOT_KINDS; kind++) bed->slots[kind] = room(n * sizeof *bed->slots[kind]);
     fill(bed, n);
     choose_misses(bed);
+    choose_slots(bed);
     return bed;
 }
 
@@ -67,6 +93,7 @@ void free_bed(Bed *bed)
     for (int k = 0; k < LIBRARIES; k++) free(bed->table[k]);
     free(bed->in);
     free(bed->out);
+    for (int kind = 0; kind < SLOT_KINDS; kind++) free(bed->slots[kind]);
     free(bed->marks);
     free(bed);
 }
@@ -104,17 +131,29 @@ static inline void delete_all(Bed *bed, int k, unsigned at, int late)
         bed->got[k][i] = libraries[k].remove(settings_of(bed, late), bed->table[k], bed->size, bed->in[at + i]);
 }
 
+static inline void retrieve_all(Bed *bed, int k, const uint64_t *slots, int late)
+{
+    for (unsigned i = 0; i < CHUNK; i++)
+        bed->got[k][i] = libraries[k].retrieve(settings_of(bed, late), bed->table[k], bed->size, slots[i]);
+}
+
 void op_find_hit(Bed *bed, int k, unsigned at) { find_all(bed, k, bed->in + at, 0); }
 void op_find_miss(Bed *bed, int k, unsigned at) { find_all(bed, k, bed->out + at, 0); }
 void op_enter(Bed *bed, int k, unsigned at) { enter_all(bed, k, at, 0); }
 void op_relabel(Bed *bed, int k, unsigned at) { relabel_all(bed, k, at, 0); }
 void op_delete(Bed *bed, int k, unsigned at) { delete_all(bed, k, at, 0); }
+void op_retrieve_short(Bed *bed, int k, unsigned at) { retrieve_all(bed, k, bed->slots[SHORT_LIST] + at, 0); }
+void op_retrieve_long(Bed *bed, int k, unsigned at) { retrieve_all(bed, k, bed->slots[LONG_LIST] + at, 0); }
+void op_retrieve_overflow(Bed *bed, int k, unsigned at) { retrieve_all(bed, k, bed->slots[OVERFLOW_BLOCK] + at, 0); }
 
 void late_find_hit(Bed *bed, int k, unsigned at) { find_all(bed, k, bed->in + at, 1); }
 void late_find_miss(Bed *bed, int k, unsigned at) { find_all(bed, k, bed->out + at, 1); }
 void late_enter(Bed *bed, int k, unsigned at) { enter_all(bed, k, at, 1); }
 void late_relabel(Bed *bed, int k, unsigned at) { relabel_all(bed, k, at, 1); }
 void late_delete(Bed *bed, int k, unsigned at) { delete_all(bed, k, at, 1); }
+void late_retrieve_short(Bed *bed, int k, unsigned at) { retrieve_all(bed, k, bed->slots[SHORT_LIST] + at, 1); }
+void late_retrieve_long(Bed *bed, int k, unsigned at) { retrieve_all(bed, k, bed->slots[LONG_LIST] + at, 1); }
+void late_retrieve_overflow(Bed *bed, int k, unsigned at) { retrieve_all(bed, k, bed->slots[OVERFLOW_BLOCK] + at, 1); }
 
 void op_check(Bed *bed, int k, unsigned at)
 {

@@ -23,13 +23,17 @@ static const struct {
 };
 enum { TABLES = sizeof tables / sizeof tables[0] };
 
-/* An enter needs its keys out of the table first, a relabel new labels, and after a delete the keys come back. */
+/* An enter needs its keys out of the table first, a relabel new labels, and after a delete the keys come back. What is
+ * retrieved must be there: so that comes before any delete. */
 static const struct {
     const char *name;
     Operation *before, *timed, *late, *after;
 } operations[] = {
     { "find, hit", NULL, op_find_hit, late_find_hit, NULL },
     { "find, miss", NULL, op_find_miss, late_find_miss, NULL },
+    { "retrieve, short list", NULL, op_retrieve_short, late_retrieve_short, NULL },
+    { "retrieve, long list", NULL, op_retrieve_long, late_retrieve_long, NULL },
+    { "retrieve, overflow block", NULL, op_retrieve_overflow, late_retrieve_overflow, NULL },
     { "enter", op_delete, op_enter, late_enter, NULL },
     { "relabel", draw_labels, op_relabel, late_relabel, NULL },
     { "delete", NULL, op_delete, late_delete, op_enter },
@@ -39,6 +43,13 @@ enum { OPERATIONS = sizeof operations / sizeof operations[0] };
 
 /* A check walks the whole table, so that a few are enough. */
 enum { CHECKS = 25 };
+
+static void expect_records(const Bed *bed, Operation *done)
+{
+    if (done != op_retrieve_short && done != op_retrieve_long && done != op_retrieve_overflow) return;
+    for (unsigned i = 0; i < CHUNK; i++)
+        if (bed->got[PRODUCT][i].word != SHELFEGRET_RECORD) fail("a slot is not in use");
+}
 
 static void time_table(unsigned t, unsigned rounds, int late)
 {
@@ -51,6 +62,7 @@ static void time_table(unsigned t, unsigned rounds, int late)
         double ns[LIBRARIES];
         race(bed, operations[i].before, timed, operations[i].after, whole ? CHECKS : rounds,
              whole ? processor_clock : wall_clock, ns);
+        expect_records(bed, operations[i].timed);
         printf("| %s | %s | %.1f | %.1f | %.2f |\n", tables[t].name, operations[i].name,
                ns[PRODUCT] / entries, ns[BASELINE] / entries, ns[PRODUCT] / ns[BASELINE]);
     }
@@ -82,6 +94,12 @@ static void count(int library, const char *name)
     for (unsigned t = 0; t < TABLES; t++) {
         if (strcmp(tables[t].name, name) != 0) continue;
         Bed *bed = new_bed(tables[t].settings, tables[t].n);
+        for (unsigned c = 0; c < COUNTED; c++) {
+            unsigned at = c * (bed->n - CHUNK) / (COUNTED - 1);
+            op_retrieve_short(bed, library, at);
+            op_retrieve_long(bed, library, at);
+            op_retrieve_overflow(bed, library, at);
+        }
         for (unsigned c = 0; c < COUNTED; c++) {
             unsigned at = c * (bed->n - CHUNK) / (COUNTED - 1);
             op_find_hit(bed, library, at);

@@ -13,6 +13,7 @@ Answer baseline_enter(Settings, uint8_t *, size_t, Key, uint64_t);
 Answer baseline_relabel(Settings, uint8_t *, size_t, Key, uint64_t);
 Answer baseline_find(Settings, const uint8_t *, size_t, Key);
 Answer baseline_delete(Settings, uint8_t *, size_t, Key);
+Answer baseline_retrieve(Settings, const uint8_t *, size_t, uint64_t);
 Answer baseline_check(Settings, const uint8_t *, size_t, uint8_t *, size_t);
 Answer baseline_find_text(Settings, const uint8_t *, size_t, const uint8_t *, size_t);
 Answer baseline_read_text(const uint8_t *, size_t);
@@ -21,11 +22,11 @@ Answer baseline_page(Settings, const uint8_t *, size_t, uint64_t, uint8_t *, siz
 
 const Library libraries[LIBRARIES] = {
     { "product", shelfegret_size, shelfegret_make, shelfegret_enter, shelfegret_relabel, shelfegret_find,
-      shelfegret_delete, shelfegret_check, shelfegret_find_text, shelfegret_read_text, shelfegret_write_text,
-      shelfegret_page },
+      shelfegret_delete, shelfegret_retrieve, shelfegret_check, shelfegret_find_text, shelfegret_read_text,
+      shelfegret_write_text, shelfegret_page },
     { "baseline", baseline_size, baseline_make, baseline_enter, baseline_relabel, baseline_find,
-      baseline_delete, baseline_check, baseline_find_text, baseline_read_text, baseline_write_text,
-      baseline_page },
+      baseline_delete, baseline_retrieve, baseline_check, baseline_find_text, baseline_read_text,
+      baseline_write_text, baseline_page },
 };
 
 int library_named(const char *name)

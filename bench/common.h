@@ -23,6 +23,7 @@ typedef struct {
     Answer (*relabel)(Settings, uint8_t *, size_t, Key, uint64_t);
     Answer (*find)(Settings, const uint8_t *, size_t, Key);
     Answer (*remove)(Settings, uint8_t *, size_t, Key);
+    Answer (*retrieve)(Settings, const uint8_t *, size_t, uint64_t);
     Answer (*check)(Settings, const uint8_t *, size_t, uint8_t *, size_t);
     Answer (*find_text)(Settings, const uint8_t *, size_t, const uint8_t *, size_t);
     Answer (*read_text)(const uint8_t *, size_t);

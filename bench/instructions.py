@@ -9,6 +9,9 @@ quick = sys.argv[2:] == ["quick"]
 CALLS = {
     "op_find_hit": "find, hit",
     "op_find_miss": "find, miss",
+    "op_retrieve_short": "retrieve, short list",
+    "op_retrieve_long": "retrieve, long list",
+    "op_retrieve_overflow": "retrieve, overflow block",
     "op_enter": "enter",
     "op_relabel": "relabel",
     "op_delete": "delete",

@@ -40,6 +40,7 @@ STUB(stub_relabel, settings s, uint8_t *t, size_t n, key k, uint64_t l)
 STUB(stub_find, settings s, const uint8_t *t, size_t n, key k)
 STUB(stub_delete, settings s, uint8_t *t, size_t n, key k)
 STUB(stub_record, settings s, const uint8_t *t, size_t n, uint64_t i)
+STUB(stub_retrieve, settings s, const uint8_t *t, size_t n, uint64_t i)
 STUB(stub_check, settings s, const uint8_t *t, size_t n, uint8_t *m, size_t mn)
 STUB(stub_enter_text, settings s, uint8_t *t, size_t n, const uint8_t *x, size_t xn, uint64_t l)
 STUB(stub_relabel_text, settings s, uint8_t *t, size_t n, const uint8_t *x, size_t xn, uint64_t l)
@@ -50,11 +51,11 @@ STUB(stub_write_text, key k, uint8_t *o, size_t on)
 STUB(stub_page, settings s, const uint8_t *t, size_t n, uint64_t p, uint8_t *o, size_t on)
 
 enum {
-    SIZE, MAKE, ENTER, RELABEL, FIND, DELETE, RECORD, CHECK,
+    SIZE, MAKE, ENTER, RELABEL, FIND, DELETE, RECORD, RETRIEVE, CHECK,
     ENTER_TEXT, RELABEL_TEXT, FIND_TEXT, DELETE_TEXT, READ_TEXT, WRITE_TEXT, PAGE, CALLS
 };
 static const char *const names[CALLS] = {
-    "size",       "make",         "enter",     "relabel",     "find",      "delete",    "record", "check",
+    "size",       "make",         "enter",     "relabel",     "find",      "delete",     "record", "retrieve", "check",
     "enter_text", "relabel_text", "find_text", "delete_text", "read_text", "write_text", "page"};
 
 static const struct {
@@ -65,6 +66,7 @@ static const struct {
     answer (*find)(settings, const uint8_t *, size_t, key);
     answer (*delete)(settings, uint8_t *, size_t, key);
     answer (*record)(settings, const uint8_t *, size_t, uint64_t);
+    answer (*retrieve)(settings, const uint8_t *, size_t, uint64_t);
     answer (*check)(settings, const uint8_t *, size_t, uint8_t *, size_t);
     answer (*enter_text)(settings, uint8_t *, size_t, const uint8_t *, size_t, uint64_t);
     answer (*relabel_text)(settings, uint8_t *, size_t, const uint8_t *, size_t, uint64_t);
@@ -74,11 +76,11 @@ static const struct {
     answer (*write_text)(key, uint8_t *, size_t);
     answer (*page)(settings, const uint8_t *, size_t, uint64_t, uint8_t *, size_t);
 } volatile ways[2] = {
-    {stub_size, stub_make, stub_enter, stub_relabel, stub_find, stub_delete, stub_record, stub_check, stub_enter_text,
-     stub_relabel_text, stub_find_text, stub_delete_text, stub_read_text, stub_write_text, stub_page},
+    {stub_size, stub_make, stub_enter, stub_relabel, stub_find, stub_delete, stub_record, stub_retrieve, stub_check,
+     stub_enter_text, stub_relabel_text, stub_find_text, stub_delete_text, stub_read_text, stub_write_text, stub_page},
     {shelfegret_size, shelfegret_make, shelfegret_enter, shelfegret_relabel, shelfegret_find, shelfegret_delete,
-     shelfegret_record, shelfegret_check, shelfegret_enter_text, shelfegret_relabel_text, shelfegret_find_text,
-     shelfegret_delete_text, shelfegret_read_text, shelfegret_write_text, shelfegret_page},
+     shelfegret_record, shelfegret_retrieve, shelfegret_check, shelfegret_enter_text, shelfegret_relabel_text,
+     shelfegret_find_text, shelfegret_delete_text, shelfegret_read_text, shelfegret_write_text, shelfegret_page},
 };
 
 static struct {
@@ -103,6 +105,7 @@ static void ask(void)
     case FIND: last = ways[way].find(now.s, t, now.size, now.k); break;
     case DELETE: last = ways[way].delete(now.s, t, now.size, now.k); break;
     case RECORD: last = ways[way].record(now.s, t, now.size, now.n); break;
+    case RETRIEVE: last = ways[way].retrieve(now.s, t, now.size, now.n); break;
     case CHECK: last = ways[way].check(now.s, t, now.size, marks, sizeof marks); break;
     case ENTER_TEXT: last = ways[way].enter_text(now.s, t, now.size, text, now.text_len, now.label); break;
     case RELABEL_TEXT: last = ways[way].relabel_text(now.s, t, now.size, text, now.text_len, now.label); break;
@@ -191,6 +194,7 @@ static void some_call(int damaged)
     now.label = random_bits() >> (64 - now.s.val) % 64;
     if (now.s.val == 0) now.label = 0;
     now.n = below(now.what == PAGE ? 4 : 64);
+    if (now.what == RETRIEVE) now.n = below(((uint64_t)now.s.sib << now.s.bii) + now.s.sio * now.s.nob + 2);
     now.text_len = one_in(2) ? legal_text(now.k, text) : any_text(now.k, text);
     now.out_len = now.what == PAGE ? sizeof out : 39;
     if (one_in(8)) now.out_len = below(now.out_len);

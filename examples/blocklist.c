@@ -11,13 +11,13 @@
 static const struct shelfegret_settings settings = {
     .w = 128, .bii = 4, .sib = 4, .nob = 8, .sio = 3, .val = 8, .a = 11, .b = 5};
 
-static uint8_t table[1464]; /* what shelfegret_size asks for; the library uses no other memory */
+static uint8_t table[1468]; /* what shelfegret_size asks for; the library uses no other memory */
 static uint8_t marks[1];    /* scratch for check: a bit for each shared block */
 
 static const char *const words[] = {"-",      "added", "held",    "gone",      "none",
                                     "record", "sound", "unsound", "relabelled"};
 static const char *const refusals[] = {"-",      "settings", "short",  "width", "text", "key", "label",
-                                       "damage", "full",     "output", "marks", "-",    "known", "page"};
+                                       "damage", "full",     "output", "marks", "-",    "known", "page", "slot"};
 
 /* Prints an address. The library writes it into our buffer, without a terminator. */
 static void print_address(struct shelfegret_key key)
@@ -34,7 +34,10 @@ static void print_answer(struct shelfegret_answer answer)
         return;
     }
     print_address(answer.key);
-    printf(" %s, label %u, compared %u\n", words[answer.word], (unsigned)answer.label, (unsigned)answer.compared);
+    printf(" %s, label %u, compared %u", words[answer.word], (unsigned)answer.label, (unsigned)answer.compared);
+    if (answer.word == SHELFEGRET_ADDED || answer.word == SHELFEGRET_HELD || answer.word == SHELFEGRET_RELABELLED)
+        printf(", slot %u", (unsigned)answer.number); /* with other words the number is 0, and 0 is a slot too */
+    printf("\n");
 }
 
 /* The texts here are C strings; the library takes the bytes and their number. */
@@ -66,6 +69,13 @@ static void look_up(const uint8_t source[16])
     }
     printf("packet from ");
     print_answer(shelfegret_find(settings, table, sizeof table, key));
+}
+
+/* What stands in a slot. Its number is good until the next address is unblocked. */
+static void print_slot(uint64_t slot)
+{
+    printf("slot %u -> ", (unsigned)slot);
+    print_answer(shelfegret_retrieve(settings, table, sizeof table, slot));
 }
 
 /* Prints every entry: record 0, 1, .. until there is none. */
@@ -123,6 +133,9 @@ int main(void)
     look_up(source);
     look_up(other);
     look_up(ipv4);
+    print_slot(0);  /* the first slot of the first list is vacant */
+    print_slot(12); /* the one that was answered for 2001:db8::1 */
+    print_slot(88); /* there are 4 * 2^4 + 3 * 8 slots, and they are counted from 0 */
     unblock("FE80:0::1");
     unblock("fe80::1");
 

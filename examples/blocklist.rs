@@ -24,7 +24,11 @@ fn print_answer(result: Result<Answer, Refusal>) {
     match result {
         Ok(a) => {
             let word = a.word().map_or("-".into(), lower);
-            println!("{} {}, label {}, compared {}", address(a.key), word, a.label, a.compared);
+            print!("{} {}, label {}, compared {}", address(a.key), word, a.label, a.compared);
+            if let Some(Word::Added | Word::Held | Word::Relabelled) = a.word() {
+                print!(", slot {}", a.number); // with other words the number is 0, and 0 is a slot too
+            }
+            println!();
         }
         Err(why) => println!("refused {}, {}", why as u32, lower(why)),
     }
@@ -49,6 +53,12 @@ fn unblock(table: &mut [u8], text: &str) {
 fn look_up(table: &[u8], source: [u8; 16]) {
     print!("packet from ");
     print_answer(shelfegret::find(SETTINGS, table, u128::from_be_bytes(source).into()));
+}
+
+/// What stands in a slot. Its number is good until the next address is unblocked.
+fn print_slot(table: &[u8], slot: u64) {
+    print!("slot {slot} -> ");
+    print_answer(shelfegret::retrieve(SETTINGS, table, slot));
 }
 
 fn print_all(table: &[u8]) {
@@ -79,7 +89,7 @@ fn print_check(table: &[u8]) {
 }
 
 fn main() -> Result<(), Refusal> {
-    let mut table = [0; 1464];
+    let mut table = [0; 1468];
     println!("size: {} bytes, {} lent", shelfegret::size(SETTINGS)?.number, table.len());
     shelfegret::make(SETTINGS, &mut table)?;
 
@@ -96,6 +106,9 @@ fn main() -> Result<(), Refusal> {
     look_up(&table, [0x20, 0x01, 0x0d, 0xb8, 0, 0, 0, 0, 0, 0, 0, 0, 0, 0, 0, 1]);
     look_up(&table, [0x20, 0x01, 0x0d, 0xb8, 0, 0, 0, 0, 0, 0, 0, 0, 0, 0, 0, 2]);
     look_up(&table, [0, 0, 0, 0, 0, 0, 0, 0, 0, 0, 0xff, 0xff, 192, 0, 2, 1]); // as a socket for both families gives it
+    print_slot(&table, 0); // the first slot of the first list is vacant
+    print_slot(&table, 12); // the one that was answered for 2001:db8::1
+    print_slot(&table, 88); // there are 4 * 2^4 + 3 * 8 slots, and they are counted from 0
     unblock(&mut table, "FE80:0::1");
     unblock(&mut table, "fe80::1");
 

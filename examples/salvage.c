@@ -13,7 +13,7 @@
 static const struct shelfegret_settings settings = {
     .w = 128, .bii = 4, .sib = 4, .nob = 8, .sio = 3, .val = 8, .a = 11, .b = 5};
 
-static uint8_t table[1464], copy[sizeof table], rescued[sizeof table], marks[1];
+static uint8_t table[1468], copy[sizeof table], rescued[sizeof table], marks[1];
 
 /* ---- what must be known of the format: where a list's counter stands */
 

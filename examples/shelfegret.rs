@@ -72,6 +72,7 @@ pub enum Refusal {
     Marks,
     Known = 12, // 11 is the program's alone
     Page,
+    Slot,
 }
 
 impl Answer {
@@ -89,6 +90,7 @@ impl Answer {
             0 => Ok(self),
             12 => Err(Known),
             13 => Err(Page),
+            14 => Err(Slot),
             code => Err(all[code as usize - 1]),
         }
     }
@@ -105,6 +107,7 @@ mod c {
         pub fn shelfegret_find(s: Settings, table: *const u8, len: usize, key: Key) -> Answer;
         pub fn shelfegret_delete(s: Settings, table: *mut u8, len: usize, key: Key) -> Answer;
         pub fn shelfegret_record(s: Settings, table: *const u8, len: usize, n: u64) -> Answer;
+        pub fn shelfegret_retrieve(s: Settings, table: *const u8, len: usize, slot: u64) -> Answer;
         pub fn shelfegret_check(s: Settings, table: *const u8, len: usize, marks: *mut u8, marks_len: usize) -> Answer;
         pub fn shelfegret_enter_text(
             s: Settings,
@@ -178,6 +181,11 @@ pub fn delete(s: Settings, table: &mut [u8], key: Key) -> Result<Answer, Refusal
 
 pub fn record(s: Settings, table: &[u8], n: u64) -> Result<Answer, Refusal> {
     unsafe { c::shelfegret_record(s, table.as_ptr(), table.len(), n) }.or_refusal()
+}
+
+/// What stands in a slot. `enter`, `relabel` and `find` answer its number, which is good until a key is deleted.
+pub fn retrieve(s: Settings, table: &[u8], slot: u64) -> Result<Answer, Refusal> {
+    unsafe { c::shelfegret_retrieve(s, table.as_ptr(), table.len(), slot) }.or_refusal()
 }
 
 pub fn check(s: Settings, table: &[u8], marks: &mut [u8]) -> Result<Answer, Refusal> {

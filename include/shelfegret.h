@@ -22,7 +22,8 @@ extern "C" {
 #endif
 
 /* The settings of a table. Every call on it must be given the same: with others, the bytes are read as the table that
- * those settings describe. Keep them with the bytes, which do not say what they were.
+ * those settings describe. Keep them with the bytes, which do not say what they were, nor which version wrote them: a
+ * table that version 0.1.0 wrote with bii and nob above 0 has other fields, and this version cannot read it.
  *   w    bits of a key, 2 to 128; 128 for IPv6 addresses
  *   bii  bits of a key that choose its list and are not stored, 0 to 16, below w: there are 2^bii lists
  *   sib  entries in each list's own block, 1 to 255
@@ -53,7 +54,8 @@ struct shelfegret_answer {
                                   none */
     uint32_t compared;         /* enter, relabel, find, delete: entries compared, up to and including the match, or the
                                   list's length if there is none (with ADDED, before it); else 0 */
-    uint64_t number;           /* size, write_text, page: bytes; else 0 */
+    uint64_t number;           /* size, write_text, page: bytes; with ADDED, HELD and RELABELLED the number of the
+                                  entry's slot, see shelfegret_retrieve; else 0 */
 };
 
 /* words */
@@ -61,8 +63,9 @@ enum {
     SHELFEGRET_ADDED = 1,     /* enter: it was not there, and is now; label is the one given */
     SHELFEGRET_HELD = 2,      /* find: it is there; label is the one stored */
     SHELFEGRET_GONE = 3,      /* delete: it was there, and is no more; label is the one it had */
-    SHELFEGRET_NONE = 4,      /* relabel, find, delete: it is not there; record: there is no such record */
-    SHELFEGRET_RECORD = 5,    /* record: key and label are those of the record */
+    SHELFEGRET_NONE = 4,      /* relabel, find, delete: it is not there; record: there is no such record; retrieve: the
+                                 slot is not in use */
+    SHELFEGRET_RECORD = 5,    /* record, retrieve: key and label are those of the record, or of the slot's entry */
     SHELFEGRET_SOUND = 6,     /* check */
     SHELFEGRET_UNSOUND = 7,   /* check */
     SHELFEGRET_RELABELLED = 8 /* relabel: it is there, and has the label given; label is the one it had */
@@ -76,14 +79,16 @@ enum {
     SHELFEGRET_REFUSED_TEXT = 4,     /* the text is not a legal address */
     SHELFEGRET_REFUSED_KEY = 5,      /* the key is 2^w or more */
     SHELFEGRET_REFUSED_LABEL = 6,    /* the label is 2^val or more */
-    SHELFEGRET_REFUSED_DAMAGE = 7,   /* a list that the call follows is damaged; or the chain of free blocks is, where
-                                        enter takes a block or delete frees one */
+    SHELFEGRET_REFUSED_DAMAGE = 7,   /* a list that the call follows is damaged, as where a block has the number of
+                                        another list; or the chain of free blocks is, where enter takes a block or
+                                        delete frees one */
     SHELFEGRET_REFUSED_FULL = 8,     /* a new entry needs an overflow block, and none is free; docs/LIBRARY.md says
                                         which deletes make room */
     SHELFEGRET_REFUSED_OUTPUT = 9,   /* fewer bytes are lent than the text has, or than a page may have */
     SHELFEGRET_REFUSED_MARKS = 10,   /* fewer mark bytes are lent than check needs */
     SHELFEGRET_REFUSED_KNOWN = 12,   /* the key that is to be entered is there already (11 is the program's own) */
-    SHELFEGRET_REFUSED_PAGE = 13     /* the page number is 0 or beyond the last page */
+    SHELFEGRET_REFUSED_PAGE = 13,    /* the page number is 0 or beyond the last page */
+    SHELFEGRET_REFUSED_SLOT = 14     /* the slot number is not below sib * 2^bii + sio * nob, the number of slots */
 };
 
 /* The bytes that a table with these settings needs, in number. Refuses 1. */
@@ -92,18 +97,19 @@ struct shelfegret_answer shelfegret_size(struct shelfegret_settings settings);
 /* Makes the lent bytes an empty table. Bytes behind the table's size stay. Refuses 1, 2. */
 struct shelfegret_answer shelfegret_make(struct shelfegret_settings settings, uint8_t *table, size_t len);
 
-/* Enters a key that is not there, with a label: ADDED. key is the key asked for. Refuses 1, 2, 5, 6, 7, 12, 8; the 7 in
- * this place is for the key's list. Only where a key that is not there needs a block is the chain of free blocks looked
- * at: then 8 can be due, or 7 for the chain, never both. */
+/* Enters a key that is not there, with a label: ADDED with the number of its slot. key is the key asked for. Refuses 1,
+ * 2, 5, 6, 7, 12, 8; the 7 in this place is for the key's list. Only where a key that is not there needs a block is the
+ * chain of free blocks looked at: then 8 can be due, or 7 for the chain, never both. */
 struct shelfegret_answer shelfegret_enter(struct shelfegret_settings settings, uint8_t *table, size_t len,
                                           struct shelfegret_key key, uint64_t label);
 
-/* Gives a key that is there another label: RELABELLED with the label that it had; or NONE, and nothing changes. key is
- * the key asked for. Refuses 1, 2, 5, 6, 7. */
+/* Gives a key that is there another label: RELABELLED with the label that it had and the number of its slot; or NONE,
+ * and nothing changes. key is the key asked for. Refuses 1, 2, 5, 6, 7. */
 struct shelfegret_answer shelfegret_relabel(struct shelfegret_settings settings, uint8_t *table, size_t len,
                                             struct shelfegret_key key, uint64_t label);
 
-/* Finds the key: HELD with its label, or NONE. key is the key asked for. The table is only read. Refuses 1, 2, 5, 7. */
+/* Finds the key: HELD with its label and the number of its slot, or NONE. key is the key asked for. The table is only
+ * read. Refuses 1, 2, 5, 7. */
 struct shelfegret_answer shelfegret_find(struct shelfegret_settings settings, const uint8_t *table, size_t len,
                                          struct shelfegret_key key);
 
@@ -118,6 +124,19 @@ struct shelfegret_answer shelfegret_delete(struct shelfegret_settings settings, 
 struct shelfegret_answer shelfegret_record(struct shelfegret_settings settings, const uint8_t *table, size_t len,
                                            uint64_t n);
 
+/* What stands in the slot of this number: RECORD with key and label, or NONE if the slot is not in use. Slots are
+ * counted from 0: sib for each list, list by list, then sio for each overflow block. Enter, relabel and find answer
+ * the number of the entry's slot. 0 is the number of a slot too, the first of list 0; where there is no number, as
+ * with NONE or a refusal, 0 stands as well: the word decides.
+ * On a table that make made or check found sound, a number stays good until the next delete that answers GONE, of
+ * whatever key, or until the table is written anew as a whole, as by make: retrieve gives the number's key, and the
+ * label that the key has by then. Afterwards find answers the number anew.
+ * Slot k of a list's own block, from 0, is in use if the list has more than k entries; slot k of an overflow block, if
+ * the list that the block names contains the block, and the block has more than k entries. That list is followed to
+ * its end first, and 7 is refused if it is damaged. The table is only read. Refuses 1, 2, 14, 7. */
+struct shelfegret_answer shelfegret_retrieve(struct shelfegret_settings settings, const uint8_t *table, size_t len,
+                                             uint64_t slot);
+
 /* Whether the lent bytes are a sound table: SOUND or UNSOUND, whatever the bytes are. It does not see that a or b are
  * not those that the table was filled with. Its time grows with the square of the longest list. marks is scratch, a bit
  * for each overflow block: its first (nob + 7) / 8 bytes are zero afterwards, whatever they held, and bytes behind them
@@ -125,9 +144,9 @@ struct shelfegret_answer shelfegret_record(struct shelfegret_settings settings, 
 struct shelfegret_answer shelfegret_check(struct shelfegret_settings settings, const uint8_t *table, size_t len,
                                           uint8_t *marks, size_t marks_len);
 
-/* The same with the address that a text spells, as read_text reads it, for a table with w 128. A text is bytes without
- * a terminator. key is the key as read. enter_text refuses 1, 2, 3, 4, 6, 7, 12, 8; relabel_text 1, 2, 3, 4, 6, 7;
- * find_text and delete_text 1, 2, 3, 4, 7. */
+/* Enter, relabel, find and delete with the address that a text spells, as read_text reads it, for a table with w 128. A
+ * text is bytes without a terminator. key is the key as read. enter_text refuses 1, 2, 3, 4, 6, 7, 12, 8; relabel_text
+ * 1, 2, 3, 4, 6, 7; find_text and delete_text 1, 2, 3, 4, 7. */
 struct shelfegret_answer shelfegret_enter_text(struct shelfegret_settings settings, uint8_t *table, size_t len,
                                                const uint8_t *text, size_t text_len, uint64_t label);
 struct shelfegret_answer shelfegret_relabel_text(struct shelfegret_settings settings, uint8_t *table, size_t len,

@@ -1,5 +1,5 @@
-/* claims.c - what docs/LIBRARY.md says of refusals 7, 8 and 12, of check and of pages, on tables small enough to try
- * every case; and the widths of the fields, for every number that they depend on.
+/* claims.c - what docs/LIBRARY.md says of refusals 7, 8 and 12, of check, of slots and of pages, on tables small enough
+ * to try every case; and the widths of the fields, for every number that they depend on.
  *
  *     claims [SEED]
  *
@@ -16,7 +16,7 @@ typedef struct shelfegret_settings settings;
 typedef struct shelfegret_key key;
 typedef struct shelfegret_answer answer;
 
-enum { TABLE_MOST = 2097152 };
+enum { TABLE_MOST = 32768 };
 
 static settings s;
 static size_t size;
@@ -46,12 +46,18 @@ static answer relabel(uint8_t *t, key k, uint32_t label) { return shelfegret_rel
 static answer find(const uint8_t *t, key k) { return shelfegret_find(s, t, size, k); }
 static answer gone(uint8_t *t, key k) { return shelfegret_delete(s, t, size, k); }
 static answer record(const uint8_t *t, uint64_t n) { return shelfegret_record(s, t, size, n); }
+static answer retrieve(const uint8_t *t, uint64_t slot) { return shelfegret_retrieve(s, t, size, slot); }
 static answer check(const uint8_t *t) { return shelfegret_check(s, t, size, marks, sizeof marks); }
 
 /* Key n of the list: its entry is n. */
 static key key_of(uint32_t list, uint64_t n)
 {
     return key_in_list(s, (key){0, n}, list);
+}
+
+static int is_key(answer a, key k)
+{
+    return a.word == SHELFEGRET_RECORD && a.key.high == k.high && a.key.low == k.low;
 }
 
 static void fill(uint32_t list, uint32_t n)
@@ -135,6 +141,8 @@ static void rest_works(void)
         expect(find(table, key_of(0, n)).word == SHELFEGRET_HELD, "a find beside a broken chain");
         expect(enter(table, key_of(0, n)).code == SHELFEGRET_REFUSED_KNOWN, "known beside a broken chain");
         expect(relabel(table, key_of(0, n), 0).word == SHELFEGRET_RELABELLED, "a relabel beside a broken chain");
+        answer a = find(table, key_of(0, n));
+        expect(is_key(retrieve(table, a.number), a.key), "a slot beside a broken chain");
     }
     expect(relabel(table, key_of(0, 4), 0).word == SHELFEGRET_NONE, "none to relabel beside a broken chain");
     for (uint32_t n = 0; n < 5; n++)
@@ -174,16 +182,39 @@ static void broken_chain(void)
 
 /* ---- refusal 7 by a list, and what can be read beside it */
 
+/* The list's counter; or its first block; or one of its blocks has the number of another list. */
+static void break_list(uint32_t bad, uint32_t length)
+{
+    static struct followed f;
+    uint64_t way = length > s.sib ? below(3) : 0;
+    if (way == 0) put_bits(table, basic_at(s, bad), basic_counter_bits(s), s.sib + 2 + below(3));
+    if (way == 1) put_bits(table, basic_at(s, bad) + basic_counter_bits(s), link_bits(s), s.nob + below(12));
+    if (way != 2) return;
+    expect(follow(s, table, bad, &f) && f.blocks != 0, "the list is not damaged yet");
+    put_bits(table, list_at(s, f.block[below(f.blocks)]), list_bits(s), (bad + 1 + below(7)) % 8);
+}
+
+/* A slot's list is that of its basic block, or the one that its overflow block has the number of. */
+static void slots_beside(uint32_t bad)
+{
+    uint64_t basic = basic_slots(s);
+    for (uint64_t slot = 0; slot < all_slots(s); slot++) {
+        uint64_t list = slot / s.sib;
+        if (slot >= basic) list = get_bits(table, list_at(s, (slot - basic) / s.sio), list_bits(s));
+        expect((retrieve(table, slot).code == SHELFEGRET_REFUSED_DAMAGE) == (list == bad),
+               "retrieve refuses 7 exactly where the slot's list is damaged");
+    }
+}
+
 static void broken_list(void)
 {
     uint32_t length[8];
     new_table((settings){40, 3, 3, 20, 2, 5, 3, 4});
     for (uint32_t i = 0; i < 8; i++) fill(i, length[i] = (uint32_t)below(8));
     uint32_t bad = (uint32_t)below(8), before = 0, all = 0, n = 0;
-    if (length[bad] > s.sib && one_in(2))
-        put_bits(table, basic_at(s, bad) + basic_counter_bits(s), link_bits(s), s.nob + below(12)); /* its first block */
-    else
-        put_bits(table, basic_at(s, bad), basic_counter_bits(s), s.sib + 2 + below(3)); /* its counter */
+    break_list(bad, length[bad]);
+    slots_beside(bad);
+    expect(check(table).word == SHELFEGRET_UNSOUND, "a damaged list is unsound");
     for (uint32_t i = 0; i < 8; i++) {
         uint32_t code = i == bad ? SHELFEGRET_REFUSED_DAMAGE : 0;
         uint32_t known = length[i] ? SHELFEGRET_REFUSED_KNOWN : 0;
@@ -191,8 +222,11 @@ static void broken_list(void)
         expect(relabel(table, key_of(i, 0), 0).code == code, "a relabel refuses 7 exactly in the damaged list");
         memcpy(other, table, size);
         expect(enter(other, key_of(i, 0)).code == (code ? code : known), "7 of the list comes before 12");
-        for (uint32_t j = 0; j < length[i] && !code; j++)
-            expect(find(table, key_of(i, j)).word == SHELFEGRET_HELD, "an entry of another list");
+        for (uint32_t j = 0; j < length[i] && !code; j++) {
+            answer a = find(table, key_of(i, j));
+            expect(a.word == SHELFEGRET_HELD, "an entry of another list");
+            expect(is_key(retrieve(table, a.number), a.key), "and its slot");
+        }
         if (i < bad) before += length[i];
         if (i != bad) all += length[i];
     }
@@ -240,14 +274,36 @@ static void pages_are_records(void)
     expect(page(0).code == SHELFEGRET_REFUSED_PAGE, "no page 0");
 }
 
-/* The list gets another's counter and link: if that one overflows, it goes on through the same blocks. */
-static void share(uint32_t list, uint32_t with)
+static uint32_t find_code(uint32_t list)
 {
-    uint32_t bits = basic_counter_bits(s) + link_bits(s);
-    put_bits(table, basic_at(s, list), bits, get_bits(table, basic_at(s, with), bits));
+    return find(table, key_of(list, 0)).code;
 }
 
-static void shared_lists(void)
+static void no_page(const char *what)
+{
+    for (uint64_t n = 0; n < 5; n++) expect(page(n).code == SHELFEGRET_REFUSED_DAMAGE, what);
+}
+
+/* The list gets another's counter and link. No block is in two lists: the one is damaged as long as the blocks have the
+ * other's number, and then the other. Once that has a counter without blocks, both can be read: entries that nobody
+ * entered, and blocks in no list if the first had any. */
+static void move_blocks(uint32_t to, uint32_t from)
+{
+    static struct followed f;
+    uint32_t bits = basic_counter_bits(s) + link_bits(s);
+    expect(follow(s, table, from, &f), "a list that can be followed");
+    if (f.blocks == 0 || to == from) return;
+    put_bits(table, basic_at(s, to), bits, get_bits(table, basic_at(s, from), bits));
+    expect(find_code(to) == SHELFEGRET_REFUSED_DAMAGE && find_code(from) == 0, "the blocks have the other's number");
+    no_page("a list goes on in another's blocks");
+    for (uint32_t i = 0; i < f.blocks; i++) put_bits(table, list_at(s, f.block[i]), list_bits(s), to);
+    expect(find_code(from) == SHELFEGRET_REFUSED_DAMAGE && find_code(to) == 0, "the blocks have the list's number");
+    no_page("the other still goes on in them");
+    put_bits(table, basic_at(s, from), basic_counter_bits(s), below(s.sib + 1));
+    expect(find_code(from) == 0 && find_code(to) == 0, "each block in one list");
+}
+
+static void moved_blocks(void)
 {
     new_table((settings){128, 3, 3, 60, 2, 5, 3, 4});
     for (uint32_t i = 0; i < 8; i++) {
@@ -257,44 +313,24 @@ static void shared_lists(void)
     }
     pages_are_records();
     for (uint64_t left = 1 + below(3); left; left--) {
-        uint32_t list = (uint32_t)below(8), with = (uint32_t)below(8);
-        share(list, with);
+        uint32_t to = (uint32_t)below(8), from = (uint32_t)below(8);
+        move_blocks(to, from);
     }
     pages_are_records();
     uint64_t bad = below(8);
     put_bits(table, basic_at(s, bad), basic_counter_bits(s), s.sib + 2 + below(3));
-    for (uint64_t n = 0; n < 5; n++)
-        expect(page(n).code == SHELFEGRET_REFUSED_DAMAGE, "no page while a list is damaged, wherever it is");
+    no_page("no page while a list is damaged, wherever it is");
 }
 
-/* No entry; then a list through all blocks, alone and twice. */
+/* No entry; then a list through all blocks, and then another through the same. */
 static void long_list(void)
 {
     new_table((settings){128, 1, 1, 100, 15, 8, 1, 1});
     pages_are_records();
     fill(1, 1501);
     pages_are_records();
-    share(0, 1);
+    move_blocks(0, 1);
     pages_are_records();
-}
-
-/* Every list goes through all blocks, and so there are more than 2^32 records. Every entry is 0. */
-static void many_records(void)
-{
-    new_table((settings){128, 16, 1, 4370, 15, 0, 1, 1});
-    memset(table, 0, size);
-    for (uint32_t i = 0; i < s.nob; i++) {
-        int last = i + 1 == s.nob;
-        put_bits(table, block_at(s, i), counter_bits(s), last ? s.sio - 1 : s.sio);
-        put_bits(table, link_at(s, i), link_bits(s), last ? 0 : i + 1);
-    }
-    for (uint32_t list = 0; list < 65536; list++) put_bits(table, basic_at(s, list), basic_counter_bits(s), s.sib + 1);
-    uint64_t records = 65536 * (uint64_t)(s.sib + s.nob * s.sio), last = records / ROWS + 1;
-    uint32_t rows = (uint32_t)(records % ROWS);
-    expect(records >> 32 == 1 && rows != 0, "the test's own numbers");
-    expect(page(last).number == LINE * (1 + rows), "the last of a hundred million pages");
-    for (uint32_t i = 0; i < rows; i++) expect_row(i, key_in_list(s, (key){0, 0}, 65535), 0);
-    expect(page(last + 1).code == SHELFEGRET_REFUSED_PAGE, "and none behind it");
 }
 
 /* ---- other settings than the table's */
@@ -337,10 +373,13 @@ static void expect_size(settings given)
     expect(shelfegret_size(s).number == (block_at(s, s.nob) + 7) / 8, "the size is that of fields of these widths");
 }
 
-/* Every sib, sio and nob. In eight blocks a bit is a byte of the size; a bit of the free start moves it with one of
- * sixteen sib, since with them the other fields leave every remainder modulo 8. */
+/* Every sib, sio, bii and nob, and the program's table. In eight blocks a bit is a byte of the size; a bit of the free
+ * start moves it with one of sixteen sib, since with them the other fields leave every remainder modulo 8. */
 static void every_width(void)
 {
+    expect_size((settings){128, 8, 4, 64, 3, 8, 97, 31});
+    expect(shelfegret_size(s).number == (157447 + 7) / 8, "the program's table has 157,447 bits");
+    for (uint32_t bii = 0; bii <= 16; bii++) expect_size((settings){bii + 3, bii, 1, 8, 1, 0, 1, 1});
     for (uint32_t sib = 1; sib <= 255; sib++) expect_size((settings){8, 3, sib, 0, 1, 0, 1, 1});
     for (uint32_t sio = 1; sio <= 15; sio++) expect_size((settings){8, 3, 1, 8, sio, 0, 1, 1});
     for (uint32_t nob = 0; nob <= 65535; nob++)
@@ -350,15 +389,14 @@ static void every_width(void)
 int main(int argc, char **argv)
 {
     seed_random(argc > 1 ? strtoull(argv[1], NULL, 0) : 1);
+    unsigned found = other_spread(); /* first, so that its addresses depend on the seed alone */
     for (int i = 0; i < 2000; i++) full_table();
     broken_chain();
     for (int i = 0; i < 2000; i++) broken_list();
-    for (int i = 0; i < 500; i++) shared_lists();
+    for (int i = 0; i < 500; i++) moved_blocks();
     long_list();
-    many_records();
     no_secret();
     every_width();
-    unsigned found = other_spread();
     printf("claims: %u cases on %u tables; %u of 700 found with another a and b\n", cases, tables, found);
     return 0;
 }

@@ -32,6 +32,7 @@ uint32_t start_bits(settings s) { return log2_up((uint64_t)s.nob + 1); }
 uint32_t basic_counter_bits(settings s) { return log2_up((uint64_t)s.sib + 2); }
 uint32_t counter_bits(settings s) { return log2_up((uint64_t)s.sio + 1); }
 uint32_t link_bits(settings s) { return log2_up(s.nob); }
+uint32_t list_bits(settings s) { return s.bii; }
 uint32_t entry_bits(settings s) { return s.w - s.bii; }
 uint32_t slot_bits(settings s) { return entry_bits(s) + s.val; }
 
@@ -42,7 +43,7 @@ size_t basic_at(settings s, uint64_t list)
 
 size_t block_at(settings s, uint64_t block)
 {
-    size_t one = counter_bits(s) + link_bits(s) + (size_t)s.sio * slot_bits(s);
+    size_t one = counter_bits(s) + link_bits(s) + list_bits(s) + (size_t)s.sio * slot_bits(s);
     return basic_at(s, (uint64_t)1 << s.bii) + (size_t)block * one;
 }
 
@@ -50,6 +51,14 @@ size_t link_at(settings s, uint64_t block)
 {
     return block_at(s, block) + counter_bits(s);
 }
+
+size_t list_at(settings s, uint64_t block)
+{
+    return link_at(s, block) + link_bits(s);
+}
+
+uint64_t basic_slots(settings s) { return (uint64_t)s.sib << s.bii; }
+uint64_t all_slots(settings s) { return basic_slots(s) + (uint64_t)s.sio * s.nob; }
 
 /* ---- keys */
 
@@ -110,6 +119,7 @@ int follow(settings s, const uint8_t *table, uint64_t list, struct followed *f)
     do {
         if (block >= s.nob || f->blocks == s.nob) return 0;
         f->block[f->blocks++] = (uint32_t)block;
+        if (get_bits(table, list_at(s, block), list_bits(s)) != list) return 0;
         counter = get_bits(table, block_at(s, block), counter_bits(s));
         if (counter > s.sio) return 0;
         block = get_bits(table, link_at(s, block), link_bits(s));
@@ -128,7 +138,7 @@ size_t bit_at(settings s, const struct followed *f, uint32_t n, uint32_t i)
     size_t bit = (size_t)(n < s.sib ? n : (n - s.sib) % s.sio) * slot_bits(s) + i;
     if (is_displaced(s, f, n, i)) return link_at(s, f->block[f->blocks - 1]) + bit;
     if (n < s.sib) return basic_at(s, f->list) + basic_counter_bits(s) + bit;
-    return link_at(s, f->block[(n - s.sib) / s.sio]) + link_bits(s) + bit;
+    return list_at(s, f->block[(n - s.sib) / s.sio]) + list_bits(s) + bit;
 }
 
 int is_entry(settings s, const uint8_t *table, const struct followed *f, uint32_t n, key k)
@@ -138,6 +148,30 @@ int is_entry(settings s, const uint8_t *table, const struct followed *f, uint32_
         if (get_bits(table, bit_at(s, f, n, i), 1) != bit) return 0;
     }
     return 1;
+}
+
+uint64_t slot_number(settings s, const struct followed *f, uint32_t n)
+{
+    if (n < s.sib) return f->list * s.sib + n;
+    uint32_t block = (n - s.sib) / s.sio, place = (n - s.sib) % s.sio;
+    return basic_slots(s) + (uint64_t)s.sio * f->block[block] + place;
+}
+
+uint32_t slot_with_number(settings s, const struct followed *f, uint64_t number)
+{
+    uint32_t n = 0;
+    while (n < f->length && slot_number(s, f, n) != number) n++;
+    return n;
+}
+
+key get_key(settings s, const uint8_t *table, const struct followed *f, uint32_t n)
+{
+    key entry = {0, 0};
+    for (uint32_t i = 0; i < entry_bits(s); i++) {
+        entry.high = entry.high << 1 | entry.low >> 63;
+        entry.low = entry.low << 1 | get_bits(table, bit_at(s, f, n, i), 1);
+    }
+    return key_in_list(s, entry, f->list);
 }
 
 uint64_t get_label(settings s, const uint8_t *table, const struct followed *f, uint32_t n)

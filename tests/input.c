@@ -44,7 +44,10 @@ static int is_mapped(struct shelfegret_key key)
 static struct shelfegret_key random_mapped(void)
 {
     struct shelfegret_key key = {0, mapped};
-    for (int i = 0; i < 4; i++) key.low = key.low << 8 | (random_bits() & 0xff) >> below(8);
+    for (int i = 0; i < 4; i++) {
+        uint64_t octet = random_bits() & 0xff;
+        key.low = key.low << 8 | octet >> below(8);
+    }
     return key;
 }
 
@@ -54,7 +57,9 @@ struct shelfegret_key random_address(void)
     struct shelfegret_key key = {0, 0};
     uint64_t zeros = below(5); /* of 4 groups */
     for (int i = 0; i < 8; i++) {
-        uint64_t group = below(4) < zeros ? 0 : (random_bits() & 0xffff) >> 4 * below(4);
+        uint64_t group = random_bits() & 0xffff;
+        group >>= 4 * below(4);
+        if (below(4) < zeros) group = 0;
         if (one_in(16)) group = 0xffff;
         key.high = key.high << 16 | key.low >> 48;
         key.low = key.low << 16 | group;

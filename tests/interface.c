@@ -6,10 +6,13 @@
  * and every byte of every buffer: those that the call may write must be equal in both, all others as before. Each
  * buffer lies between two pages without access, against one of them or with guard bytes on both sides, so that reads
  * outside are caught as well. The settings are legal and not, the tables new, in use, damaged and random. Behind each
- * relabel the table must be the one before with the label's bits changed, each where format.c finds it. At the end
- * each call must have given each of its refusals and words many times, and no other; labels of every kind must have
- * been changed, such as those that lie where a block's number is; and pages of every kind printed, such as those of
- * tables whose lists share blocks. How many records these have is counted with format.c, and gives the page's length.
+ * relabel the table must be the one before with the label's bits changed, each where format.c finds it; the slot that
+ * a call answers, and what retrieve gives, must be those that format.c finds; and what was answered is retrieved at
+ * once. Of small tables every slot is retrieved, and numbers behind them. At the end each call must have given each of
+ * its refusals and words many times, and no other; labels of every kind must have been changed, such as those that lie
+ * where a block's number is; slots of every kind asked for, such as those of a block that the list which it names does
+ * not contain; and pages of every kind printed, such as those of tables with blocks in no list. How many records these
+ * have is counted with format.c, and gives the page's length.
  *
  * The baseline is compiled with base_ in the place of shelfegret_ in its names. */
 #define _DEFAULT_SOURCE /* MAP_ANONYMOUS */
@@ -40,6 +43,7 @@ struct library {
     answer (*find)(settings, const uint8_t *, size_t, key);
     answer (*delete)(settings, uint8_t *, size_t, key);
     answer (*record)(settings, const uint8_t *, size_t, uint64_t);
+    answer (*retrieve)(settings, const uint8_t *, size_t, uint64_t);
     answer (*check)(settings, const uint8_t *, size_t, uint8_t *, size_t);
     answer (*enter_text)(settings, uint8_t *, size_t, const uint8_t *, size_t, uint64_t);
     answer (*relabel_text)(settings, uint8_t *, size_t, const uint8_t *, size_t, uint64_t);
@@ -57,6 +61,7 @@ answer base_relabel(settings, uint8_t *, size_t, key, uint64_t);
 answer base_find(settings, const uint8_t *, size_t, key);
 answer base_delete(settings, uint8_t *, size_t, key);
 answer base_record(settings, const uint8_t *, size_t, uint64_t);
+answer base_retrieve(settings, const uint8_t *, size_t, uint64_t);
 answer base_check(settings, const uint8_t *, size_t, uint8_t *, size_t);
 answer base_enter_text(settings, uint8_t *, size_t, const uint8_t *, size_t, uint64_t);
 answer base_relabel_text(settings, uint8_t *, size_t, const uint8_t *, size_t, uint64_t);
@@ -70,10 +75,10 @@ enum { LIBRARY, BASELINE, BOTH };
 static const char *const names[BOTH + 1] = {"library", "baseline", "test itself"};
 static const struct library libraries[BOTH] = {
     {shelfegret_size, shelfegret_make, shelfegret_enter, shelfegret_relabel, shelfegret_find, shelfegret_delete,
-     shelfegret_record, shelfegret_check, shelfegret_enter_text, shelfegret_relabel_text, shelfegret_find_text,
-     shelfegret_delete_text, shelfegret_read_text, shelfegret_write_text, shelfegret_page},
-    {base_size, base_make, base_enter, base_relabel, base_find, base_delete, base_record, base_check, base_enter_text,
-     base_relabel_text, base_find_text, base_delete_text, base_read_text, base_write_text, base_page},
+     shelfegret_record, shelfegret_retrieve, shelfegret_check, shelfegret_enter_text, shelfegret_relabel_text,
+     shelfegret_find_text, shelfegret_delete_text, shelfegret_read_text, shelfegret_write_text, shelfegret_page},
+    {base_size, base_make, base_enter, base_relabel, base_find, base_delete, base_record, base_retrieve, base_check,
+     base_enter_text, base_relabel_text, base_find_text, base_delete_text, base_read_text, base_write_text, base_page},
 };
 
 /* ---- lent buffers */
@@ -170,6 +175,7 @@ enum what {
     FIND,
     DELETE,
     RECORD,
+    RETRIEVE,
     CHECK,
     ENTER_TEXT, /* the four with a text, in the order of those with a key */
     RELABEL_TEXT,
@@ -189,7 +195,7 @@ struct call {
 };
 
 enum { TAKES_TABLE = 1, TAKES_MARKS = 2, TAKES_TEXT = 4, TAKES_OUT = 8 };
-enum { CODES = 14, WORDS = 9 };
+enum { CODES = 15, WORDS = 9 };
 #define BIT(n) (1u << (n))
 
 /* what each call takes, and the refusals and words that shelfegret.h gives it; word 0 is no word */
@@ -206,6 +212,8 @@ static const struct {
     [FIND] = {"find", TAKES_TABLE, BIT(1) | BIT(2) | BIT(5) | BIT(7), BIT(SHELFEGRET_HELD) | BIT(SHELFEGRET_NONE)},
     [DELETE] = {"delete", TAKES_TABLE, BIT(1) | BIT(2) | BIT(5) | BIT(7), BIT(SHELFEGRET_GONE) | BIT(SHELFEGRET_NONE)},
     [RECORD] = {"record", TAKES_TABLE, BIT(1) | BIT(2) | BIT(7), BIT(SHELFEGRET_RECORD) | BIT(SHELFEGRET_NONE)},
+    [RETRIEVE] = {"retrieve", TAKES_TABLE, BIT(1) | BIT(2) | BIT(14) | BIT(7),
+                  BIT(SHELFEGRET_RECORD) | BIT(SHELFEGRET_NONE)},
     [CHECK] = {"check", TAKES_TABLE | TAKES_MARKS, BIT(1) | BIT(2) | BIT(10),
                BIT(SHELFEGRET_SOUND) | BIT(SHELFEGRET_UNSOUND)},
     [ENTER_TEXT] = {"enter_text", TAKES_TABLE | TAKES_TEXT,
@@ -238,6 +246,7 @@ static answer ask(int i, const struct call *c)
     case FIND: return l->find(c->settings, t, table.len, c->key);
     case DELETE: return l->delete(c->settings, t, table.len, c->key);
     case RECORD: return l->record(c->settings, t, table.len, c->n);
+    case RETRIEVE: return l->retrieve(c->settings, t, table.len, c->n);
     case CHECK: return l->check(c->settings, t, table.len, lent(&marks, i), marks.len);
     case ENTER_TEXT: return l->enter_text(c->settings, t, table.len, lent(&text, i), text.len, c->label);
     case RELABEL_TEXT: return l->relabel_text(c->settings, t, table.len, lent(&text, i), text.len, c->label);
@@ -397,38 +406,158 @@ static void expect_relabelled(const answer *both)
         }
 }
 
+/* Slots that were answered or asked for, by what was special about them. */
+enum {
+    TOLD_ZERO,
+    TOLD_BASIC,
+    TOLD_OVERFLOW,
+    TOLD_TAKEN,
+    SHORT_LIST,
+    LONG_LIST,
+    SLOT_DISPLACED,
+    LATER_DISPLACED,
+    VACANT,
+    BLOCK_FIRST,
+    BLOCK_LATER,
+    BLOCK_VACANT,
+    NOT_IN_LIST_0,
+    NOT_IN_OTHER,
+    DAMAGED_OWN,
+    DAMAGED_NAMED,
+    SLOT_NEXT,
+    SLOT_HUGE,
+    SLOTS
+};
+static const char *const slot_kinds[SLOTS] = {
+    [TOLD_ZERO] = "answered, 0",
+    [TOLD_BASIC] = "answered, in a basic block",
+    [TOLD_OVERFLOW] = "answered, in an overflow block",
+    [TOLD_TAKEN] = "answered, in a block that was taken for it",
+    [SHORT_LIST] = "in use, in a list without overflow blocks",
+    [LONG_LIST] = "in use, in a basic block that overflows",
+    [SLOT_DISPLACED] = "in use, with displaced bits",
+    [LATER_DISPLACED] = "in use, with displaced bits, and not slot 0",
+    [VACANT] = "vacant, in a basic block",
+    [BLOCK_FIRST] = "in use, in a list's first overflow block",
+    [BLOCK_LATER] = "in use, in a later one",
+    [BLOCK_VACANT] = "vacant, in a list's last block",
+    [NOT_IN_LIST_0] = "of a block that list 0 does not contain, and that has its number",
+    [NOT_IN_OTHER] = "of a block that another list does not contain, and that has its number",
+    [DAMAGED_OWN] = "of a damaged list, in its basic block",
+    [DAMAGED_NAMED] = "of a block with the number of a damaged list",
+    [SLOT_NEXT] = "refused, right behind the last",
+    [SLOT_HUGE] = "refused, of more than 32 bits, the last 32 a slot's",
+};
+static uint64_t asked_slots[SLOTS];
+
+/* The number answered is that of the slot in which format.c finds the entry; a new one, in the table afterwards. */
+static void expect_number(const answer *both)
+{
+    static struct followed f;
+    answer a = both[LIBRARY];
+    settings s = now.settings;
+    int added = a.word == SHELFEGRET_ADDED;
+    if (!added && a.word != SHELFEGRET_HELD && a.word != SHELFEGRET_RELABELLED) {
+        if (a.number && now.what != SIZE && now.what != WRITE_TEXT && now.what != PAGE)
+            differ("a number where there is none", both);
+        return;
+    }
+    uint32_t n = added ? a.compared : a.compared - 1;
+    const uint8_t *bytes = added ? table.at[LIBRARY] : table.held;
+    if (!follow(s, bytes, list_of(s, a.key), &f) || n >= f.length) differ("no such entry", both);
+    if (a.number != slot_number(s, &f, n)) differ("not the number of the entry's slot", both);
+    asked_slots[TOLD_ZERO] += a.number == 0;
+    asked_slots[n < s.sib ? TOLD_BASIC : TOLD_OVERFLOW]++;
+    asked_slots[TOLD_TAKEN] += added && n >= s.sib && (n - s.sib) % s.sio == 0;
+}
+
+static void count_slot(settings s, const struct followed *f, uint32_t n)
+{
+    uint64_t basic = basic_slots(s);
+    int used = n < f->length, named = now.n >= basic, contained = 0;
+    for (uint32_t i = 0; named && i < f->blocks; i++) contained |= f->block[i] == (now.n - basic) / s.sio;
+    if (!named) {
+        int displaced = used && is_displaced(s, f, n, 0);
+        asked_slots[used ? f->blocks ? LONG_LIST : SHORT_LIST : VACANT]++;
+        asked_slots[SLOT_DISPLACED] += displaced;
+        asked_slots[LATER_DISPLACED] += displaced && n > 0;
+    } else if (contained) {
+        asked_slots[!used ? BLOCK_VACANT : n - s.sib < s.sio ? BLOCK_FIRST : BLOCK_LATER]++;
+    } else {
+        asked_slots[f->list ? NOT_IN_OTHER : NOT_IN_LIST_0]++;
+    }
+}
+
+/* What format.c finds in the slot, in the list that the slot's block belongs to or names. */
+static answer slot_due(settings s)
+{
+    static struct followed f;
+    answer due = {0};
+    uint64_t basic = basic_slots(s), all = all_slots(s), list = now.n / s.sib;
+    if (now.n >= all) {
+        due.code = SHELFEGRET_REFUSED_SLOT;
+        asked_slots[SLOT_NEXT] += now.n == all;
+        asked_slots[SLOT_HUGE] += now.n >> 32 != 0 && (now.n & UINT32_MAX) < all;
+        return due;
+    }
+    if (now.n >= basic) list = get_bits(table.held, list_at(s, (now.n - basic) / s.sio), list_bits(s));
+    if (!follow(s, table.held, list, &f)) {
+        due.code = SHELFEGRET_REFUSED_DAMAGE;
+        asked_slots[now.n < basic ? DAMAGED_OWN : DAMAGED_NAMED]++;
+        return due;
+    }
+    uint32_t n = slot_with_number(s, &f, now.n);
+    due.word = SHELFEGRET_NONE;
+    if (n < f.length) {
+        due.word = SHELFEGRET_RECORD;
+        due.key = get_key(s, table.held, &f, n);
+        due.label = (uint32_t)get_label(s, table.held, &f, n);
+    }
+    count_slot(s, &f, n);
+    return due;
+}
+
+static void expect_retrieved(const answer *both)
+{
+    answer a = both[LIBRARY];
+    if (a.code == SHELFEGRET_REFUSED_SETTINGS || a.code == SHELFEGRET_REFUSED_SHORT) return;
+    if (!same(a, slot_due(now.settings))) differ("not what stands in the slot", both);
+}
+
 /* The records of the table, counted list by list; none is given where a list is damaged. */
 struct sheet {
     uint64_t records;
-    int damaged, shared; /* blocks are in two lists */
+    int damaged, lost; /* blocks are in no list, and not free */
 };
 
 static struct sheet count_records(settings s)
 {
     static struct followed f;
-    static uint8_t met[65535];
+    uint64_t used = 0, start = get_bits(table.held, 0, start_bits(s));
     struct sheet sheet = {0, 0, 0};
-    memset(met, 0, s.nob);
     for (uint64_t list = 0; list < (uint64_t)1 << s.bii; list++) {
         if (!follow(s, table.held, list, &f)) return (struct sheet){0, 1, 0};
         sheet.records += f.length;
-        for (uint32_t i = 0; i < f.blocks; i++) {
-            sheet.shared |= met[f.block[i]];
-            met[f.block[i]] = 1;
-        }
+        used += f.blocks;
     }
+    while (start < s.nob && used <= s.nob) { /* the free chain */
+        uint64_t next = get_bits(table.held, link_at(s, start), link_bits(s));
+        used++;
+        start = next == start ? s.nob : next;
+    }
+    sheet.lost = used < s.nob;
     return sheet;
 }
 
 /* Pages that were asked for, by what was special about them. */
-enum { EMPTY, ONE_ROW, FULL_AND_LAST, FULL_AND_MORE, THIRD, OF_SHARED, BEHIND_FULL, PAGE_ZERO, PAGE_HUGE, PAGES };
+enum { EMPTY, ONE_ROW, FULL_AND_LAST, FULL_AND_MORE, THIRD, OF_LOST, BEHIND_FULL, PAGE_ZERO, PAGE_HUGE, PAGES };
 static const char *const page_kinds[PAGES] = {
     [EMPTY] = "of an empty table",
     [ONE_ROW] = "with one row behind full ones",
     [FULL_AND_LAST] = "full, and the last",
     [FULL_AND_MORE] = "full, and not the last",
     [THIRD] = "from the third on",
-    [OF_SHARED] = "of lists that share blocks",
+    [OF_LOST] = "of a table with blocks in no list that are not free",
     [BEHIND_FULL] = "refused, right behind a full one",
     [PAGE_ZERO] = "refused, 0",
     [PAGE_HUGE] = "refused, of 2^29 or more",
@@ -449,7 +578,7 @@ static void count_page(uint64_t page, uint64_t pages, uint64_t rows, struct shee
     asked_pages[FULL_AND_LAST] += rows == ROWS && page == pages;
     asked_pages[FULL_AND_MORE] += rows == ROWS && page < pages;
     asked_pages[THIRD] += rows != 0 && page >= 3;
-    asked_pages[OF_SHARED] += rows != 0 && sheet.shared;
+    asked_pages[OF_LOST] += rows != 0 && sheet.lost;
     asked_pages[BEHIND_FULL] += page == pages + 1 && sheet.records == ROWS * pages;
     asked_pages[PAGE_ZERO] += page == 0;
     asked_pages[PAGE_HUGE] += page >> 29 != 0;
@@ -488,6 +617,8 @@ static answer call_both(struct call c)
     if (!same(a[LIBRARY], a[BASELINE])) differ("the answers differ", a);
     count(a[LIBRARY], a);
     if (a[LIBRARY].word == SHELFEGRET_RELABELLED) expect_relabelled(a);
+    expect_number(a);
+    if (c.what == RETRIEVE) expect_retrieved(a);
     if (c.what == PAGE) expect_page(a);
     if (takes & TAKES_TABLE) settle(&table, a, "bytes of the table differ");
     if (takes & TAKES_MARKS) settle(&marks, a, "bytes of the marks differ");
@@ -682,7 +813,7 @@ static void new_table(const struct shape *shape)
     tables++;
 }
 
-/* a bit of the table: of the free start, of a block's counter or link, or any */
+/* a bit of the table: of the free start, of a block's counter, link or list number, or any */
 static size_t some_bit(void)
 {
     settings s = at_hand;
@@ -690,30 +821,47 @@ static size_t some_bit(void)
     case 0: return below(start_bits(s) + 1);
     case 1: return basic_at(s, below((uint64_t)1 << s.bii)) + below(basic_counter_bits(s) + link_bits(s));
     case 2:
-        if (s.nob) return block_at(s, below(s.nob)) + below(counter_bits(s) + link_bits(s));
+        if (s.nob) return block_at(s, below(s.nob)) + below(counter_bits(s) + link_bits(s) + list_bits(s));
         break;
     }
     return below(8 * size_at_hand);
 }
 
-/* One list gets another's counter and link: with an overflowing list it shares the blocks, and both can be followed. */
-static void share(void)
+/* One list gets another's counter and link, and its blocks if `move`: then they have its number, the other list is
+ * without them, and both can be followed; those that it had itself are in no list. Else they have the other's number,
+ * and it is damaged. */
+static void share(int move)
+{
+    static struct followed f;
+    settings s = at_hand;
+    uint64_t lists = (uint64_t)1 << s.bii, from = below(lists), to = below(lists);
+    uint32_t bits = basic_counter_bits(s) + link_bits(s);
+    if (!follow(s, table.held, from, &f) || from == to) return;
+    put_bits(table.held, basic_at(s, to), bits, get_bits(table.held, basic_at(s, from), bits));
+    if (!move || f.blocks == 0) return;
+    for (uint32_t i = 0; i < f.blocks; i++) put_bits(table.held, list_at(s, f.block[i]), list_bits(s), to);
+    put_bits(table.held, basic_at(s, from), basic_counter_bits(s), below(s.sib + 1));
+}
+
+/* A block gets the number of any list. */
+static void renumber(void)
 {
     settings s = at_hand;
-    uint64_t lists = (uint64_t)1 << s.bii;
-    uint32_t bits = basic_counter_bits(s) + link_bits(s);
-    uint64_t head = get_bits(table.held, basic_at(s, below(lists)), bits);
-    put_bits(table.held, basic_at(s, below(lists)), bits, head);
+    if (s.nob) put_bits(table.held, list_at(s, below(s.nob)), list_bits(s), below((uint64_t)1 << s.bii));
 }
 
 static void damage(void)
 {
-    if (one_in(3)) share();
-    else
+    switch (below(6)) {
+    case 0: share(0); break;
+    case 1: share(1); break;
+    case 2: renumber(); break;
+    default:
         for (uint64_t flips = 1 + below(3); flips; flips--) {
             size_t bit = some_bit();
             table.held[bit / 8] ^= (uint8_t)(0x80 >> bit % 8);
         }
+    }
     lend(&table, table.len);
 }
 
@@ -781,6 +929,24 @@ static uint64_t some_page(void)
     }
 }
 
+/* Often the slot of a key of the pool, or the next; or one of an overflow block, or any; else one of the first that are
+ * not there, or a large number. */
+static uint64_t some_slot(void)
+{
+    settings s = at_hand;
+    uint64_t basic = basic_slots(s), all = all_slots(s);
+    switch (below(12)) {
+    case 0: return all + below(one_in(2) ? 1 : 3);
+    case 1: return below(all) + ((uint64_t)1 << (32 + below(32)));
+    case 2: return UINT64_MAX - below(3);
+    case 3: return random_bits() >> below(64);
+    case 4: return below(all);
+    case 5:
+    case 6: return s.nob ? basic + below(all - basic) : below(all);
+    default: return base_find(s, table.held, size_at_hand, known_key()).number + below(2);
+    }
+}
+
 /* mostly right; else one short, empty, shorter or longer */
 static size_t some_len(size_t right)
 {
@@ -811,10 +977,11 @@ static void lend_text(settings s)
 
 enum { MOODS = 3 };
 static const unsigned weights[MOODS][WHATS] = {
-    /* size, make, enter, relabel, find, delete, record, check, the four with texts, read text, write text and page */
-    {10, 2, 320, 60, 60, 40, 50, 40, 280, 60, 40, 30, 30, 30, 40}, /* grow */
-    {10, 2, 150, 80, 80, 150, 50, 40, 140, 70, 70, 140, 30, 30, 40},
-    {10, 2, 40, 60, 60, 320, 50, 40, 30, 60, 40, 280, 30, 30, 40}, /* shrink */
+    /* size, make, enter, relabel, find, delete, record, retrieve, check, the four with texts, read text, write text and
+     * page */
+    {10, 2, 320, 60, 60, 40, 50, 50, 40, 280, 60, 40, 30, 30, 30, 40}, /* grow */
+    {10, 2, 150, 80, 80, 150, 50, 50, 40, 140, 70, 70, 140, 30, 30, 40},
+    {10, 2, 40, 60, 60, 320, 50, 50, 40, 30, 60, 40, 280, 30, 30, 40}, /* shrink */
 };
 
 static enum what some_call(void)
@@ -828,6 +995,33 @@ static enum what some_call(void)
     return (enum what)what;
 }
 
+static answer retrieve(uint64_t n)
+{
+    return call_both((struct call){.what = RETRIEVE, .settings = at_hand, .n = n});
+}
+
+/* Every slot, and some numbers behind them. */
+static void retrieve_all(void)
+{
+    uint64_t all = all_slots(at_hand);
+    for (uint64_t n = 0; n < all + 3; n++) retrieve(n);
+    retrieve(((uint64_t)1 << 32) + below(all));
+    retrieve(UINT64_MAX);
+}
+
+/* The slot that was answered gives the key, and the label that it has now. */
+static void retrieve_answered(answer a, uint64_t label)
+{
+    answer due = {0}, r = retrieve(a.number);
+    due.word = SHELFEGRET_RECORD;
+    due.key = a.key;
+    due.label = a.word == SHELFEGRET_HELD ? a.label : (uint32_t)label;
+    if (!same(r, due)) {
+        tell_call("not what was answered");
+        exit(1);
+    }
+}
+
 static void step(void)
 {
     struct call c = {.what = some_call(), .settings = at_hand};
@@ -836,7 +1030,7 @@ static void step(void)
     if (one_in(25)) c.settings = one_in(10) ? at_size_limit() : spoilt(at_hand);
     c.key = c.what == WRITE_TEXT ? random_address() : some_key(c.settings);
     c.label = some_label(c.settings);
-    c.n = some_number();
+    c.n = c.what == RETRIEVE ? some_slot() : some_number();
     lend_table();
     if (c.what == CHECK) lend_noise(&marks, some_len(smaller((c.settings.nob + 7) / 8, MARKS_MOST)));
     if (of_call[c.what].takes & TAKES_TEXT) lend_text(c.settings);
@@ -845,14 +1039,16 @@ static void step(void)
         c.n = some_page();
         lend_noise(&out, some_len(SHELFEGRET_PAGE_BYTES));
     }
-    call_both(c);
+    answer a = call_both(c);
+    int told = a.word == SHELFEGRET_ADDED || a.word == SHELFEGRET_HELD || a.word == SHELFEGRET_RELABELLED;
+    if (told && memcmp(&c.settings, &at_hand, sizeof at_hand) == 0 && one_in(8)) retrieve_answered(a, c.label);
 }
 
 /* A table of exactly the most bytes, to the last bit; settings that need one bit more are refused. */
 static void largest_table(void)
 {
-    struct call exact = {.what = SIZE, .settings = {128, 15, 34, 246, 11, 7, 32770, 1}};
-    struct call one_more = {.what = SIZE, .settings = {117, 15, 40, 1510, 2, 0, 1, 32770}};
+    struct call exact = {.what = SIZE, .settings = {128, 13, 126, 18047, 3, 8, 8208, 1}};
+    struct call one_more = {.what = SIZE, .settings = {117, 15, 36, 2827, 2, 11, 1, 32770}};
     at_hand = exact.settings;
     size_at_hand = call_both(exact).number;
     if (size_at_hand != TABLE_MOST || call_both(one_more).code != SHELFEGRET_REFUSED_SETTINGS) {
@@ -884,6 +1080,7 @@ static void small_slots(settings s)
         c.label = below((uint64_t)1 << s.val);
         call_both(c);
     }
+    if (all_slots(s) < 200) retrieve_all();
     tables++;
 }
 
@@ -912,7 +1109,8 @@ static void ask_pages(void)
     for (int i = 0; i < 4; i++) ask_page(some_page());
 }
 
-/* A table with so many random addresses, or as many as it holds; then with lists that share blocks; then damaged. */
+/* A table with so many random addresses, or as many as it holds; then with lists that have others' blocks; then
+ * damaged. */
 static void sheet_of(settings s, uint64_t records)
 {
     at_hand = s;
@@ -928,7 +1126,7 @@ static void sheet_of(settings s, uint64_t records)
         records -= code == 0;
     }
     ask_pages();
-    for (uint64_t left = 1 + below(4); left; left--) share();
+    for (uint64_t left = 1 + below(4); left; left--) share(1);
     lend(&table, size_at_hand);
     ask_pages();
     damage();
@@ -965,6 +1163,7 @@ static int all_seen(void)
             if (of_call[what].words & BIT(i)) good &= seen_enough(of_call[what].name, "word", i, words[what][i]);
     }
     for (unsigned i = 0; i < KINDS; i++) good &= seen_enough(kinds[i], "labels of kind", i, relabelled[i]);
+    for (unsigned i = 0; i < SLOTS; i++) good &= seen_enough(slot_kinds[i], "slots of kind", i, asked_slots[i]);
     for (unsigned i = 0; i < PAGES; i++) good &= seen_enough(page_kinds[i], "pages of kind", i, asked_pages[i]);
     return good;
 }
@@ -983,6 +1182,8 @@ static void tell_counts(void)
     }
     printf("  labels changed\n");
     for (unsigned i = 0; i < KINDS; i++) printf("    %s: %" PRIu64 "\n", kinds[i], relabelled[i]);
+    printf("  slots\n");
+    for (unsigned i = 0; i < SLOTS; i++) printf("    %s: %" PRIu64 "\n", slot_kinds[i], asked_slots[i]);
     printf("  pages\n");
     for (unsigned i = 0; i < PAGES; i++) printf("    %s: %" PRIu64 "\n", page_kinds[i], asked_pages[i]);
 }
@@ -1006,6 +1207,7 @@ int main(int argc, char **argv)
         const struct shape *shape = &shapes[one_in(2000) ? SHAPES - 1 : below(SHAPES - 1)];
         new_table(shape);
         for (uint64_t left = 1 + below(shape->calls); left && call_number < last; left--) step();
+        if (all_slots(at_hand) < 200 && table.len >= size_at_hand) retrieve_all();
     }
     tell_counts();
     return all_seen() ? 0 : 1;

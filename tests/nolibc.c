@@ -39,6 +39,7 @@ int run(void)
     static uint8_t table[2048], marks[1], text[39], page[SHELFEGRET_PAGE_BYTES];
     const struct shelfegret_settings s = {128, 4, 4, 8, 3, 8, 11, 5};
     const struct shelfegret_key key = {0x20010db800000000, 1}; /* 2001:db8::1 */
+    uint64_t slot;
 
     if (shelfegret_size(s).number > sizeof table) return 1;
     if (shelfegret_make(s, table, sizeof table).code) return 2;
@@ -48,12 +49,15 @@ int run(void)
     if (shelfegret_relabel(s, table, sizeof table, key, 9).label != 8) return 6;
     if (shelfegret_find(s, table, sizeof table, key).label != 9) return 7;
     if (shelfegret_record(s, table, sizeof table, 0).key.low != 1) return 8;
-    if (shelfegret_check(s, table, sizeof table, marks, sizeof marks).word != SHELFEGRET_SOUND) return 9;
-    if (shelfegret_page(s, table, sizeof table, 1, page, sizeof page).number != 102 || page[100] != '9') return 10;
-    if (shelfegret_delete(s, table, sizeof table, key).word != SHELFEGRET_GONE) return 11;
-    if (shelfegret_find_text(s, table, sizeof table, spelt, sizeof spelt).word != SHELFEGRET_NONE) return 12;
-    if (shelfegret_delete_text(s, table, sizeof table, spelt, sizeof spelt).word != SHELFEGRET_NONE) return 13;
-    if (shelfegret_write_text(key, text, sizeof text).number != 11) return 14;
-    if (shelfegret_read_text(text, 11).key.high != key.high) return 15;
+    slot = shelfegret_find(s, table, sizeof table, key).number;
+    if (shelfegret_retrieve(s, table, sizeof table, slot).label != 9) return 9;
+    if (shelfegret_check(s, table, sizeof table, marks, sizeof marks).word != SHELFEGRET_SOUND) return 10;
+    if (shelfegret_page(s, table, sizeof table, 1, page, sizeof page).number != 102 || page[100] != '9') return 11;
+    if (shelfegret_delete(s, table, sizeof table, key).word != SHELFEGRET_GONE) return 12;
+    if (shelfegret_retrieve(s, table, sizeof table, slot).word != SHELFEGRET_NONE) return 13;
+    if (shelfegret_find_text(s, table, sizeof table, spelt, sizeof spelt).word != SHELFEGRET_NONE) return 14;
+    if (shelfegret_delete_text(s, table, sizeof table, spelt, sizeof spelt).word != SHELFEGRET_NONE) return 15;
+    if (shelfegret_write_text(key, text, sizeof text).number != 11) return 16;
+    if (shelfegret_read_text(text, 11).key.high != key.high) return 17;
     return 0;
 }

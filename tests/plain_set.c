@@ -1,12 +1,19 @@
-/* plain_set.c - enter, relabel, find, delete, record and page against a plain set, on tables that stay sound.
+/* plain_set.c - enter, relabel, find, delete, record, retrieve and page against a plain set, on tables that stay sound.
  *
  *     plain_set [SEED]
  *
  * The set has each list's keys in their order, with their labels (docs/SPECIFICATION.md, section 8): enter puts a key
  * last, delete the last one into the gap, relabel changes a label alone. Every field of every answer must be the set's,
  * compared and refusals among them, and the records are the set, list by list, and so are the rows of all pages. A
- * relabel leaves the free start, the free chain and the blocks of every list as they were. Then the order of the
- * refusals of enter, relabel and page, on tables made by hand. Prints how many calls were tried. */
+ * relabel leaves the free start, the free chain and the blocks of every list as they were.
+ *
+ * Of slot numbers the set knows only what its order tells: the number in a list's own block, and the place in an
+ * overflow block, not the block. So it keeps what it is told. After each call, every number told since the last
+ * accepted delete gives its key and the label that the set has now, and no other number is told for that key. Now and
+ * then every key is asked for its number: no two have the same, and of all slots exactly these are in use.
+ *
+ * Then tables whose bytes were worked out by hand: the example of docs/SPECIFICATION.md, section 11, blocks with the
+ * number of another list, and the order of the refusals. Prints how many calls were tried. */
 #include <stdio.h>
 #include <stdlib.h>
 #include <string.h>
@@ -19,14 +26,17 @@ typedef struct shelfegret_settings settings;
 typedef struct shelfegret_key key;
 typedef struct shelfegret_answer answer;
 
-enum { TABLE_MOST = 8192, LISTS_MOST = 16, LIST_MOST = 128, KEYS_MOST = 48, MARKS_MOST = 64 };
+enum { TABLE_MOST = 8192, LISTS_MOST = 16, LIST_MOST = 128, KEYS_MOST = 48, MARKS_MOST = 64, SLOTS_MOST = 1024 };
 
 static settings s;
 static size_t size;
 static uint8_t table[TABLE_MOST], before[TABLE_MOST], marks[MARKS_MOST];
 static uint8_t out[SHELFEGRET_PAGE_BYTES + 8], out_before[sizeof out]; /* lent to page, all but the last 8 */
 static unsigned tables, calls, pages;
-static unsigned codes[13], words[9]; /* how often each came in random calls */
+static unsigned codes[15], words[9]; /* how often each came in random calls */
+static unsigned long good;           /* numbers that were good when they were tried, */
+static unsigned long good_in_block;  /* those of overflow blocks, */
+static unsigned oldest;              /* and the most calls between the telling and the trying of one */
 
 static void fail(const char *what)
 {
@@ -41,11 +51,28 @@ static int equal(key a, key b)
     return a.high == b.high && a.low == b.low;
 }
 
+/* Drawn one by one: of two draws in one expression, the compiler chooses which comes first. */
+static uint64_t large_number(void)
+{
+    uint64_t bits = random_bits();
+    return bits >> (1 + below(63));
+}
+
+static key random_entry(void)
+{
+    key k;
+    k.high = random_bits();
+    k.low = random_bits();
+    return low_bits(k, entry_bits(s));
+}
+
 /* ---- the set */
 
 struct pair {
     key key;
     uint32_t label;
+    unsigned told; /* when its number was first told since the last delete, in calls; 0 if it was not */
+    uint64_t number;
 };
 
 static struct pair set[LISTS_MOST][LIST_MOST];
@@ -96,8 +123,14 @@ static answer step_enter(key k, uint32_t label)
     uint32_t n = length[list];
     if (place_of(list, k) < n) return refused(SHELFEGRET_REFUSED_KNOWN);
     if (!has_room(list)) return refused(SHELFEGRET_REFUSED_FULL);
-    set[list][length[list]++] = (struct pair){k, label};
+    set[list][length[list]++] = (struct pair){k, label, 0, 0};
     return said(SHELFEGRET_ADDED, k, label, n);
+}
+
+static void forget_numbers(void)
+{
+    for (uint64_t list = 0; list < (uint64_t)1 << s.bii; list++)
+        for (uint32_t n = 0; n < length[list]; n++) set[list][n].told = 0;
 }
 
 /* What the set answers; where it answers, it steps. */
@@ -115,6 +148,7 @@ static answer step(enum what what, key k, uint64_t label)
         return said(SHELFEGRET_RELABELLED, k, old, n + 1);
     }
     set[list][n] = set[list][--length[list]];
+    forget_numbers();
     return said(SHELFEGRET_GONE, k, old, n + 1);
 }
 
@@ -149,13 +183,99 @@ static int same(answer a, answer b)
            a.compared == b.compared && a.number == b.number;
 }
 
+/* ---- numbers of slots */
+
+static answer retrieve(uint64_t slot)
+{
+    return shelfegret_retrieve(s, table, size, slot);
+}
+
+static uint64_t own_slots(void)
+{
+    return (uint64_t)s.sib << s.bii;
+}
+
+static uint64_t capacity(void)
+{
+    return own_slots() + (uint64_t)s.sio * s.nob;
+}
+
+/* The key's number, as the set's order has it: the slot in its list's own block, or the place in a block. */
+static void expect_number(uint64_t list, uint32_t n, uint64_t number)
+{
+    uint64_t own = own_slots();
+    if (number >= capacity()) fail("a number that no slot has");
+    if (n < s.sib && number != s.sib * list + n) fail("not the slot in the list's own block");
+    if (n >= s.sib && (number < own || (number - own) % s.sio != (n - s.sib) % s.sio)) fail("not the place in a block");
+}
+
+/* The answer has a number exactly if it says where the key is: the one told before, unless a delete came between. */
+static void note_number(answer a)
+{
+    if (a.word != SHELFEGRET_ADDED && a.word != SHELFEGRET_HELD && a.word != SHELFEGRET_RELABELLED) {
+        if (a.number != 0) fail("a number where there is none");
+        return;
+    }
+    uint64_t list = list_of(s, a.key);
+    uint32_t n = place_of(list, a.key);
+    struct pair *pair = &set[list][n];
+    expect_number(list, n, a.number);
+    if (pair->told && pair->number != a.number) fail("another number than before, and no delete between");
+    if (!pair->told) pair->told = calls;
+    pair->number = a.number;
+}
+
+static answer recorded(struct pair pair)
+{
+    return said(SHELFEGRET_RECORD, pair.key, pair.label, 0);
+}
+
+/* Every number told since the last accepted delete. */
+static void numbers_are_good(void)
+{
+    for (uint64_t list = 0; list < (uint64_t)1 << s.bii; list++)
+        for (uint32_t n = 0; n < length[list]; n++) {
+            struct pair pair = set[list][n];
+            if (!pair.told) continue;
+            if (!same(retrieve(pair.number), recorded(pair))) fail("a number is not good any more");
+            good++;
+            good_in_block += n >= s.sib;
+            if (calls - pair.told > oldest) oldest = calls - pair.told;
+        }
+}
+
+/* Each key has a number of its own, and no slot is in use but those that have them. */
+static void slots_are_the_set(void)
+{
+    static uint8_t used[SLOTS_MOST];
+    answer none = said(SHELFEGRET_NONE, (key){0, 0}, 0, 0);
+    uint64_t all = capacity();
+    if (all > SLOTS_MOST) return;
+    memset(used, 0, sizeof used);
+    memcpy(before, table, size);
+    for (uint64_t list = 0; list < (uint64_t)1 << s.bii; list++)
+        for (uint32_t n = 0; n < length[list]; n++) {
+            answer a = shelfegret_find(s, table, size, set[list][n].key);
+            note_number(a);
+            if (a.word != SHELFEGRET_HELD || used[a.number]) fail("two keys with one number");
+            used[a.number] = 1;
+            if (!same(retrieve(a.number), recorded(set[list][n]))) fail("not the key whose number it is");
+        }
+    for (uint64_t slot = 0; slot < all; slot++)
+        if (!used[slot] && !same(retrieve(slot), none)) fail("a slot in use that is no key's");
+    for (uint64_t slot = all; slot < all + 3; slot++)
+        if (!same(retrieve(slot), refused(SHELFEGRET_REFUSED_SLOT))) fail("a slot behind the last");
+    if (!same(retrieve(all + large_number()), refused(SHELFEGRET_REFUSED_SLOT))) fail("a slot further behind it");
+    if (memcmp(before, table, size) != 0) fail("retrieve changed the table");
+}
+
 /* The records are the set, list by list and in its order. */
 static void records_are_the_set(void)
 {
     uint64_t n = 0;
     for (uint64_t list = 0; list < (uint64_t)1 << s.bii; list++)
         for (uint32_t i = 0; i < length[list]; i++) {
-            answer due = said(SHELFEGRET_RECORD, set[list][i].key, set[list][i].label, 0);
+            answer due = recorded(set[list][i]);
             if (!same(shelfegret_record(s, table, size, n++), due)) fail("a record is not the set's");
         }
     answer end = said(SHELFEGRET_NONE, (key){0, 0}, 0, 0);
@@ -262,7 +382,7 @@ static settings some_settings(void)
 static uint64_t some_label(void)
 {
     uint64_t labels = (uint64_t)1 << s.val;
-    return one_in(20) ? labels + (one_in(2) ? 0 : random_bits() >> (1 + below(63))) : below(labels);
+    return one_in(20) ? labels + (one_in(2) ? 0 : large_number()) : below(labels);
 }
 
 static void tell(answer a, const char *what)
@@ -271,21 +391,33 @@ static void tell(answer a, const char *what)
             (unsigned)a.label, (unsigned)a.compared, what);
 }
 
-static void one_call(const key *keys, uint64_t count)
+/* The call's answer is the set's, and every number that was told is good. */
+static answer asked(enum what what, key k, uint64_t label)
 {
-    static const enum what some[] = {ENTER, ENTER, ENTER, RELABEL, RELABEL, FIND, DELETE, DELETE};
-    enum what what = some[below(sizeof some / sizeof *some)];
-    key k = keys[below(count)];
-    uint64_t label = some_label();
-    if (s.w < 128 && one_in(50)) k = in_front(1, s.w, k);
-    memcpy(before, table, size);
     answer due = step(what, k, label), a = ask(what, k, label);
     calls++;
+    due.number = a.number;
     if (!same(a, due)) {
         tell(due, "is due");
         tell(a, "came");
         fail("not the set's answer");
     }
+    note_number(a);
+    numbers_are_good();
+    return a;
+}
+
+/* With `calm`, few keys are deleted. */
+static void one_call(const key *keys, uint64_t count, int calm)
+{
+    static const enum what some[] = {ENTER, ENTER, ENTER, RELABEL, RELABEL, FIND, DELETE, DELETE};
+    enum what what = some[below(sizeof some / sizeof *some)];
+    key k = keys[below(count)];
+    uint64_t label = some_label();
+    if (what == DELETE && calm && !one_in(40)) what = FIND;
+    if (s.w < 128 && one_in(50)) k = in_front(1, s.w, k);
+    memcpy(before, table, size);
+    answer a = asked(what, k, label);
     *(a.code ? &codes[a.code] : &words[a.word]) += 1;
     int writes = a.word == SHELFEGRET_ADDED || a.word == SHELFEGRET_RELABELLED || a.word == SHELFEGRET_GONE;
     if (!writes && memcmp(before, table, size) != 0) fail("a call that changes nothing wrote");
@@ -294,6 +426,7 @@ static void one_call(const key *keys, uint64_t count)
         lists_are_as_before();
     }
     if (writes && (a.word == SHELFEGRET_RELABELLED || one_in(8))) records_are_the_set();
+    if (writes && one_in(8)) slots_are_the_set();
     if (writes && s.w == 128 && one_in(16)) pages_are_the_set();
 }
 
@@ -305,6 +438,7 @@ static void all_seen(void)
         if (codes[due_codes[i]] < 1000) fail("too few refusals of a kind");
     for (size_t i = 0; i < sizeof due_words / sizeof *due_words; i++)
         if (words[due_words[i]] < 1000) fail("too few answers with a word");
+    if (good < 1000000 || good_in_block < 100000 || oldest < 300) fail("too few numbers were tried");
 }
 
 static void one_table(void)
@@ -317,11 +451,15 @@ static void one_table(void)
     memset(length, 0, sizeof length);
     if (shelfegret_make(s, table, size).code) fail("make");
     tables++;
-    for (uint64_t i = 0; i < count; i++)
+    for (uint64_t i = 0; i < count; i++) {
+        key entry = random_entry();
+        keys[i] = key_in_list(s, entry, below(lists));
         if (s.w == 128 && one_in(4)) keys[i] = random_address(); /* one that has many spellings */
-        else keys[i] = key_in_list(s, low_bits((key){random_bits(), random_bits()}, entry_bits(s)), below(lists));
-    for (int i = 0; i < 400; i++) one_call(keys, count);
+    }
+    int calm = one_in(3);
+    for (int i = 0; i < 400; i++) one_call(keys, count, calm);
     records_are_the_set();
+    slots_are_the_set();
 }
 
 /* From none to enough for some pages, and back: after each call all pages are the set. */
@@ -339,14 +477,12 @@ static void one_sheet(uint32_t bii, uint32_t val)
         enum what what = i < KEYS ? ENTER : DELETE;
         if (what == ENTER) keys[i] = key_in_list(s, low_bits(random_address(), entry_bits(s)), i & ((1u << bii) - 1));
         uint64_t label = below((uint64_t)1 << val);
-        answer due = step(what, keys[i % KEYS], label);
-        if (!same(ask(what, keys[i % KEYS], label), due)) fail("not the set's answer");
-        calls++;
+        asked(what, keys[i % KEYS], label);
         pages_are_the_set();
     }
 }
 
-/* ---- the order of refusals */
+/* ---- tables by hand */
 
 static void expect(answer a, answer due, const char *what)
 {
@@ -375,20 +511,129 @@ static void table_t(const char *bytes)
 
 static answer enter(uint64_t k, uint64_t label) { return shelfegret_enter(s, table, size, (key){0, k}, label); }
 static answer relabel(uint64_t k, uint64_t label) { return shelfegret_relabel(s, table, size, (key){0, k}, label); }
+static answer find(uint64_t k) { return shelfegret_find(s, table, size, (key){0, k}); }
+static answer gone(uint64_t k) { return shelfegret_delete(s, table, size, (key){0, k}); }
+
+/* The same answer with the number of a slot. */
+static answer in_slot(answer a, uint64_t number)
+{
+    a.number = number;
+    return a;
+}
+
+static answer added(uint64_t k, uint32_t compared, uint64_t slot)
+{
+    return in_slot(said(SHELFEGRET_ADDED, (key){0, k}, 0, compared), slot);
+}
+
+/* These keys have numbers 0, 1, ..; -1 is a slot that is not in use, -2 one whose list is damaged. */
+static void expect_slots(const int *keys, const char *what)
+{
+    memcpy(before, table, sizeof table);
+    for (uint64_t slot = 0; slot < capacity(); slot++) {
+        int k = keys[slot];
+        answer none = said(SHELFEGRET_NONE, (key){0, 0}, 0, 0), damage = refused(SHELFEGRET_REFUSED_DAMAGE);
+        if (k < 0) expect(retrieve(slot), k == -1 ? none : damage, what);
+        if (k < 0) continue;
+        expect(retrieve(slot), said(SHELFEGRET_RECORD, (key){0, (uint64_t)k}, 0, 0), what);
+        if (find((uint64_t)k).number != slot) fail(what);
+    }
+    expect(retrieve(capacity()), refused(SHELFEGRET_REFUSED_SLOT), what);
+}
+
+static void expect_bytes(const char *bytes, const char *what)
+{
+    if (size != 6 || memcmp(table, bytes, size) != 0) fail(what);
+    if (shelfegret_check(s, table, size, marks, sizeof marks).word != SHELFEGRET_SOUND) fail("it is not sound");
+}
+
+/* Table T, step by step. */
+static void example(void)
+{
+    new_table_t(0);
+    if (capacity() != 6) fail("six slots");
+    expect_bytes("\x00\x00\x00\x10\x10\x00", "T, new");
+    expect_slots((const int[]){-1, -1, -1, -1, -1, -1}, "T, new");
+    expect(enter(1, 0), added(1, 0, 0), "the first slot of list 0");
+    expect(enter(2, 0), added(2, 1, 1), "its second slot");
+    expect(enter(4, 0), added(4, 2, 4), "block 0");
+    expect_bytes("\x70\x88\x00\x01\x10\x00", "T with 1, 2, 4");
+    expect_slots((const int[]){1, 2, -1, -1, 4, -1}, "T with 1, 2, 4");
+    expect(enter(5, 0), added(5, 3, 5), "block 1");
+    expect_bytes("\xB0\x88\x00\x31\x01\x40", "T with 1, 2, 4, 5");
+    expect_slots((const int[]){1, 2, -1, -1, 4, 5}, "T with 1, 2, 4, 5");
+    expect(enter(0, 0), added(0, 0, 2), "the first slot of list 1");
+    expect_bytes("\xB0\x89\x00\x31\x01\x40", "T with 1, 2, 4, 5, 0");
+    expect_slots((const int[]){1, 2, 0, -1, 4, 5}, "T with 1, 2, 4, 5, 0");
+    table_t("\xB0\x88\x00\x31\x01\x40");
+    expect(gone(1), said(SHELFEGRET_GONE, (key){0, 1}, 0, 1), "delete answers no number");
+    expect_bytes("\x72\x88\x00\x01\x10\x00", "T with 5, 2, 4");
+    expect_slots((const int[]){5, 2, -1, -1, 4, -1}, "T with 5, 2, 4: 5 has another number, and its old one is vacant");
+    /* 0, 3 and 6 are in list 1: a block of it has its number, and none when it is free. */
+    new_table_t(0);
+    expect(enter(0, 0), added(0, 0, 2), "the first slot of list 1");
+    expect(enter(3, 0), added(3, 1, 3), "its second slot");
+    expect(enter(6, 0), added(6, 2, 4), "block 0");
+    expect_bytes("\x40\x03\x00\xC9\x90\x00", "T with 0, 3, 6");
+    expect_slots((const int[]){-1, -1, 0, 3, 6, -1}, "T with 0, 3, 6");
+    expect(gone(0), said(SHELFEGRET_GONE, (key){0, 0}, 0, 1), "the block is freed");
+    expect_bytes("\x00\x02\x30\xD0\x10\x00", "T with 6, 3");
+    expect_slots((const int[]){-1, -1, 6, 3, -1, -1}, "T with 6, 3");
+}
+
+/* A block with the number of another list, in a list and free. */
+static void other_number(void)
+{
+    answer damage = refused(SHELFEGRET_REFUSED_DAMAGE);
+    /* 1, 2 and 4 are in list 0, and its block 0 has number 1. */
+    table_t("\x70\x88\x00\x09\x10\x00");
+    expect(find(4), damage, "find follows a block of another list");
+    expect(find(1), damage, "also for an entry before it");
+    expect(enter(5, 0), damage, "so does enter");
+    expect(enter(1, 0), damage, "damage before known");
+    expect(relabel(1, 0), damage, "so does relabel");
+    expect(gone(2), damage, "so does delete");
+    expect(shelfegret_record(s, table, size, 0), damage, "so does record");
+    expect(find(0), said(SHELFEGRET_NONE, (key){0, 0}, 0, 0), "the other list has no such block, and is not damaged");
+    expect_slots((const int[]){-2, -2, -1, -1, -1, -2}, "block 0 names list 1, block 1, which is free, list 0");
+    if (shelfegret_check(s, table, size, marks, sizeof marks).word != SHELFEGRET_UNSOUND) fail("another list's number");
+    /* The same with a good block 0; block 1, which is free, has number 1. */
+    table_t("\x70\x88\x00\x01\x18\x00");
+    if (shelfegret_check(s, table, size, marks, sizeof marks).word != SHELFEGRET_UNSOUND) fail("a free block's number");
+    expect_slots((const int[]){1, 2, -1, -1, 4, -1}, "a free block's number names a list that does not contain it");
+    expect(enter(5, 0), added(5, 3, 5), "a block is taken, whatever number it had");
+    expect_bytes("\xB0\x88\x00\x31\x01\x40", "and has the list's then");
+}
+
+/* Every refusal of retrieve, each before those that are due as well. */
+static void order_by_slot(void)
+{
+    answer beyond = refused(SHELFEGRET_REFUSED_SLOT);
+    /* 1, 2, 4 and 5 are in list 0, but block 1 is as if it were not the last: the list has no end. */
+    table_t("\xB0\x88\x00\x31\x21\x40");
+    expect_slots((const int[]){-2, -2, -1, -1, -2, -2}, "a list without an end");
+    expect(retrieve(6), beyond, "the slot before damage");
+    expect(retrieve((uint64_t)1 << 32), beyond, "the slot before damage, in all its bits");
+    size--;
+    expect(retrieve(6), refused(SHELFEGRET_REFUSED_SHORT), "short before the slot");
+    expect(retrieve(0), refused(SHELFEGRET_REFUSED_SHORT), "short before damage");
+    s.a = 3;
+    expect(retrieve(6), refused(SHELFEGRET_REFUSED_SETTINGS), "the settings before short");
+}
 
 static void order_by_key(void)
 {
     answer known = refused(SHELFEGRET_REFUSED_KNOWN), full = refused(SHELFEGRET_REFUSED_FULL);
     answer damage = refused(SHELFEGRET_REFUSED_DAMAGE), too_large = refused(SHELFEGRET_REFUSED_LABEL);
     /* 1, 2 and 4 are in list 0. The free start is 3, above nob. */
-    table_t("\xF0\x88\x00\x02\x20");
+    table_t("\xF0\x88\x00\x01\x10\x00");
     expect(enter(4, 0), known, "known, before the free chain is looked at");
     expect(enter(5, 0), damage, "the free chain is damaged, where a block is needed");
-    expect(relabel(4, 0), said(SHELFEGRET_RELABELLED, (key){0, 4}, 0, 3), "relabel looks at no free chain");
+    expect(relabel(4, 0), in_slot(said(SHELFEGRET_RELABELLED, (key){0, 4}, 0, 3), 4), "relabel looks at no free chain");
     expect(relabel(5, 0), said(SHELFEGRET_NONE, (key){0, 5}, 0, 3), "nor for a key that is not there");
     if (memcmp(before, table, size) != 0) fail("with val 0 relabel changes no bit");
     /* 1, 2, 4 and 5 are in list 0, and no block is free. */
-    table_t("\xB0\x88\x00\x32\x05");
+    table_t("\xB0\x88\x00\x31\x01\x40");
     expect(enter(5, 0), known, "known before 8");
     expect(enter(32, 0), full, "no block");
     expect(enter(32, 1), too_large, "the label before 8");
@@ -396,7 +641,7 @@ static void order_by_key(void)
     expect(relabel(32, 0), said(SHELFEGRET_NONE, (key){0, 32}, 0, 4), "relabel needs no block");
     expect(relabel(32, 1), too_large, "the label of a key that is not there");
     /* Block 1's counter is 1, as if it were not the last: the list goes on in block 0, and has no end. */
-    table_t("\xB0\x88\x00\x32\x45");
+    table_t("\xB0\x88\x00\x31\x21\x40");
     expect(enter(2, 0), damage, "the list is damaged before its second entry is known");
     expect(relabel(2, 0), damage, "the list is damaged, and the entry is not relabelled");
     expect(enter(2, 1), too_large, "the label before damage");
@@ -541,12 +786,16 @@ int main(int argc, char **argv)
     all_seen();
     for (uint32_t bii = 0; bii <= 4; bii++) one_sheet(bii, 8 * bii);
     if (pages < 10000) fail("too few pages");
+    example();
+    other_number();
+    order_by_slot();
     order_by_key();
     twice();
     order_by_text();
     order_by_page();
     known_by_text();
     ipv4_by_text();
-    printf("plain_set: %u calls on %u tables, all as the plain set's\n", calls, tables);
+    printf("plain_set: %u calls on %u tables, all as the plain set's; a slot's number was good %lu times\n", calls,
+           tables, good);
     return 0;
 }

@@ -7,7 +7,7 @@ use Rattle.settings.specs.declared.settings.Settings.{Settings}
 use Rattle.settings.specs.declared.refusal.Refusal.{Refusal}
 use Rattle.settings.specs.Reply.{Reply}
 use Rattle.keys.specs.declared.Key.{Key}
-use Rattle.table.specs.Calls.{enter, relabel, delete, makeCall, recordCall, checkCall}
+use Rattle.table.specs.Calls.{enter, relabel, delete, makeCall, recordCall, retrieveCall, checkCall}
 use Rattle.table.specs.declared.answers.Answer as table
 use Rattle.table.specs.declared.answers.Answer.the-variants as answer
 use Rattle.table.specs.declared.answers.Word.{Word}
@@ -38,6 +38,7 @@ pub data Call : Type 0 where
   -- find, enter, relabel and delete, with a key or a text
   ask : Asked → Call
   recordAt : ℕ → Call
+  slotAt : ℕ → Call
   check : Call
   readText : List ℕ → Call
   writeText : Key → Call
@@ -62,7 +63,7 @@ ofMake making.Made = made
 ofMake (making.Refused why) = refused why
 
 abbrev pub ofKey : table.Answer → Said
-ofKey (answer.Said label w compared) = worded w
+ofKey (answer.Said label w compared slot) = worded w
 ofKey (answer.Refused why) = refused why
 
 abbrev pub ofRecord : RecordAnswer → Said
@@ -109,6 +110,7 @@ module _ (s : Settings) (l : Lent) where
   outcome make = onTable ofMake (makeCall s (l .table))
   outcome (ask q) = onTable ofKey (tableCall s (l .table) q)
   outcome (recordAt n) = onNothing (ofRecord (recordCall s (l .table) n))
+  outcome (slotAt n) = onNothing (ofRecord (retrieveCall s (l .table) n))
   outcome check = onBuffer ofCheck (checkCall s (l .table) (l .buffer))
   outcome (readText x) = onNothing (ofRead (readingOf x))
   outcome (writeText k) = onBuffer ofWritten (writeCall k (l .buffer))
@@ -128,6 +130,7 @@ abbrev pub bufferBytes : Settings → List ℕ → Call → ℕ
 bufferBytes s t make = 0
 bufferBytes s t (ask q) = 0
 bufferBytes s t (recordAt n) = 0
+bufferBytes s t (slotAt n) = 0
 bufferBytes s t check = (s .nob + 7) / 8
 bufferBytes s t (readText x) = 0
 bufferBytes s t (writeText k) = length (written (k .high) (k .low))

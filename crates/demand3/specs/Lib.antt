@@ -1,4 +1,5 @@
--- The claim.
+-- The claims.
 pub mod Claim
--- What is proved of it.
+pub mod Numbers
+-- What is proved of them.
 pub mod theory

@@ -7,5 +7,6 @@ pub mod Holds
 pub mod Nth
 pub mod OwnRefusal
 pub mod OnlyLabel
+pub mod Numbers
 -- What is proved of them.
 pub mod theory

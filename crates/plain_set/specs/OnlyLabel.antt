@@ -51,5 +51,5 @@ module _ (g : Layout) where
 -- answered, and has the one that was given
 abbrev pub RelabelsOnly : Settings → List ℕ → ℕ → ℕ → Reply Answer → Type 0
 RelabelsOnly s t k label r =
-    (was n : ℕ) → r .answer ≡ said word.Relabelled was n
+    (was n slot : ℕ) → r .answer ≡ said word.Relabelled was n slot
     → (0 < n) × OnlyLabel (layoutOf s) (held s t) (held s (r .bytes)) (listNumber s k) (entry s k) (n - 1) was label

@@ -31,7 +31,7 @@ module _ (s : Settings) where
 
   abbrev pub rebuiltFrom : ℕ → List Basic → List Overflow → List Pair
   rebuiltFrom i [] os = []
-  rebuiltFrom i (b ∷ bs) os = pairsOf i (slotsOf (contentOf (layoutOf s) b os)) ++ rebuiltFrom (suc i) bs os
+  rebuiltFrom i (b ∷ bs) os = pairsOf i (slotsOf (contentOf (layoutOf s) i b os)) ++ rebuiltFrom (suc i) bs os
 
   -- all pairs, lists by number, entries in list order
   unfoldable pub rebuiltPairs : State → List Pair

@@ -11,6 +11,7 @@ pub mod Append
 pub mod Delete
 pub mod Swap
 pub mod Change
+pub mod Numbers
 pub mod New
 pub mod Tests
 pub mod Checked
@@ -25,6 +26,8 @@ pub mod Agree
 pub mod Stored
 pub mod Longer
 pub mod StateSteps
+pub mod NumberSteps
+pub mod NumberCalls
 pub mod Start
 pub mod Answers
 pub mod Nth

@@ -41,7 +41,7 @@ saidText address w label compared = address ++ wordText w ++ numbersText label c
 
 -- the address, the word, the label and compared; or the refusal
 unfoldable pub answerText : Key → Answer → List ℕ
-answerText k (answer.Said label w compared) = saidText (written (k .high) (k .low)) w label compared
+answerText k (answer.Said label w compared slot) = saidText (written (k .high) (k .low)) w label compared
 answerText k (answer.Refused why) = refusedText why
 
 -- what is written for a line, and the table afterwards

@@ -110,6 +110,7 @@ fn answer_key(q: Request, key: Key, t: &mut [u8], out: &mut [u8]) -> usize
             word,
             label,
             compared,
+            slot: _,
         } => say(key, word, label, compared, out),
         Answer::Refused(why) => refuse(why, out),
     }

@@ -39,7 +39,7 @@ const SETTINGS: Settings = Settings {
 };
 
 // The bytes that they ask for the table.
-pub const TABLE_BYTES: usize = 19617;
+pub const TABLE_BYTES: usize = 19681;
 
 // The settings, by their constructor, which does not refuse them.
 pub fn settings() -> Made
@@ -69,6 +69,7 @@ fn layout() -> Layout
         nob: SETTINGS.nob as usize,
         sio: SETTINGS.sio as usize,
         lists: 256,
+        owner: 8,
         link: 6,
         basic: Blocks {
             start: 7,
@@ -78,9 +79,9 @@ fn layout() -> Layout
         overflow: Blocks {
             start: 131847,
             counter: 2,
-            bits: 392,
+            bits: 400,
         },
-        bits: 156935,
+        bits: 157447,
         bytes: TABLE_BYTES,
     }
 }

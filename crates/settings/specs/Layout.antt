@@ -22,6 +22,7 @@ layoutOf s =
       sio = s .sio;
       lists = lists s;
       link = linkBits s;
+      owner = s .bii;
       basic = basicBlocks s;
       overflow = overflowBlocks s;
       bits = tableBits s;

@@ -17,13 +17,14 @@ pub record Proper (g : Layout) : Type 0 where
   pub lists-low : 1 ≤ g .lists
   pub lists-high : g .lists ≤ 65536
   pub link-high : g .link ≤ 16
+  pub owner-high : g .owner ≤ 16
   pub free-high : g .basic .start ≤ 16
   pub basic-high : g .basic .counter ≤ 9
   pub overflow-high : g .overflow .counter ≤ 4
   -- clause 2.3: a link fits in the slots
   pub link-fits : g .link ≤ g .sib * g .slot
   pub basic-is : g .basic .bits ≡ g .basic .counter + g .sib * g .slot
-  pub overflow-is : g .overflow .bits ≡ g .overflow .counter + g .link + g .sio * g .slot
+  pub overflow-is : g .overflow .bits ≡ g .overflow .counter + (g .link + g .owner) + g .sio * g .slot
   pub start-is : g .overflow .start ≡ g .basic .start + g .lists * g .basic .bits
   pub bits-is : g .bits ≡ g .overflow .start + g .nob * g .overflow .bits
   pub bytes-is : g .bytes ≡ (g .bits + 7) / 8
@@ -33,3 +34,5 @@ pub record Proper (g : Layout) : Type 0 where
   pub overflow-holds : g .sio < 2 ^ g .overflow .counter
   pub link-holds : g .nob ≤ 2 ^ g .link
   pub free-holds : g .nob < 2 ^ g .basic .start
+  -- and the list's number of an overflow block is that of a list, whatever it is
+  pub owner-holds : g .lists ≡ 2 ^ g .owner

@@ -17,3 +17,4 @@ numberOf refusal.Marks = 10
 numberOf refusal.Line = 11
 numberOf refusal.Known = 12
 numberOf refusal.Page = 13
+numberOf refusal.Slot = 14

@@ -30,12 +30,12 @@ module _ (s : Settings) where
   unfoldable pub lists : ℕ
   lists = 2 ^ s .bii
 
-  -- clause 4.5: overflow blocks
+  -- clause 4.5: overflow blocks; the number of a list has bii bits
   unfoldable pub overflowCounterBits : ℕ
   overflowCounterBits = ceilLog2 (1 + s .sio)
 
   unfoldable pub overflowBlockBits : ℕ
-  overflowBlockBits = overflowCounterBits + linkBits + s .sio * slotBits
+  overflowBlockBits = overflowCounterBits + (linkBits + s .bii) + s .sio * slotBits
 
   -- where overflow block 0 begins: behind the free start and the basic blocks
   unfoldable pub overflowStart : ℕ

@@ -18,7 +18,8 @@ pub struct Blocks {
 }
 
 // The widths of the fields, the numbers of slots and blocks, and the size of it all. The free start
-// is the bits before the basic blocks.
+// is the bits before the basic blocks; the owner of an overflow block is the list that it belongs to.
+// Two numbers have 32 bits, so that the whole has 128 bytes: what is larger is copied by a call of memcpy.
 pub struct Layout {
     pub bie: usize,
     pub val: usize,
@@ -26,7 +27,8 @@ pub struct Layout {
     pub sib: usize,
     pub nob: usize,
     pub sio: usize,
-    pub lists: usize,
+    pub lists: u32,
+    pub owner: u32,
     pub link: usize,
     pub basic: Blocks,
     pub overflow: Blocks,
@@ -45,18 +47,18 @@ fn wide(x: u32) -> usize
     x as usize
 }
 
-// A block's bits: its counter (and link), and its slots. Products stand in functions of their own,
+// A block's bits: its counter (and the fields behind it), and its slots. Products stand in functions of their own,
 // with their bounds, so that all above them is linear.
 fn block_bits(head: usize, slots: usize, slot: usize) -> usize
-    requires { ⌜ (head ≤ 32) × (slots ≤ 255) × (slot ≤ 160) ⌝ }
-    ensures { λ r. ⌜ (r ≡ head + slots * slot) × (r ≤ 40832) ⌝ }
+    requires { ⌜ (head ≤ 36) × (slots ≤ 255) × (slot ≤ 160) ⌝ }
+    ensures { λ r. ⌜ (r ≡ head + slots * slot) × (r ≤ 40836) ⌝ }
 {
     head + slots * slot
 }
 
 fn blocks_bits(blocks: usize, block: usize) -> usize
-    requires { ⌜ (blocks ≤ 65536) × (block ≤ 40832) ⌝ }
-    ensures { λ r. ⌜ (r ≡ blocks * block) × (r ≤ 2675965952) ⌝ }
+    requires { ⌜ (blocks ≤ 65536) × (block ≤ 40836) ⌝ }
+    ensures { λ r. ⌜ (r ≡ blocks * block) × (r ≤ 2676228096) ⌝ }
 {
     blocks * block
 }
@@ -65,7 +67,7 @@ impl Blocks {
     // The basic blocks, behind the free start.
     fn basic(s: Settings, slot: usize) -> Blocks
         requires { ⌜ Ranges s × (slot ≡ slotBits s) ⌝ }
-        ensures { λ r. ⌜ (r ≡ basicBlocks s) × (r .start ≤ 16) × (r .bits ≤ 40832) ⌝ }
+        ensures { λ r. ⌜ (r ≡ basicBlocks s) × (r .start ≤ 16) × (r .bits ≤ 40836) ⌝ }
     {
         let counter = ceil_log2(2 + s.sib);
         Blocks {
@@ -75,16 +77,16 @@ impl Blocks {
         }
     }
 
-    // The overflow blocks, behind the basic ones.
-    fn overflow(s: Settings, slot: usize, link: usize, start: usize) -> Blocks
-        requires { ⌜ Ranges s × (slot ≡ slotBits s) × (link ≡ linkBits s) × (start ≡ overflowStart s) ⌝ }
-        ensures { λ r. ⌜ (r ≡ overflowBlocks s) × (r .bits ≤ 40832) ⌝ }
+    // The overflow blocks, behind the basic ones, with a link and the owner's number behind the counter.
+    fn overflow(s: Settings, slot: usize, numbers: usize, start: usize) -> Blocks
+        requires { ⌜ Ranges s × (slot ≡ slotBits s) × (numbers ≡ linkBits s + s .bii) × (start ≡ overflowStart s) ⌝ }
+        ensures { λ r. ⌜ (r ≡ overflowBlocks s) × (r .bits ≤ 40836) ⌝ }
     {
         let counter = ceil_log2(1 + s.sio);
         Blocks {
             start: start,
             counter: counter,
-            bits: block_bits(counter + link, wide(s.sio), slot),
+            bits: block_bits(counter + numbers, wide(s.sio), slot),
         }
     }
 }
@@ -103,7 +105,7 @@ impl Layout {
         let link = ceil_log2(s.nob);
         let basic = Blocks::basic(s, slot);
         let behind = basic.start + blocks_bits(lists, basic.bits);
-        let overflow = Blocks::overflow(s, slot, link, behind);
+        let overflow = Blocks::overflow(s, slot, link + wide(s.bii), behind);
         let bits = overflow.start + blocks_bits(nob, overflow.bits);
         Layout {
             bie: bie,
@@ -112,7 +114,8 @@ impl Layout {
             sib: wide(s.sib),
             nob: nob,
             sio: wide(s.sio),
-            lists: lists,
+            lists: lists as u32,
+            owner: s.bii,
             link: link,
             basic: basic,
             overflow: overflow,

@@ -16,6 +16,7 @@ pub enum Refusal {
     Line,
     Known,
     Page,
+    Slot,
 }
 
 impl Refusal {
@@ -37,6 +38,7 @@ impl Refusal {
             Refusal::Line => 11,
             Refusal::Known => 12,
             Refusal::Page => 13,
+            Refusal::Slot => 14,
         }
     }
 }

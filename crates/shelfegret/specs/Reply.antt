@@ -28,9 +28,9 @@ use Rattle.shelfegret.specs.declared.Answer.{Answer}
 abbrev pub refusedReply : Refusal → Answer
 refusedReply why = record { code = numberOf why; word = 0; key = noKey; label = 0; compared = 0; number = 0 }
 
--- accepted, with a word (0 where the call has none), a key, its label, and how many entries were compared
-abbrev pub saying : ℕ → Key → ℕ → ℕ → Answer
-saying word key label compared = record { code = 0; word = word; key = key; label = label; compared = compared; number = 0 }
+-- accepted, with a word (0 where the call has none), a key, its label, how many entries were compared, and a number
+abbrev pub saying : ℕ → Key → ℕ → ℕ → ℕ → Answer
+saying word key label compared n = record { code = 0; word = word; key = key; label = label; compared = compared; number = n }
 
 -- accepted, with a number alone
 abbrev pub numbered : ℕ → Answer
@@ -45,31 +45,31 @@ abbrev pub makeReply : MakeAnswer → Answer
 makeReply making.Made = numbered 0
 makeReply (making.Refused why) = refusedReply why
 
--- find, enter, relabel and delete, for the key asked for
+-- find, enter, relabel and delete, for the key asked for; the number is that of the entry's slot
 abbrev pub answerReply : Key → table.Answer → Answer
 answerReply key a =
     let v = valuesOf key a in
-    record { code = v .number; word = v .word; key = v .key; label = v .label; compared = v .compared; number = 0 }
+    record { code = v .number; word = v .word; key = v .key; label = v .label; compared = v .compared; number = v .slot }
 
 -- and with a text: for the key that the text is read as
 abbrev pub textReply : TextAnswer → Answer
 textReply a = answerReply (a .key) (a .answer)
 
--- clauses 6.9 and 6.14; the words 5 to 7 are those of record and check
+-- record and retrieve, clauses 6.9, 6.14, 6.18 and 6.19; the words 5 to 7 are theirs and check's
 abbrev pub recordReply : RecordAnswer → Answer
-recordReply (recording.Record key label) = saying 5 key label 0
-recordReply recording.None = saying (wordNumber word.None) noKey 0 0
+recordReply (recording.Record key label) = saying 5 key label 0 0
+recordReply recording.None = saying (wordNumber word.None) noKey 0 0 0
 recordReply (recording.Refused why) = refusedReply why
 
 -- clause 6.10
 abbrev pub checkReply : CheckAnswer → Answer
-checkReply checking.Sound = saying 6 noKey 0 0
-checkReply checking.Unsound = saying 7 noKey 0 0
+checkReply checking.Sound = saying 6 noKey 0 0 0
+checkReply checking.Unsound = saying 7 noKey 0 0 0
 checkReply (checking.Refused why) = refusedReply why
 
 -- the key read
 abbrev pub readReply : Parsed → Answer
-readReply (parsed.Key key) = saying 0 key 0 0
+readReply (parsed.Key key) = saying 0 key 0 0 0
 readReply (parsed.Refused why) = refusedReply why
 
 -- the text's length

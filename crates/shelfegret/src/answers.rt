@@ -43,8 +43,8 @@ fn refused(why: Refusal) -> Answer
 }
 
 // Accepted, with a word and what goes with it.
-fn said(word: u32, key: Key, label: u32, compared: u32) -> Answer
-    ensures { λ r. ⌜ r ≡ saying word key label compared ⌝ }
+fn said(word: u32, key: Key, label: u32, compared: u32, number: u64) -> Answer
+    ensures { λ r. ⌜ r ≡ saying word key label compared number ⌝ }
 {
     Answer {
         code: 0,
@@ -52,7 +52,7 @@ fn said(word: u32, key: Key, label: u32, compared: u32) -> Answer
         key,
         label,
         compared,
-        number: 0,
+        number,
     }
 }
 
@@ -119,7 +119,8 @@ pub(crate) fn answered(key: Key, a: table::Answer) -> Answer
             word,
             label,
             compared,
-        } => said(number_of(word), key, label, compared),
+            slot,
+        } => said(number_of(word), key, label, compared, slot),
         table::Answer::Refused(why) => refused(why),
     }
 }
@@ -128,8 +129,8 @@ pub(crate) fn recorded(a: RecordAnswer) -> Answer
     ensures { λ r. ⌜ r ≡ recordReply a ⌝ }
 {
     match a {
-        RecordAnswer::Record { key, label } => said(RECORD, key, label, 0),
-        RecordAnswer::None => said(NONE, NO_KEY, 0, 0),
+        RecordAnswer::Record { key, label } => said(RECORD, key, label, 0, 0),
+        RecordAnswer::None => said(NONE, NO_KEY, 0, 0, 0),
         RecordAnswer::Refused(why) => refused(why),
     }
 }
@@ -138,8 +139,8 @@ pub(crate) fn checked(a: CheckAnswer) -> Answer
     ensures { λ r. ⌜ r ≡ checkReply a ⌝ }
 {
     match a {
-        CheckAnswer::Sound => said(SOUND, NO_KEY, 0, 0),
-        CheckAnswer::Unsound => said(UNSOUND, NO_KEY, 0, 0),
+        CheckAnswer::Sound => said(SOUND, NO_KEY, 0, 0, 0),
+        CheckAnswer::Unsound => said(UNSOUND, NO_KEY, 0, 0, 0),
         CheckAnswer::Refused(why) => refused(why),
     }
 }
@@ -155,6 +156,7 @@ pub(crate) fn parsed(a: Parsed) -> Answer
                 high: key.high,
                 low: key.low,
             },
+            0,
             0,
             0,
         ),

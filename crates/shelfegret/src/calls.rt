@@ -10,7 +10,7 @@ use settings::Settings;
 ghost use mathlib.Core.Path.{_≡_};
 ghost use Rattle.settings.specs.Made.{sizeOf};
 ghost use Rattle.settings.specs.Reply.{answering, Gives};
-ghost use Rattle.table.specs.Calls.{find, enter, relabel, delete, makeCall, keyCall, recordCall, checkCall};
+ghost use Rattle.table.specs.Calls.{find, enter, relabel, delete, makeCall, keyCall, recordCall, retrieveCall, checkCall};
 ghost use Rattle.shelfegret.specs.Reply.{sizeReply, makeReply, answerReply, recordReply, checkReply};
 
 // The number of bytes that the table needs.
@@ -67,6 +67,14 @@ pub extern "C" fn shelfegret_record(s: Settings, t: &[u8], n: u64) -> Answer
     ensures { λ r. ⌜ r ≡ recordReply (recordCall s (now (t .entry)) n) ⌝ }
 {
     recorded(table_record::record(s, t, n))
+}
+
+// The key and the label in the slot of a number, or "none".
+#[no_mangle]
+pub extern "C" fn shelfegret_retrieve(s: Settings, t: &[u8], slot: u64) -> Answer
+    ensures { λ r. ⌜ r ≡ recordReply (retrieveCall s (now (t .entry)) slot) ⌝ }
+{
+    recorded(table_record::retrieve(s, t, slot))
 }
 
 // "sound" or "unsound".

@@ -4,7 +4,7 @@ use Prim.Native.Nat.{ℕ}
 use mathlib.Core.Bool.{cond, not}
 use mathlib.Core.List.{List, [], _∷_}
 use lib.ListN.{length}
-use lib.Dec.{leb}
+use lib.Dec.{leb, ltb}
 use Rattle.settings.specs.declared.settings.Settings.{Settings}
 use Rattle.settings.specs.declared.layout.Layout.{Layout}
 use Rattle.keys.specs.declared.Key.{Key}
@@ -22,6 +22,8 @@ use Rattle.table.specs.Relabel.{relabelIn}
 use Rattle.table.specs.Delete.{deleteIn}
 use Rattle.table.specs.New.{newBytes}
 use Rattle.table.specs.Record.{recordIn}
+use Rattle.table.specs.Numbers.{capacity}
+use Rattle.table.specs.Retrieve.{retrieveIn}
 use Rattle.table.specs.Check.{tableSound, markBytes, marksAfter}
 use Rattle.table.specs.declared.answers.Answer.{Answer}
 use Rattle.table.specs.declared.answers.Answer.the-variants as answer
@@ -69,6 +71,12 @@ module _ (s : Settings) (t : List ℕ) where
 
   unfoldable pub recordCall : ℕ → RecordAnswer
   recordCall n = unlessDue (settingsDue s ∷ shortDue s (length t) ∷ []) recording.Refused (recordIn s held n)
+
+  -- 14: a number that no slot has
+  unfoldable pub retrieveCall : ℕ → RecordAnswer
+  retrieveCall n =
+      unlessDue (settingsDue s ∷ shortDue s (length t) ∷ due (not (ltb n (capacity (layoutOf s)))) refusal.Slot ∷ [])
+      recording.Refused (retrieveIn s held n)
 
   -- 10: too few marks. The lent bytes that are written are the marks (clause 6.11)
   unfoldable pub checkCall : List ℕ → Reply CheckAnswer

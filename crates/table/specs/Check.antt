@@ -5,13 +5,13 @@ use mathlib.Core.List.{List, [], _∷_}
 use mathlib.Core.Option.{Option, none, some}
 use lib.ListN.{drop}
 use lib.Dec.{eqb, ltb}
-use Rattle.laws.specs.Folds.{every, everyBelow, allZero}
+use Rattle.laws.specs.Folds.{every, everyBelow, allZero, sumBelow}
 use Rattle.bits.specs.Field.{field}
 use Rattle.settings.specs.declared.layout.Layout.{Layout}
 use Rattle.table.specs.Arrays.{cleared}
-use Rattle.table.specs.State.{Basic, Overflow, State, overflowAt, ownSlots, entryOf}
+use Rattle.table.specs.State.{Basic, Overflow, State, basicAt, overflowAt, ownSlots, entryOf}
 use Rattle.table.specs.Decode.{decode}
-use Rattle.table.specs.Follow.{Content, cons?, contentOf}
+use Rattle.table.specs.Follow.{Content, cons?, isOwn, content}
 use Rattle.table.specs.Take.{occurs}
 
 -- the overflow blocks of a list that was followed
@@ -28,9 +28,9 @@ module _ (g : Layout) where
   abbrev pub overflowUnused : List Overflow → ℕ → Bool
   overflowUnused os j = allZero (drop (suc (overflowAt os j .counter)) (overflowAt os j .slots))
 
-  -- clause 4.12: counters and slots of free blocks are zero
+  -- clause 4.12: counters, owners and slots of free blocks are zero
   abbrev pub freeZero : List Overflow → ℕ → Bool
-  freeZero os f = eqb (overflowAt os f .counter) 0 && allZero (overflowAt os f .slots)
+  freeZero os f = eqb (overflowAt os f .counter) 0 && (isOwn 0 os f && allZero (overflowAt os f .slots))
 
   -- no entry stands twice in a list
   abbrev pub hasEntry : ℕ → List ℕ → Bool
@@ -46,9 +46,8 @@ module _ (g : Layout) where
   listSound b os none = false
   listSound b os (some v) = basicUnused b (v .blocks) && (every (overflowUnused os) (v .blocks) && noEntryTwice (v .slots))
 
-  abbrev pub listsSound : List Basic → List Overflow → Bool
-  listsSound [] os = true
-  listsSound (b ∷ bs) os = listSound b os (contentOf g b os) && listsSound bs os
+  abbrev pub listsSound : State → Bool
+  listsSound st = everyBelow (g .lists) (λ i. listSound (basicAt (st .basic) i) (st .overflow) (content g st i))
 
   -- the free chain from block f on, to the block that links to itself
   abbrev pub chainFrom : ℕ → List Overflow → ℕ → Option (List ℕ)
@@ -63,19 +62,18 @@ module _ (g : Layout) where
       cond (eqb (st .free) (g .nob)) (some []) on
 
   -- how often block j stands in the lists
-  abbrev pub occursInLists : ℕ → List Basic → List Overflow → ℕ
-  occursInLists j [] os = 0
-  occursInLists j (b ∷ bs) os = occurs j (blocksOf (contentOf g b os)) + occursInLists j bs os
+  abbrev pub occursInLists : ℕ → State → ℕ
+  occursInLists j st = sumBelow (g .lists) (λ i. occurs j (blocksOf (content g st i)))
 
   -- every overflow block stands exactly once, in one list or in the free chain
   abbrev pub chainSound : State → Option (List ℕ) → Bool
   chainSound st none = false
   chainSound st (some fs) =
       every (freeZero (st .overflow)) fs
-      && everyBelow (g .nob) (λ j. eqb (occursInLists j (st .basic) (st .overflow) + occurs j fs) 1)
+      && everyBelow (g .nob) (λ j. eqb (occursInLists j st + occurs j fs) 1)
 
   unfoldable pub stateSound : State → Bool
-  stateSound st = listsSound (st .basic) (st .overflow) && chainSound st (freeChain st)
+  stateSound st = listsSound st && chainSound st (freeChain st)
 
   -- clause 4.7: the fill is zero
   unfoldable pub fillZero : List ℕ → Bool

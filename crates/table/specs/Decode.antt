@@ -17,12 +17,15 @@ module _ (g : Layout) where
   unfoldable pub basicSlots : ℕ → ℕ
   basicSlots i = blockAt (g .basic) i + g .basic .counter
 
-  -- clause 4.5: a counter, a link, then sio slots
+  -- clause 4.5: a counter, a link, the owner's number, then sio slots
   unfoldable pub linkAt : ℕ → ℕ
   linkAt j = blockAt (g .overflow) j + g .overflow .counter
 
+  unfoldable pub ownerAt : ℕ → ℕ
+  ownerAt j = blockAt (g .overflow) j + (g .overflow .counter + g .link)
+
   unfoldable pub overflowSlots : ℕ → ℕ
-  overflowSlots j = blockAt (g .overflow) j + (g .overflow .counter + g .link)
+  overflowSlots j = blockAt (g .overflow) j + (g .overflow .counter + (g .link + g .owner))
 
   unfoldable pub readBasic : List ℕ → ℕ → Basic
   readBasic t i =
@@ -32,7 +35,7 @@ module _ (g : Layout) where
   unfoldable pub readOverflow : List ℕ → ℕ → Overflow
   readOverflow t j =
       mkOverflow (field t (blockAt (g .overflow) j) (g .overflow .counter)) (field t (linkAt j) (g .link))
-      (tabulate (g .sio) (λ k. field t (overflowSlots j + k * g .slot) (g .slot)))
+      (field t (ownerAt j) (g .owner)) (tabulate (g .sio) (λ k. field t (overflowSlots j + k * g .slot) (g .slot)))
 
   -- clause 4.2: free start, basic blocks, overflow blocks
   unfoldable pub decode : List ℕ → State
@@ -42,7 +45,8 @@ module _ (g : Layout) where
   packBasic b = (b .counter * 2 ^ g .link + b .head) * 2 ^ restBits g + b .rest
 
   abbrev pub packOverflow : Overflow → ℕ
-  packOverflow o = (o .counter * 2 ^ g .link + o .link) * 2 ^ (g .sio * g .slot) + packed (g .slot) (o .slots)
+  packOverflow o =
+      ((o .counter * 2 ^ g .link + o .link) * 2 ^ g .owner + o .owner) * 2 ^ (g .sio * g .slot) + packed (g .slot) (o .slots)
 
   -- all the table's fields as one number, in the same order
   unfoldable pub image : State → ℕ

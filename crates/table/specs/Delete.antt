@@ -65,8 +65,8 @@ module _ (g : Layout) where
   deleteFollowed st i e none = unchanged (answer.Refused refusal.Damage)
   deleteFollowed st i e (some v) =
       let es = v .slots in
-      cond (isHeld g e es) (answered (said word.Gone (labelAt g e es) (comparedIn g e es)) (takeOut st i v (position g e es)))
-      (unchanged (said word.None 0 (comparedIn g e es)))
+      cond (isHeld g e es) (answered (said word.Gone (labelAt g e es) (comparedIn g e es) 0) (takeOut st i v (position g e es)))
+      (unchanged (said word.None 0 (comparedIn g e es) 0))
 
   -- delete of the entry e from list i
   unfoldable pub deleteIn : State → ℕ → ℕ → Answered

@@ -9,6 +9,7 @@ use Rattle.settings.specs.declared.layout.Layout.{Layout}
 use Rattle.settings.specs.declared.refusal.Refusal.the-variants as refusal
 use Rattle.table.specs.State.{State, entryOf, labelOf}
 use Rattle.table.specs.Follow.{Content, content}
+use Rattle.table.specs.Numbers.{slotNumber}
 use Rattle.table.specs.declared.answers.Answer.{Answer}
 use Rattle.table.specs.Answer.{said}
 use Rattle.table.specs.declared.answers.Answer.the-variants as answer
@@ -31,13 +32,17 @@ module _ (g : Layout) where
   abbrev pub comparedIn : ℕ → List ℕ → ℕ
   comparedIn e es = cond (isHeld e es) (suc (position e es)) (length es)
 
+  -- clause 6.17: the number of the slot in which the entry e stands first, in list i
+  abbrev pub numberAt : ℕ → ℕ → Content → ℕ
+  numberAt i e v = slotNumber g i (v .blocks) (position e (v .slots))
+
   -- clause 6.4
-  unfoldable pub findFollowed : ℕ → Option Content → Answer
-  findFollowed e none = answer.Refused refusal.Damage
-  findFollowed e (some v) =
+  unfoldable pub findFollowed : ℕ → ℕ → Option Content → Answer
+  findFollowed i e none = answer.Refused refusal.Damage
+  findFollowed i e (some v) =
       let es = v .slots in
-      cond (isHeld e es) (said word.Held (labelAt e es) (comparedIn e es)) (said word.None 0 (comparedIn e es))
+      cond (isHeld e es) (said word.Held (labelAt e es) (comparedIn e es) (numberAt i e v)) (said word.None 0 (comparedIn e es) 0)
 
   -- find of the entry e in list i
   unfoldable pub findIn : State → ℕ → ℕ → Answer
-  findIn st i e = findFollowed e (content g st i)
+  findIn st i e = findFollowed i e (content g st i)

@@ -1,10 +1,11 @@
 -- Clauses 5.1 and 5.2: a list followed to its end, and damage.
 use Prim.Native.Nat.{ℕ, zero, suc}
-use mathlib.Core.Bool.{cond}
+use mathlib.Core.Bool.{Bool, cond}
 use mathlib.Core.List.{List, [], _∷_, _++_}
 use mathlib.Core.Option.{Option, none, some}
 use lib.ListN.{take}
 use lib.Dec.{eqb, ltb}
+use Rattle.laws.specs.Folds.{every}
 use Rattle.settings.specs.declared.layout.Layout.{Layout}
 use Rattle.table.specs.State.{Basic, Overflow, State, basicAt, overflowAt, unpack, ownSlots}
 use Rattle.table.specs.declared.step.Step.{Step}
@@ -45,6 +46,15 @@ goOn Last xs on = some xs
 goOn (Further c) xs on = on (c .0)
 goOn Damage xs on = none
 
+-- block b belongs to list i
+abbrev pub isOwn : ℕ → List Overflow → ℕ → Bool
+isOwn i os b = eqb (overflowAt os b .owner) i
+
+-- the blocks of list i that were followed; one with another list's number is damage (clause 5.2)
+abbrev pub ownBlocks : ℕ → List Overflow → Option (List ℕ) → Option (List ℕ)
+ownBlocks i os none = none
+ownBlocks i os (some bs) = cond (every (isOwn i os) bs) (some bs) none
+
 module _ (g : Layout) where
   -- the step of block b
   abbrev pub stepAt : List Overflow → ℕ → Step
@@ -66,14 +76,14 @@ module _ (g : Layout) where
   contentOver b os (some (c ∷ cs)) =
       some (mkContent (c ∷ cs) (unpack g (overflowAt os (lastOf c cs) .link) (b .rest) ++ gather os (c ∷ cs)))
 
-  -- clause 4.4. None is damage: a basic counter above sib + 1 too
-  abbrev pub contentOf : Basic → List Overflow → Option Content
-  contentOf b os =
-      let on = contentOver b os (follow (g .nob) os (b .head)) in
+  -- list i, whose basic block is b (clause 4.4). None is damage: a basic counter above sib + 1 too
+  abbrev pub contentOf : ℕ → Basic → List Overflow → Option Content
+  contentOf i b os =
+      let on = contentOver b os (ownBlocks i os (follow (g .nob) os (b .head))) in
       cond (ltb (b .counter) (suc (g .sib)))
       (some (mkContent [] (take (b .counter) (ownSlots g b))))
       (cond (eqb (b .counter) (suc (g .sib))) on none)
 
   -- list i, followed to its end
   unfoldable pub content : State → ℕ → Option Content
-  content st i = contentOf (basicAt (st .basic) i) (st .overflow)
+  content st i = contentOf i (basicAt (st .basic) i) (st .overflow)

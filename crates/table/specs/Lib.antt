@@ -4,6 +4,7 @@ pub mod State
 pub mod Updates
 pub mod Decode
 pub mod Follow
+pub mod Numbers
 pub mod Answer
 pub mod Find
 pub mod Done
@@ -14,6 +15,7 @@ pub mod Relabel
 pub mod Delete
 pub mod New
 pub mod Record
+pub mod Retrieve
 pub mod Check
 pub mod Calls
 pub mod Sound

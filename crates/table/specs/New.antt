@@ -11,7 +11,7 @@ use Rattle.table.specs.Decode.{written}
 module _ (g : Layout) where
   -- clauses 4.11 and 4.12: the last free block links to itself; all else is zero
   abbrev pub newOverflow : ℕ → Overflow
-  newOverflow j = emptyBlock g (cond (eqb (suc j) (g .nob)) j (suc j))
+  newOverflow j = emptyBlock g (cond (eqb (suc j) (g .nob)) j (suc j)) 0
 
   unfoldable pub newState : State
   newState = mkState 0 (tabulate (g .lists) (λ i. emptyBasic)) (tabulate (g .nob) newOverflow)

@@ -21,7 +21,7 @@ module _ (s : Settings) where
   -- record n of the lists from list i on
   unfoldable pub recordFrom : ℕ → List Basic → List Overflow → ℕ → RecordAnswer
   recordFrom i [] os n = answer.None
-  recordFrom i (b ∷ bs) os n = go (contentOf (layoutOf s) b os) (λ m. recordFrom (suc i) bs os m)
+  recordFrom i (b ∷ bs) os n = go (contentOf (layoutOf s) i b os) (λ m. recordFrom (suc i) bs os m)
     where
       go : Option Content → (ℕ → RecordAnswer) → RecordAnswer
       go none on = answer.Refused refusal.Damage

@@ -6,7 +6,7 @@ use Rattle.settings.specs.declared.layout.Layout.{Layout}
 use Rattle.settings.specs.declared.refusal.Refusal.the-variants as refusal
 use Rattle.table.specs.State.{State, slotOf}
 use Rattle.table.specs.Follow.{Content, content}
-use Rattle.table.specs.Find.{position, isHeld, labelAt, comparedIn}
+use Rattle.table.specs.Find.{position, isHeld, labelAt, comparedIn, numberAt}
 use Rattle.table.specs.Done.{done, Answered, unchanged, answered}
 use Rattle.table.specs.Store.{storeAt}
 use Rattle.table.specs.Answer.{said}
@@ -20,9 +20,9 @@ module _ (g : Layout) where
   relabelFollowed st i e label (some v) =
       let es = v .slots in
       cond (isHeld g e es)
-      (answered (said word.Relabelled (labelAt g e es) (comparedIn g e es))
+      (answered (said word.Relabelled (labelAt g e es) (comparedIn g e es) (numberAt g i e v))
       (done (storeAt g st i (v .blocks) (position g e es) (slotOf g e label))))
-      (unchanged (said word.None 0 (comparedIn g e es)))
+      (unchanged (said word.None 0 (comparedIn g e es) 0))
 
   -- relabel of the entry e in list i
   unfoldable pub relabelIn : State → ℕ → ℕ → ℕ → Answered

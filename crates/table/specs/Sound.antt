@@ -28,7 +28,7 @@ module _ (g : Layout) where
     -- each list, followed to its end; the free chain
     pub lists : ℕ → Content
     pub chain : List ℕ
-    -- no list is damaged
+    -- no list is damaged; so each of its blocks has its number
     pub undamaged : (i : ℕ) → i < g .lists → content g st i ≡ some (lists i)
     -- free start is at most nob, and the free chain ends in a block that links to itself
     pub start : st .free ≤ g .nob
@@ -41,6 +41,7 @@ module _ (g : Layout) where
     pub overflow-zero : (i j k : ℕ) → i < g .lists → 0 < occurs j (lists i .blocks) → overflowAt (st .overflow) j .counter < k
         → getD (overflowAt (st .overflow) j .slots) k 0 ≡ 0
     pub free-counter : (j : ℕ) → 0 < occurs j chain → overflowAt (st .overflow) j .counter ≡ 0
+    pub free-owner : (j : ℕ) → 0 < occurs j chain → overflowAt (st .overflow) j .owner ≡ 0
     pub free-zero : (j k : ℕ) → 0 < occurs j chain → getD (overflowAt (st .overflow) j .slots) k 0 ≡ 0
     -- no entry stands twice in a list
     pub single : (i p q : ℕ) → i < g .lists → p < q → q < length (lists i .slots)

@@ -12,9 +12,11 @@ pub record Basic : Type 0 where
   pub head : ℕ
   pub rest : ℕ
 
+-- the owner is the number of the list that the block belongs to; 0 when it is free
 pub record Overflow : Type 0 where
   pub counter : ℕ
   pub link : ℕ
+  pub owner : ℕ
   pub slots : List ℕ
 
 pub record State : Type 0 where
@@ -25,8 +27,8 @@ pub record State : Type 0 where
 abbrev pub mkBasic : ℕ → ℕ → ℕ → Basic
 mkBasic n h r = record { counter = n; head = h; rest = r }
 
-abbrev pub mkOverflow : ℕ → ℕ → List ℕ → Overflow
-mkOverflow n l es = record { counter = n; link = l; slots = es }
+abbrev pub mkOverflow : ℕ → ℕ → ℕ → List ℕ → Overflow
+mkOverflow n l i es = record { counter = n; link = l; owner = i; slots = es }
 
 abbrev pub mkState : ℕ → List Basic → List Overflow → State
 mkState f bs os = record { free = f; basic = bs; overflow = os }
@@ -37,7 +39,7 @@ emptyBasic = mkBasic 0 0 0
 
 -- what stands for an overflow block whose number no block has
 abbrev pub absentBlock : Overflow
-absentBlock = mkOverflow 0 0 []
+absentBlock = mkOverflow 0 0 0 []
 
 abbrev pub basicAt : List Basic → ℕ → Basic
 basicAt bs i = getD bs i emptyBasic
@@ -46,9 +48,9 @@ abbrev pub overflowAt : List Overflow → ℕ → Overflow
 overflowAt os j = getD os j absentBlock
 
 module _ (g : Layout) where
-  -- an overflow block that is zero but for its link: what a block is before its new fields are set (clauses 5.3, 5.4)
-  abbrev pub emptyBlock : ℕ → Overflow
-  emptyBlock l = mkOverflow 0 l (padded (g .sio) [])
+  -- an overflow block that is zero but for its link and its owner: what a block is that was taken or freed (clauses 5.3, 5.4)
+  abbrev pub emptyBlock : ℕ → ℕ → Overflow
+  emptyBlock l i = mkOverflow 0 l i (padded (g .sio) [])
 
   -- the bits of a basic block's slots behind its first L
   abbrev pub restBits : ℕ

@@ -26,9 +26,9 @@ module _ (g : Layout) where
       (cond (ltb 0 (occurs (st .free) bs)) damage
       (cond (ltb (overflowAt (st .overflow) (st .free) .link) (g .nob)) on damage)))
 
-  -- block f taken, zeroed, as a list's last: its one slot is x, its link the displaced bits d. The free start is `next` then
-  abbrev pub taken : ℕ → ℕ → ℕ → ℕ → State → State
-  taken f next d x st = withFree next (overOverflow f (λ o. withSlot 0 x (emptyBlock g d)) st)
+  -- block f taken, zeroed, as the last of list i: its one slot is x, its link the displaced bits d. The free start is `next` then
+  abbrev pub taken : ℕ → ℕ → ℕ → ℕ → ℕ → State → State
+  taken i f next d x st = withFree next (overOverflow f (λ o. withSlot 0 x (emptyBlock g d i)) st)
 
   -- the link of a block l that goes to the front of a free chain that starts at f
   abbrev pub linkFree : ℕ → ℕ → ℕ
@@ -36,4 +36,4 @@ module _ (g : Layout) where
 
   -- clause 5.4: block l at the front of the free chain, zeroed
   abbrev pub freed : ℕ → State → State
-  freed l st = withFree l (overOverflow l (λ o. emptyBlock g (linkFree (st .free) l)) st)
+  freed l st = withFree l (overOverflow l (λ o. emptyBlock g (linkFree (st .free) l) 0) st)

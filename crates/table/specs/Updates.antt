@@ -7,17 +7,17 @@ use Rattle.table.specs.State.{Basic, Overflow, State, mkBasic, mkOverflo
 -- ---- an overflow block
 
 abbrev pub withCounter : ℕ → Overflow → Overflow
-withCounter n o = mkOverflow n (o .link) (o .slots)
+withCounter n o = mkOverflow n (o .link) (o .owner) (o .slots)
 
 abbrev pub withLink : ℕ → Overflow → Overflow
-withLink l o = mkOverflow (o .counter) l (o .slots)
+withLink l o = mkOverflow (o .counter) l (o .owner) (o .slots)
 
 -- counter and link
 abbrev pub withFront : ℕ → ℕ → Overflow → Overflow
 withFront n l o = withCounter n (withLink l o)
 
 abbrev pub withSlots : List ℕ → Overflow → Overflow
-withSlots es o = mkOverflow (o .counter) (o .link) es
+withSlots es o = mkOverflow (o .counter) (o .link) (o .owner) es
 
 -- the number x in slot q
 abbrev pub withSlot : ℕ → ℕ → Overflow → Overflow

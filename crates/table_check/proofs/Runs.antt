@@ -132,26 +132,26 @@ module _ (g : Layout) (t : List ℕ) (T : Table g t) (i : ℕ) (il : i < g .list
       ∙ ap (noEntryTwice g) (append-nil (slotsIn g t r) ∙ z))
 
   -- the entries of a list that overflows and has no damage
-  pub long-as : (h l d : ℕ) (r : Slots) → h ≡ basicAt (decode g t .basic) i .head → l ≡ lastFrom g (g .nob) (decode g t .overflow) h → l < g .nob
+  pub long-as : (h l d : ℕ) (r : Slots) → h ≡ basicAt (decode g t .basic) i .head → l ≡ lastFrom g i (g .nob) (decode g t .overflow) h → l < g .nob
       → d ≡ overflowAt (decode g t .overflow) l .link → r ≡ displacedRun g i d
       → (everyBelow (r .count) (alone g (slotsIn g t r) (slotsAfter g (g .nob) (decode g t .overflow) (further h))) && noEntryTwice g (slotsFrom g (g .nob) (decode g t .overflow) h))
-      ≡ longApart g (decode g t .overflow) (basicAt (decode g t .basic) i)
+      ≡ longApart g (decode g t .overflow) i (basicAt (decode g t .basic) i)
   unfolding longApart slotsAfter
   long-as h l d r a b k q e =
       let v : Basic = basicAt (decode g t .basic) i in
       let os : List Overflow = decode g t .overflow in
-      let m : lastFrom g (g .nob) os (v .head) ≡ l = ap (lastFrom g (g .nob) os) (sym a) ∙ sym b in
+      let m : lastFrom g i (g .nob) os (v .head) ≡ l = ap (lastFrom g i (g .nob) os) (sym a) ∙ sym b in
       let z : slotsIn g t r ≡ unpack g (overflowAt os l .link) (v .rest) =
       ap (slotsIn g t) (e ∙ ap (displacedRun g i) q) ∙ displaced-slots-in g t T i (overflowAt os l .link) il (link-lt g t T l k) in
       apart-run g t T r (slotsFrom g (g .nob) os h)
       ∙ ap₂ (λ (xs : List ℕ) (x : ℕ). noEntryTwice g (xs ++ slotsFrom g (g .nob) os x)) z a
       ∙ sym (ap (longFrom g os v) m ∙ rw (lt-ltb l (g .nob) k))
 
-  pub long-damaged : (h l : ℕ) → h ≡ basicAt (decode g t .basic) i .head → l ≡ lastFrom g (g .nob) (decode g t .overflow) h → g .nob ≤ l
-      → longApart g (decode g t .overflow) (basicAt (decode g t .basic) i) ≡ false
+  pub long-damaged : (h l : ℕ) → h ≡ basicAt (decode g t .basic) i .head → l ≡ lastFrom g i (g .nob) (decode g t .overflow) h → g .nob ≤ l
+      → longApart g (decode g t .overflow) i (basicAt (decode g t .basic) i) ≡ false
   unfolding longApart
   long-damaged h l a b k =
       let v : Basic = basicAt (decode g t .basic) i in
       let os : List Overflow = decode g t .overflow in
-      let m : lastFrom g (g .nob) os (v .head) ≡ l = ap (lastFrom g (g .nob) os) (sym a) ∙ sym b in
+      let m : lastFrom g i (g .nob) os (v .head) ≡ l = ap (lastFrom g i (g .nob) os) (sym a) ∙ sym b in
       ap (longFrom g os v) m ∙ rw (le-ltb l (g .nob) k)

@@ -1,4 +1,4 @@
--- The trail of a list is `follow` with its unused slots tested; that of the free chain is the chain with its zeros tested.
+-- The trail of a list is its own blocks, followed, with their unused slots tested; that of the free chain is the chain with its zeros tested.
 use mathlib.Core.Path.{_≡_, refl, sym, ap, _∙_}
 use mathlib.Core.Bool.{Bool, true, false, cond}
 use mathlib.Core.List.{List, [], _∷_}
@@ -13,7 +13,7 @@ use Rattle.laws.specs.Cases.{cases}
 use Rattle.laws.specs.Options.{nothing}
 use Rattle.settings.specs.declared.layout.Layout.{Layout}
 use Rattle.table.specs.State.{Overflow, overflowAt}
-use Rattle.table.specs.Follow.{cons?, follow, goOn, stepAt}
+use Rattle.table.specs.Follow.{cons?, follow, goOn, isOwn, ownBlocks, stepAt}
 use Rattle.table.specs.Check.{overflowUnused, freeZero, chainFrom}
 use Rattle.table_check.specs.Walk.{listStep, chainStep, tested, wayOn}
 use Rattle.table_check.proofs.Marks.{trail, blocksOn}
@@ -53,27 +53,46 @@ module _ (g : Layout) (os : List Overflow) where
   unused-full : (b : ℕ) → length (overflowAt os b .slots) ≡ g .sio → overflowAt os b .counter ≡ g .sio → overflowUnused g os b ≡ true
   unused-full b h e = ap allZero (drop-of-length-le (overflowAt os b .slots) {i = suc (overflowAt os b .counter)} (omega arith))
 
-  -- one block of a list
-  step-trail : (n b : ℕ) → length (overflowAt os b .slots) ≡ g .sio → (trace : ℕ → Option (List ℕ))
-      → ((c : ℕ) → trace c ≡ keep (overflowUnused g os) (follow g n os c)) → (s : Step) → Way (g .sio) (overflowAt os b .counter) (overflowAt os b .link) s
-      → blocksOn b (tested (overflowUnused g os b) s) trace ≡ keep (overflowUnused g os) (goOn s (b ∷ []) (λ c. cons? b (follow g n os c)))
-  step-trail n b h trace ih Last (ends l) = cases (overflowUnused g os b) (λ u. rw u) (λ u. rw u)
-  step-trail n b h trace ih (Further c) (goes e) =
-      ap (cons? b) (ih (overflowAt os b .link)) ∙ keep-cons (overflowUnused g os) b (unused-full b h e) (follow g n os (overflowAt os b .link))
-  step-trail n b h trace ih Damage (breaks l) = refl
+  module _ (i : ℕ) where
+    -- a list's own blocks are those of a test
+    own-keep : (o : Option (List ℕ)) → keep (isOwn i os) o ≡ ownBlocks i os o
+    own-keep none = refl
+    own-keep (some bs) = refl
 
-  pub list-trail : ((b : ℕ) → b < g .nob → length (overflowAt os b .slots) ≡ g .sio) → (n b : ℕ)
-      → trail g (wayOn g os false) n b ≡ keep (overflowUnused g os) (follow g n os b)
-  unfolding trail wayOn listStep
-  list-trail full zero b = refl
-  list-trail full (suc n) b =
-      cases (ltb b (g .nob))
-      (λ p. rw p
-      (step-trail n b (full b (ltb-true b (g .nob) p)) (trail g (wayOn g os false) n) (list-trail full n) (stepAt g os b)
-      (way (g .sio) (overflowAt os b .counter) (overflowAt os b .link))))
-      (λ p. rw p)
+    -- one block of list i
+    step-trail : (n b : ℕ) → length (overflowAt os b .slots) ≡ g .sio → (trace : ℕ → Option (List ℕ))
+        → ((c : ℕ) → trace c ≡ keep (overflowUnused g os) (keep (isOwn i os) (follow g n os c)))
+        → (s : Step) → Way (g .sio) (overflowAt os b .counter) (overflowAt os b .link) s
+        → blocksOn b (cond (isOwn i os b) (tested (overflowUnused g os b) s) Damage) trace
+        ≡ keep (overflowUnused g os) (keep (isOwn i os) (goOn s (b ∷ []) (λ c. cons? b (follow g n os c))))
+    step-trail n b h trace ih Last (ends l) =
+        cases (isOwn i os b) (λ o. cases (overflowUnused g os b) (λ u. rw (o, u)) (λ u. rw (o, u))) (λ o. rw o)
+    step-trail n b h trace ih (Further c) (goes e) =
+        let on = follow g n os (overflowAt os b .link) in
+        cases (isOwn i os b)
+        (λ o. rw o
+        (ap (cons? b) (ih (overflowAt os b .link))
+        ∙ keep-cons (overflowUnused g os) b (unused-full b h e) (keep (isOwn i os) on)
+        ∙ ap (keep (overflowUnused g os)) (keep-cons (isOwn i os) b o on)))
+        (λ o. rw o (ap (keep (overflowUnused g os)) (keep-not (isOwn i os) b o on)))
+    step-trail n b h trace ih Damage (breaks l) = cases (isOwn i os b) (λ o. rw o) (λ o. rw o)
 
-  pub chain-trail : (n b : ℕ) → trail g (wayOn g os true) n b ≡ keep (freeZero g os) (chainFrom g n os b)
+    own-trail : ((b : ℕ) → b < g .nob → length (overflowAt os b .slots) ≡ g .sio) → (n b : ℕ)
+        → trail g (wayOn g os false i) n b ≡ keep (overflowUnused g os) (keep (isOwn i os) (follow g n os b))
+    unfolding trail wayOn listStep
+    own-trail full zero b = refl
+    own-trail full (suc n) b =
+        cases (ltb b (g .nob))
+        (λ p. rw p
+        (step-trail n b (full b (ltb-true b (g .nob) p)) (trail g (wayOn g os false i) n) (own-trail full n) (stepAt g os b)
+        (way (g .sio) (overflowAt os b .counter) (overflowAt os b .link))))
+        (λ p. rw p)
+
+    pub list-trail : ((b : ℕ) → b < g .nob → length (overflowAt os b .slots) ≡ g .sio) → (n b : ℕ)
+        → trail g (wayOn g os false i) n b ≡ keep (overflowUnused g os) (ownBlocks i os (follow g n os b))
+    list-trail full n b = own-trail full n b ∙ ap (keep (overflowUnused g os)) (own-keep (follow g n os b))
+
+  pub chain-trail : (n b : ℕ) → trail g (wayOn g os true 0) n b ≡ keep (freeZero g os) (chainFrom g n os b)
   unfolding trail wayOn chainStep
   chain-trail zero b = refl
   chain-trail (suc n) b =

@@ -9,7 +9,7 @@ use Rattle.bits.specs.Put.{putField}
 use Rattle.settings.specs.declared.layout.Layout.{Layout}
 use Rattle.table.specs.State.{Overflow, overflowAt}
 use Rattle.table.specs.Check.{overflowUnused, freeZero}
-use Rattle.table.specs.Follow.{further, goOn, stepAt}
+use Rattle.table.specs.Follow.{further, goOn, isOwn, stepAt}
 use Rattle.table.specs.declared.step.Step.{Step}
 use Rattle.table.specs.declared.step.Step.the-variants.{Last, Further, Damage}
 
@@ -25,16 +25,17 @@ tested q (Further c) = Further c
 tested q Damage = Damage
 
 module _ (g : Layout) where
-  -- a block of a list: unused slots are zero
-  unfoldable pub listStep : List Overflow → ℕ → Step
-  listStep os b = tested (overflowUnused g os b) (stepAt g os b)
+  -- a block of list i: it has the list's number, and its unused slots are zero
+  unfoldable pub listStep : List Overflow → ℕ → ℕ → Step
+  listStep os i b = cond (isOwn i os b) (tested (overflowUnused g os b) (stepAt g os b)) Damage
 
   -- a block of the free chain: zero but for its link; the last one links to itself
   unfoldable pub chainStep : List Overflow → ℕ → Step
   chainStep os b = cond (freeZero g os b) (cond (eqb (overflowAt os b .link) b) Last (further (overflowAt os b .link))) Damage
 
-  unfoldable pub wayOn : List Overflow → Bool → ℕ → Step
-  wayOn os chain b = cond chain (chainStep os b) (listStep os b)
+  -- in the free chain, or in list i
+  unfoldable pub wayOn : List Overflow → Bool → ℕ → ℕ → Step
+  wayOn os chain i b = cond chain (chainStep os b) (listStep os i b)
 
   -- the marks m once the blocks from b on are marked, at most n of them; none where a block is no block, is marked already or is damaged
   unfoldable pub walk : (ℕ → Step) → ℕ → ℕ → List ℕ → Option (List ℕ)

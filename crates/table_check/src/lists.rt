@@ -39,10 +39,10 @@ fn short_sound(t: &[u8], g: Layout, i: ListNumber, n: usize) -> bool
 // The entries of list i, which overflows.
 fn long_apart(t: &[u8], g: Layout, i: ListNumber) -> bool
     requires { ⌜ Table g (now t) × (i .0 < g .lists) ⌝ }
-    ensures { λ r. ⌜ r ≡ longApart g (decode g (now (t .entry)) .overflow) (basicAt (decode g (now (t .entry)) .basic) (i .0)) ⌝ }
+    ensures { λ r. ⌜ r ≡ longApart g (decode g (now (t .entry)) .overflow) (i .0) (basicAt (decode g (now (t .entry)) .basic) (i .0)) ⌝ }
 {
     let first = BlockNumber(basic_head(t, g, i));
-    let Last::Block(last) = follow(t, g, first) else {
+    let Last::Block(last) = follow(t, g, i, first) else {
         return false;
     };
     let run = displaced_run(g, i, overflow_link(t, g, last));
@@ -55,7 +55,7 @@ fn long_apart(t: &[u8], g: Layout, i: ListNumber) -> bool
 // List i, whose blocks are marked.
 fn list_sound(t: &[u8], g: Layout, i: ListNumber, marks: &mut [u8]) -> bool
     requires { ⌜ Table g (now t) × (i .0 < g .lists) × (g .nob ≤ 8 * length (now marks)) ⌝ }
-    ensures { λ r. ⌜ listWalk g (decode g (now (t .entry)) .overflow) (basicAt (decode g (now (t .entry)) .basic) (i .0)) (now (marks .entry)) ≡ found r (now (marks .exit)) ⌝ }
+    ensures { λ r. ⌜ listWalk g (decode g (now (t .entry)) .overflow) (i .0) (basicAt (decode g (now (t .entry)) .basic) (i .0)) (now (marks .entry)) ≡ found r (now (marks .exit)) ⌝ }
 {
     let n = basic_counter(t, g, i);
     if n <= g.sib {
@@ -65,7 +65,7 @@ fn list_sound(t: &[u8], g: Layout, i: ListNumber, marks: &mut [u8]) -> bool
         return false;
     }
     let first = BlockNumber(basic_head(t, g, i));
-    if !mark_from(t, g, false, first, marks) {
+    if !mark_from(t, g, false, i, first, marks) {
         return false;
     }
     long_apart(t, g, i)
@@ -73,10 +73,10 @@ fn list_sound(t: &[u8], g: Layout, i: ListNumber, marks: &mut [u8]) -> bool
 
 pub(crate) fn lists_sound(t: &[u8], g: Layout, marks: &mut [u8]) -> bool
     requires { ⌜ Table g (now t) × (g .nob ≤ 8 * length (now marks)) ⌝ }
-    ensures { λ r. ⌜ listsWalk g (decode g (now (t .entry)) .overflow) (decode g (now (t .entry)) .basic) (now (marks .entry)) ≡ found r (now (marks .exit)) ⌝ }
+    ensures { λ r. ⌜ listsWalk g (decode g (now (t .entry))) (g .lists) (now (marks .entry)) ≡ found r (now (marks .exit)) ⌝ }
 {
     let mut i: usize = 0;
-    while i < g.lists {
+    while i < g.lists as usize {
         if !list_sound(t, g, ListNumber(i), marks) {
             return false;
         }
@@ -95,5 +95,5 @@ pub(crate) fn chain_sound(t: &[u8], g: Layout, marks: &mut [u8]) -> bool
     if first.0 == none {
         return true;
     }
-    mark_from(t, g, true, BlockNumber(first.0), marks)
+    mark_from(t, g, true, ListNumber(0), BlockNumber(first.0), marks)
 }

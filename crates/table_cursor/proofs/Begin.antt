@@ -13,14 +13,14 @@ use Rattle.keys.specs.declared.ListNumber.{ListNumber}
 use Rattle.table.specs.State.{State, basicAt, overflowAt, unpack, ownSlots}
 use Rattle.table.specs.Decode.{decode}
 use Rattle.table.specs.Table.{Table}
-use Rattle.table.specs.Follow.{follow, contentOver, content, stepOf}
+use Rattle.table.specs.Follow.{follow, ownBlocks, contentOver, content, stepOf}
 use Rattle.table.specs.theory.Ways.{Way, way}
 use Rattle.table.specs.theory.Ways as ways
 use Rattle.table.specs.declared.step.Step.{Step}
 use Rattle.table.specs.declared.step.Step.the-variants as step
-use Rattle.table_read.specs.Steps.{slotsIn, basicRun, displacedRun, overflowRun, lastFrom, Followed, Overflows, gatherFrom}
+use Rattle.table_read.specs.Steps.{slotsIn, basicRun, displacedRun, overflowRun, lastFrom, Followed, OwnFollowed, Overflows, gatherFrom}
 use Rattle.table_read.specs.theory.Reads.{slots-length, basic-run-within, displaced-run-within, overflow-run-within, basic-slots-in, displaced-slots-in, link-lt}
-use Rattle.table_read.specs.theory.Walks.{OneStep, one-step, content-short, content-high, content-over, content-long}
+use Rattle.table_read.specs.theory.Walks.{OneStep, one-step, ended-own, content-short, content-high, content-over, content-long}
 use Rattle.table_read.specs.theory.Finds.{block-last, block-more}
 use Rattle.table_read.specs.declared.slots.Slots.{Slots}
 use Rattle.plain_set.specs.Rebuilt.{slotsOf}
@@ -36,7 +36,7 @@ nil-of : {A : Type 0} (xs : List A) → length xs ≡ 0 → xs ≡ []
 nil-of [] e = refl
 nil-of (x ∷ xs) e = absurd (omega arith)
 
--- ---- a list that is not damaged: its counter is at most sib + 1, and its overflow blocks can be followed
+-- ---- a list that is not damaged: its counter is at most sib + 1, and its overflow blocks can be followed and are its own
 
 module _ (g : Layout) (st : State) (i : ℕ) (whole : content g st i ≢ none) where
   counter-low : basicAt (st .basic) i .counter ≤ suc (g .sib)
@@ -46,17 +46,17 @@ module _ (g : Layout) (st : State) (i : ℕ) (whole : content g st i ≢ none) w
       pick (yes p) = p
       pick (no p) = absurd (whole (content-high g st i (omega arith)))
 
-  over-followed : basicAt (st .basic) i .counter ≡ suc (g .sib) → Followed g (g .nob) (st .overflow) (basicAt (st .basic) i .head)
-  over-followed h = pick (follow g (g .nob) (st .overflow) (basicAt (st .basic) i .head)) refl
+  over-followed : basicAt (st .basic) i .counter ≡ suc (g .sib) → OwnFollowed g i (g .nob) (st .overflow) (basicAt (st .basic) i .head)
+  over-followed h = pick (ownBlocks i (st .overflow) (follow g (g .nob) (st .overflow) (basicAt (st .basic) i .head))) refl
     where
-      pick : (o : Option (List ℕ)) → follow g (g .nob) (st .overflow) (basicAt (st .basic) i .head) ≡ o
-          → Followed g (g .nob) (st .overflow) (basicAt (st .basic) i .head)
+      pick : (o : Option (List ℕ)) → ownBlocks i (st .overflow) (follow g (g .nob) (st .overflow) (basicAt (st .basic) i .head)) ≡ o
+          → OwnFollowed g i (g .nob) (st .overflow) (basicAt (st .basic) i .head)
       pick none e = absurd (whole (content-over g st i h ∙ ap (contentOver g (basicAt (st .basic) i) (st .overflow)) e))
       pick (some bs) e = record { blocks = bs; are = e }
 
   -- a counter above sib says that there are overflow blocks
   pub over : (c h : ℕ) → c ≡ basicAt (st .basic) i .counter → g .sib < c → h ≡ basicAt (st .basic) i .head
-      → Overflows g st i h × Followed g (g .nob) (st .overflow) h
+      → Overflows g st i h × OwnFollowed g i (g .nob) (st .overflow) h
   over c h ec high eh =
       let n : basicAt (st .basic) i .counter ≡ suc (g .sib) = omega (arith, counter-low) in
       (record { counter = n; head = eh }, rw eh (over-followed n))
@@ -83,13 +83,13 @@ module _ (g : Layout) (t : List ℕ) (T : Table g t) (i : ListNumber) (l : i .0 
       }
 
   -- a list with overflow blocks, from block h to block z
-  module _ (h : BlockNumber) (z d : ℕ) (over : Overflows g (decode g t) (i .0) (h .0)) (f : Followed g (g .nob) (decode g t .overflow) (h .0))
-      (last-is : z ≡ lastFrom g (g .nob) (decode g t .overflow) (h .0)) (link-is : d ≡ overflowAt (decode g t .overflow) z .link) where
+  module _ (h : BlockNumber) (z d : ℕ) (over : Overflows g (decode g t) (i .0) (h .0)) (f : OwnFollowed g (i .0) (g .nob) (decode g t .overflow) (h .0))
+      (last-is : z ≡ lastFrom g (i .0) (g .nob) (decode g t .overflow) (h .0)) (link-is : d ≡ overflowAt (decode g t .overflow) z .link) where
     list-slots : slotsOf (content g (decode g t) (i .0)) ≡ unpack g d (basicAt (decode g t .basic) (i .0) .rest) ++ gatherFrom g (g .nob) (decode g t .overflow) (h .0)
     list-slots =
-        let k : Followed g (g .nob) (decode g t .overflow) (basicAt (decode g t .basic) (i .0) .head) = rw (over .head) at f in
-        let w : lastFrom g (g .nob) (decode g t .overflow) (basicAt (decode g t .basic) (i .0) .head) ≡ z =
-        sym (last-is ∙ ap (lastFrom g (g .nob) (decode g t .overflow)) (over .head)) in
+        let k : OwnFollowed g (i .0) (g .nob) (decode g t .overflow) (basicAt (decode g t .basic) (i .0) .head) = rw (over .head) at f in
+        let w : lastFrom g (i .0) (g .nob) (decode g t .overflow) (basicAt (decode g t .basic) (i .0) .head) ≡ z =
+        sym (last-is ∙ ap (lastFrom g (i .0) (g .nob) (decode g t .overflow)) (over .head)) in
         ap slotsOf (content-long g (decode g t) (i .0) (over .counter) k)
         ∙ ap₂ (λ (x y : ℕ). unpack g x (basicAt (decode g t .basic) (i .0) .rest) ++ gatherFrom g (g .nob) (decode g t .overflow) y)
         (ap (λ (x : ℕ). overflowAt (decode g t .overflow) x .link) w ∙ sym link-is) (sym (over .head))
@@ -97,12 +97,12 @@ module _ (g : Layout) (t : List ℕ) (T : Table g t) (i : ListNumber) (l : i .0 
     pub begins-long : (run : Slots) → run ≡ displacedRun g (i .0) d → Begins g t (i .0) (slotsOf (content g (decode g t) (i .0))) (cursor i 0 run (step.Further h))
     unfolding slotsAhead displacedRun
     begins-long run er =
-        let low : z < g .nob = omega (arith, last-within g (decode g t .overflow) (g .nob) (h .0) f) in
+        let low : z < g .nob = omega (arith, last-within g (decode g t .overflow) (i .0) (g .nob) (h .0) f) in
         let fits : d < 2 ^ g .link = rw link-is (link-lt g t T z low) in
         let n : run .count ≡ g .sib = ap (λ (b : Slots). b .count) er in
         let a : slotsIn g t run ≡ unpack g d (basicAt (decode g t .basic) (i .0) .rest) = ap (slotsIn g t) er ∙ displaced-slots-in g t T (i .0) d l fits in
         record {
-          good = record { list = l; run = rw er (displaced-run-within g t T (i .0) d l fits); behind = f };
+          good = record { list = l; run = rw er (displaced-run-within g t T (i .0) d l fits); behind = ended-own g (decode g t .overflow) (i .0) f };
           list = refl;
           passed = refl;
           slots = ap (_++ gatherFrom g (g .nob) (decode g t .overflow) (h .0)) a ∙ sym list-slots;

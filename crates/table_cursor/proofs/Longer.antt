@@ -9,8 +9,8 @@ use Rattle.laws.specs.Options.{nothing}
 use Rattle.settings.specs.declared.layout.Layout.{Layout}
 use Rattle.table.specs.State.{Overflow}
 use Rattle.table.specs.Follow.{cons?, follow}
-use Rattle.table_read.specs.Steps.{lastIn, lastFrom, Followed, gatherIn, gatherFrom}
-use Rattle.table_read.specs.theory.Walks.{follow-here, follow-on, Chain, ends, more, Walk, lost, ended, walk, last-low}
+use Rattle.table_read.specs.Steps.{lastIn, lastFrom, Followed, OwnFollowed, gatherIn, gatherFrom}
+use Rattle.table_read.specs.theory.Walks.{follow-here, follow-on, Chain, ends, more, Walk, lost, ended, walk, own-walk, last-low}
 
 module _ (g : Layout) (os : List Overflow) where
   chain-follow : (n : ℕ) {b : ℕ} {cs : List ℕ} → Chain g os b cs → length cs < n → follow g n os b ≡ some (b ∷ cs)
@@ -34,6 +34,6 @@ module _ (g : Layout) (os : List Overflow) where
   last-as n b lost bs e = nothing e
   last-as n b (ended c l) bs e = last-low g os c
 
-  pub last-within : (n b : ℕ) → Followed g n os b → lastFrom g n os b < g .nob
+  pub last-within : (i n b : ℕ) → OwnFollowed g i n os b → lastFrom g i n os b < g .nob
   unfolding lastFrom
-  last-within n b f = last-as n b (walk g os n b) (f .blocks) (f .are)
+  last-within i n b f = last-as n b (own-walk g os i n b) (f .blocks) (f .are)

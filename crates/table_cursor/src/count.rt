@@ -7,13 +7,13 @@ use settings::Layout;
 use table::Step;
 use table_read::blocks::basic_counter;
 use table_read::blocks::basic_head;
-use table_read::blocks::overflow_front;
+use table_read::blocks::owned_front;
 use table_read::blocks::step_of;
 ghost use mathlib.Core.Path.{_≡_};
 ghost use Prim.Native.Nat.{_<_};
 ghost use Rattle.table.specs.Decode.{decode};
 ghost use Rattle.table.specs.Table.{Table};
-ghost use Rattle.table.specs.Follow.{follow, content};
+ghost use Rattle.table.specs.Follow.{follow, ownBlocks, content};
 ghost use Rattle.table_cursor.specs.Survey.{blocksLength, listLength, Surveys};
 
 // How many entries a list has; a damaged one has no end.
@@ -22,10 +22,10 @@ pub enum Length {
     Damage,
 }
 
-// How many entries the overflow blocks have from `first` on.
-fn blocks_length(t: &[u8], g: Layout, first: BlockNumber) -> Length
+// How many entries the overflow blocks of list i have, from `first` on; each must have the list's number.
+fn blocks_length(t: &[u8], g: Layout, i: ListNumber, first: BlockNumber) -> Length
     requires { ⌜ Table g (now t) ⌝ }
-    ensures { λ r. ⌜ r ≡ blocksLength g (decode g (now (t .entry)) .overflow) (follow g (g .nob) (decode g (now (t .entry)) .overflow) (first .0)) ⌝ }
+    ensures { λ r. ⌜ r ≡ blocksLength g (decode g (now (t .entry)) .overflow) (ownBlocks (i .0) (decode g (now (t .entry)) .overflow) (follow g (g .nob) (decode g (now (t .entry)) .overflow) (first .0))) ⌝ }
 {
     let mut b = first;
     let mut n: usize = 0;
@@ -34,9 +34,12 @@ fn blocks_length(t: &[u8], g: Layout, first: BlockNumber) -> Length
         if b.0 >= g.nob {
             return Length::Damage;
         }
-        let front = overflow_front(t, g, b);
-        let last = front.counter;
-        match step_of(front, g.sio) {
+        let fields = owned_front(t, g, b);
+        if fields.owner.0 != i.0 {
+            return Length::Damage;
+        }
+        let last = fields.front.counter;
+        match step_of(fields.front, g.sio) {
             Step::Last => return Length::Entries(n + last + 1),
             Step::Further(next) => b = next,
             Step::Damage => return Length::Damage,
@@ -59,7 +62,7 @@ fn list_length(t: &[u8], g: Layout, i: ListNumber) -> Length
     if c > g.sib + 1 {
         return Length::Damage;
     }
-    let Length::Entries(n) = blocks_length(t, g, BlockNumber(basic_head(t, g, i))) else {
+    let Length::Entries(n) = blocks_length(t, g, i, BlockNumber(basic_head(t, g, i))) else {
         return Length::Damage;
     };
     Length::Entries(g.sib + n)
@@ -74,7 +77,7 @@ pub fn survey(t: &[u8], g: Layout, n: u64) -> Survey
     let mut list: usize = 0;
     let mut skip: usize = 0;
     let mut i: usize = 0;
-    while i < g.lists {
+    while i < g.lists as usize {
         let Length::Entries(k) = list_length(t, g, ListNumber(i)) else {
             return Survey::Damage;
         };

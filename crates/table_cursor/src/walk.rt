@@ -30,7 +30,7 @@ ghost use Rattle.keys.specs.Key.{keyOf};
 ghost use Rattle.table.specs.Decode.{decode};
 ghost use Rattle.table.specs.Table.{Table};
 ghost use Rattle.table.specs.Follow.{content};
-ghost use Rattle.table_read.specs.Steps.{SlotsWithin, slotsIn, Followed, Overflows, gatherFrom};
+ghost use Rattle.table_read.specs.Steps.{SlotsWithin, slotsIn, Followed, OwnFollowed, Overflows, gatherFrom};
 ghost use Rattle.plain_set.specs.Rebuilt.{slotsOf};
 ghost use Rattle.plain_set.specs.Nth.{Undamaged};
 ghost use Rattle.table_cursor.specs.Ahead.{Leads, pairsFrom, ahead, Good, Before, Answers};
@@ -71,7 +71,7 @@ fn next_from(t: &[u8], g: Layout, i: usize) -> Cursor
     ensures { λ r. ⌜ Reaches g (now (t .entry)) (λ s. pairsFrom s (now (t .entry)) i) r ⌝ }
 {
     let mut j = i;
-    while j < g.lists {
+    while j < g.lists as usize {
         let c = enter(t, g, ListNumber(j));
         if 0 < c.run.count {
             return c;
@@ -182,7 +182,7 @@ pub(crate) fn at(t: &[u8], g: Layout, i: ListNumber, n: usize) -> Cursor
 
 // The same of a list whose overflow blocks start at `first`.
 fn at_long(t: &[u8], g: Layout, i: ListNumber, first: BlockNumber, n: usize) -> Cursor
-    requires { ⌜ Table g (now t) × (i .0 < g .lists) × Overflows g (decode g (now t)) (i .0) (first .0) × Followed g (g .nob) (decode g (now t) .overflow) (first .0) × (n ≤ length (slotsOf (content g (decode g (now t)) (i .0)))) ⌝ }
+    requires { ⌜ Table g (now t) × (i .0 < g .lists) × Overflows g (decode g (now t)) (i .0) (first .0) × OwnFollowed g (i .0) (g .nob) (decode g (now t) .overflow) (first .0) × (n ≤ length (slotsOf (content g (decode g (now t)) (i .0)))) ⌝ }
     ensures { λ r. ⌜ Before g (now (t .entry)) (i .0) n r ⌝ }
 {
     let mut c = enter_long(t, g, i, first);
@@ -226,11 +226,11 @@ fn enter(t: &[u8], g: Layout, i: ListNumber) -> Cursor
 // The cursor at the start of list i, whose overflow blocks start at `first`. The displaced bits are fetched from the last
 // of them; there is one, since the list is not damaged.
 fn enter_long(t: &[u8], g: Layout, i: ListNumber, first: BlockNumber) -> Cursor
-    requires { ⌜ Table g (now t) × (i .0 < g .lists) × Overflows g (decode g (now t)) (i .0) (first .0) × Followed g (g .nob) (decode g (now t) .overflow) (first .0) ⌝ }
+    requires { ⌜ Table g (now t) × (i .0 < g .lists) × Overflows g (decode g (now t)) (i .0) (first .0) × OwnFollowed g (i .0) (g .nob) (decode g (now t) .overflow) (first .0) ⌝ }
     ensures { λ r. ⌜ Begins g (now (t .entry)) (i .0) (slotsOf (content g (decode g (now (t .entry))) (i .0))) r ⌝ }
 {
     let behind = Step::Further(first);
-    let Last::Block(last) = follow(t, g, first) else {
+    let Last::Block(last) = follow(t, g, i, first) else {
         return Cursor {
             list: i,
             passed: 0,

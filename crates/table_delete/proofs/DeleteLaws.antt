@@ -131,11 +131,11 @@ module _ (g : Layout) (t : List ℕ) (T : Table g t) where
       (λ p. let n = eqb-false f (g .nob) p in rw p (omega (arith, T .proper .link-holds)))
 
   pub stored-free-block : (j f v : ℕ) → j < g .nob → f ≡ decode g t .free → v ≡ linkFree g f j
-      → (a u : List ℕ) → Stored g t a (overOverflow j (λ o. emptyBlock g v) (decode g t)) → u ≡ freePut g a j → Stored g t u (freed g j (decode g t))
+      → (a u : List ℕ) → Stored g t a (overOverflow j (λ o. emptyBlock g v 0) (decode g t)) → u ≡ freePut g a j → Stored g t u (freed g j (decode g t))
   stored-free-block j f v l ef ev a u s eu =
       stored-as (freed g j (decode g t))
       (stored-then (withFree j) s (stored-free g a (s .table) u j (omega (arith, T .proper .free-holds)) eu))
-      (ap (λ (x : ℕ). withFree j (overOverflow j (λ o. emptyBlock g x) (decode g t))) (ev ∙ ap (λ (x : ℕ). linkFree g x j) ef))
+      (ap (λ (x : ℕ). withFree j (overOverflow j (λ o. emptyBlock g x 0) (decode g t))) (ev ∙ ap (λ (x : ℕ). linkFree g x j) ef))
 
 -- an emptied block: its displaced bits go back, and it is freed
 pub stored-further : {g : Layout} {t a : List ℕ} (i l : ℕ) (p : Before) (b : BlockNumber) (n v : ℕ) → p ≡ prior.Block b → n ≡ g .sio - 1

@@ -38,13 +38,13 @@ use Rattle.table_delete.specs.DeleteSteps.{removalOf, removal, Removed}
 pub record Found (g : Layout) (st : State) (i e l n : ℕ) : Type 0 where
   pub some-compared : 0 < n
   pub placed : Placed g st i (n - 1)
-  pub goes : deleteIn g st i e ≡ answered (said word.Gone l n) (removal g st i (n - 1))
+  pub goes : deleteIn g st i e ≡ answered (said word.Gone l n 0) (removal g st i (n - 1))
 
 module _ (g : Layout) (st : State) (i e : ℕ) where
-  pub held-goes : (l n : ℕ) → findIn g st i e ≡ said word.Held l n → Found g st i e l n
+  pub held-goes : (l n x : ℕ) → findIn g st i e ≡ said word.Held l n x → Found g st i e l n
   unfolding deleteIn deleteFollowed removal
-  held-goes l n q =
-      let w = find-held g st i e l n q in
+  held-goes l n x q =
+      let w = find-held g st i e l n x q in
       let es = w .followed .slots in
       let k : n - 1 ≡ position g e es = omega (arith, w .place) in
       let m = ltb-true (position g e es) (length es) (w .held) in
@@ -53,8 +53,8 @@ module _ (g : Layout) (st : State) (i e : ℕ) where
         placed = record { followed = w .followed; is = w .is; within = omega arith };
         goes =
             rw (w .is, w .held)
-            (ap₂ (λ (x y : ℕ). answered (said word.Gone x y) (removalOf g st i (position g e es) (some (w .followed)))) (w .label) (w .place)
-            ∙ ap (λ (y : ℕ). answered (said word.Gone l n) (removalOf g st i y (some (w .followed)))) (sym k));
+            (ap₂ (λ (x y : ℕ). answered (said word.Gone x y 0) (removalOf g st i (position g e es) (some (w .followed)))) (w .label) (w .place)
+            ∙ ap (λ (y : ℕ). answered (said word.Gone l n 0) (removalOf g st i y (some (w .followed)))) (sym k));
       }
 
   -- what find answers else, delete does too
@@ -75,8 +75,8 @@ module _ {s : Settings} {t : List ℕ} {key : Key} {g : Layout} {v : Sought} (S 
   unfolding listCall
   call-is = S .call-is delete
 
-  pub sought-held : (l n : ℕ) → v .found ≡ said word.Held l n → Found g (decode g t) list sought l n
-  sought-held l n h = held-goes g (decode g t) list sought l n (sym (S .found-is) ∙ h)
+  pub sought-held : (l n x : ℕ) → v .found ≡ said word.Held l n x → Found g (decode g t) list sought l n
+  sought-held l n x h = held-goes g (decode g t) list sought l n x (sym (S .found-is) ∙ h)
 
   pub other-gives : (a : Answer) → v .found ≡ a → Other a → Gives (keyCall s t delete key) a t
   other-gives a e h =
@@ -86,16 +86,16 @@ module _ {s : Settings} {t : List ℕ} {key : Key} {g : Layout} {v : Sought} (S 
   -- the entry is the n-th, and was removed, unless its block could not be freed
   module _ (y : Bytes t) (l n : ℕ) (F : Found g (decode g t) list sought l n) (u : List ℕ) (r : Bool) (R : Removed g t u list (n - 1) r) where
     ends : (x : Bool) → r ≡ x
-        → keyCall s t delete key ≡ replied g t (answered (said word.Gone l n) (cond x (done (R .state)) damage))
+        → keyCall s t delete key ≡ replied g t (answered (said word.Gone l n 0) (cond x (done (R .state)) damage))
     ends x e =
         call-is
         ∙ ap (replied g t)
-        (F .goes ∙ ap (answered (said word.Gone l n)) (R .is ∙ ap (λ (b : Bool). cond b (done (R .state)) damage) e))
+        (F .goes ∙ ap (answered (said word.Gone l n 0)) (R .is ∙ ap (λ (b : Bool). cond b (done (R .state)) damage) e))
 
     stored : (x : Bool) → r ≡ x → Stored g t u (cond x (R .state) (decode g t))
     stored x e = stored-as (cond x (R .state) (decode g t)) (R .stored) (ap (λ (b : Bool). cond b (R .state) (decode g t)) e)
 
-    pub gone-gives : r ≡ true → Gives (keyCall s t delete key) (said word.Gone l n) u
+    pub gone-gives : r ≡ true → Gives (keyCall s t delete key) (said word.Gone l n 0) u
     gone-gives e = rw (ends true e) (record { answer = refl; bytes = stored-written (S .table) y (stored true e) })
 
     pub damage-gives : r ≡ false → Gives (keyCall s t delete key) (answer.Refused refusal.Damage) u

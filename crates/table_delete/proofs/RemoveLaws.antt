@@ -20,7 +20,7 @@ use Rattle.table_read.specs.BlockSlots.{blocksFrom, Reaches}
 use Rattle.table.specs.Done.{Done, damage, done}
 use Rattle.table.specs.Store.{slotIn, storeAt}
 use Rattle.table_read.specs.theory.Walks.{last-low, content-short}
-use Rattle.table_read.specs.theory.BlockSlots.{chain-low, Chained, last-few, gather-some, content-chained, long-full, long-ends, long-blocks}
+use Rattle.table_read.specs.theory.BlockSlots.{chain-low, Chained, last-few, gather-some, content-chained, long-full, long-ends, long-blocks, long-own}
 use Rattle.table.specs.theory.Formed.{basics}
 use Rattle.table_store.specs.Stores.{basicCounterPut, slotPut, Stored}
 use Rattle.table_store.specs.Places.{Placed, storeFrom}
@@ -81,7 +81,7 @@ module _ (g : Layout) (st : State) (i p : ℕ) (P : Placed g st i p) where
     long-is : removal g st i p ≡ shrink g filled i (first ∷ others)
     unfolding removal
     long-is =
-        ap (removalOf g st i p) (content-chained g st i (long-full g st i (P .followed) (P .is) h) blocks)
+        ap (removalOf g st i p) (content-chained g st i (long-full g st i (P .followed) (P .is) h) blocks (long-own g st i (P .followed) (P .is) h))
         ∙ ap (λ (x : ℕ). shrink g (storeAt g st i (first ∷ others) p x) i (first ∷ others))
         (getD-end body tail (gather-some g (st .overflow) sz (blocks .chain)) ∙ last-slot g (st .overflow) sz (blocks .chain))
         ∙ ap (λ (u : State). shrink g u i (first ∷ others)) (store-is g st i sz (blocks .chain) (blocks .are) p (lastSlot st last) inside)

@@ -100,6 +100,7 @@ pub fn delete_sought(t: &mut [u8], s: Settings, g: Layout, key: Key, v: Sought) 
             word,
             label,
             compared,
+            slot: _,
         } => match word {
             Word::Held => {
                 let list = place.list;
@@ -108,6 +109,7 @@ pub fn delete_sought(t: &mut [u8], s: Settings, g: Layout, key: Key, v: Sought) 
                         word: Word::Gone,
                         label: label,
                         compared: compared,
+                        slot: 0,
                     };
                 }
                 Answer::Refused(Refusal::Damage)

@@ -98,7 +98,7 @@ fn free_block(t: &mut [u8], g: Layout, j: BlockNumber)
     ensures { λ _. ⌜ Stored g (now (t .entry)) (now (t .exit)) (freed g (j .0) (decode g (now (t .entry)))) ⌝ }
 {
     let f = free_start(t, g);
-    empty_block(t, g, j, link_free(g, f, j).0);
+    empty_block(t, g, j, link_free(g, f, j).0, ListNumber(0));
     put_free_start(t, g, FreeStart(j.0));
 }
 

@@ -20,7 +20,7 @@ use Rattle.table_read.specs.Steps.{lastFrom}
 use Rattle.table_read.specs.BlockSlots.{blocksFrom, blockSlot, blockSlotIn, Reaches}
 use Rattle.table.specs.Done.{Done, damage, done, Answered, unchanged, answered}
 use Rattle.table_read.specs.theory.Walks.{last-low, content-short}
-use Rattle.table_read.specs.theory.BlockSlots.{Chained, gather-some, last-block-slot, long-full, long-ends, long-blocks, long-length}
+use Rattle.table_read.specs.theory.BlockSlots.{Chained, gather-some, last-block-slot, long-full, long-ends, long-blocks, long-own, long-length}
 use Rattle.table_read.specs.theory.Reads.{unpack-length}
 use Rattle.table_read.specs.declared.lists.BlockSlot.{BlockSlot}
 use Rattle.table.specs.declared.answers.Answer.{Answer}
@@ -42,9 +42,9 @@ pub record Takes (g : Layout) (st : State) (f n : ℕ) : Type 0 where
   pub met : (bs : List ℕ) (y : Done) → ltb 0 (occurs f bs) ≡ true → taking g st bs y ≡ damage
 
 -- the list goes on in this block, if it is none of its own
-pub extended-to : {g : Layout} {st : State} {f n : ℕ} → Takes g st f n → (bs : List ℕ) (d x : ℕ) (linkTo : ℕ → State → State)
-    → ltb 0 (occurs f bs) ≡ false → extended g st bs d x linkTo ≡ done (taken g f n d x (linkTo f st))
-extended-to k bs d x linkTo e = k .goes bs _ e ∙ rw (k .next, k .first)
+pub extended-to : {g : Layout} {st : State} {f n : ℕ} → Takes g st f n → (i : ℕ) (bs : List ℕ) (d x : ℕ) (linkTo : ℕ → State → State)
+    → ltb 0 (occurs f bs) ≡ false → extended g st i bs d x linkTo ≡ done (taken g i f n d x (linkTo f st))
+extended-to k i bs d x linkTo e = k .goes bs _ e ∙ rw (k .next, k .first)
 
 module _ (g : Layout) (st : State) where
   abbrev link : ℕ
@@ -205,7 +205,7 @@ module _ (g : Layout) (st : State) (i n : ℕ) (R : Readable g st i n) where
             record {
               full = long-full g st i (R .followed) (R .is) many;
               head = refl;
-              last = rw (blocks many .found);
+              last = rw (blocks many .found, long-own g st i (R .followed) (R .is) many);
               low = last-low g (st .overflow) (blocks many .chain);
             },
             refl,

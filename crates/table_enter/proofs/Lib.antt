@@ -1,4 +1,5 @@
 -- Laws that only the proofs of this crate use.
 mod FreeLaws
+mod EndLaws
 mod AppendLaws
 mod EnterLaws

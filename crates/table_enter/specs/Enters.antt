@@ -3,7 +3,7 @@ use Prim.Native.Nat.{ℕ, suc, _<_}
 use mathlib.Core.Path.{_≡_}
 use mathlib.Core.Bool.{cond}
 use mathlib.Core.List.{List}
-use mathlib.Core.Option.{some}
+use mathlib.Core.Option.{Option, none, some}
 use lib.ListN.{length}
 use lib.Dec.{eqb, ltb}
 use Rattle.keys.specs.Key.{keyNumber}
@@ -14,7 +14,7 @@ use Rattle.table.specs.Decode.{decode}
 use Rattle.table.specs.Table.{Table}
 use Rattle.table.specs.Follow.{Content, content}
 use Rattle.table.specs.Take.{nextFree}
-use Rattle.table.specs.Enter.{append}
+use Rattle.table.specs.Enter.{append, endNumber}
 use Rattle.table_read.specs.Steps.{lastFrom}
 use Rattle.table.specs.Done.{Done, Answered, answered, replied}
 use Rattle.table.specs.Check.{blocksOf}
@@ -48,8 +48,16 @@ module _ (g : Layout) where
   unfoldable pub appendTo : State → ℕ → Item → Done
   appendTo st i v = append g st i (blocksOf (content g st i)) (slotFor g v)
 
+  -- the number of the slot that is appended to list i
+  abbrev pub endIn : State → ℕ → Option Content → ℕ
+  endIn st i none = 0
+  endIn st i (some w) = endNumber g st i w
+
+  unfoldable pub numberFor : State → ℕ → ℕ
+  numberFor st i = endIn st i (content g st i)
+
   abbrev pub appending : State → ℕ → Item → Answered
-  appending st i v = answered (said word.Added (v .label) (v .compared)) (appendTo st i v)
+  appending st i v = answered (said word.Added (v .label) (v .compared) (numberFor st i)) (appendTo st i v)
 
 pub record Appendable (g : Layout) (t : List ℕ) (i : ℕ) (v : Item) : Type 0 where
   pub table : Table g t
@@ -64,7 +72,7 @@ Appended g t u i v r = Gives (replied g t (appending g (decode g t) i v)) r u
 pub record EndsIn (g : Layout) (st : State) (i h j : ℕ) : Type 0 where
   pub full : basicAt (st .basic) i .counter ≡ suc (g .sib)
   pub head : h ≡ basicAt (st .basic) i .head
-  pub last : j ≡ lastFrom g (g .nob) (st .overflow) h
+  pub last : j ≡ lastFrom g i (g .nob) (st .overflow) h
   pub low : j < g .nob
 
 -- list i can be followed to its end, and has n entries

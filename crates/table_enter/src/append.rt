@@ -13,6 +13,8 @@ use table_read::blocks::free_start;
 use table_read::blocks::overflow_link;
 use table_read::lists::block_slot_of;
 use table_read::lists::list_has_block;
+use table_read::numbers::basic_number;
+use table_read::numbers::overflow_number;
 use table_read::places::basic_slot;
 use table_read::places::overflow_slot;
 use table_store::empty_block;
@@ -42,13 +44,15 @@ pub struct Item {
 }
 
 impl Item {
-    fn added(self) -> Answer
-        ensures { λ r. ⌜ r ≡ said word.Added (self .label) (self .compared) ⌝ }
+    // In the slot of that number.
+    fn added(self, slot: u64) -> Answer
+        ensures { λ r. ⌜ r ≡ said word.Added (self .label) (self .compared) slot ⌝ }
     {
         Answer::Said {
             word: Word::Added,
             label: self.label,
             compared: self.compared,
+            slot: slot,
         }
     }
 }
@@ -91,13 +95,21 @@ fn first_free(t: &[u8], g: Layout) -> Free
     }
 }
 
-// Block f becomes a last block with one slot. The displaced bits are its link.
-fn take(t: &mut [u8], g: Layout, f: BlockNumber, displaced: usize, next: FreeStart, v: Item)
-    requires { ⌜ Table g (now t) × (f .0 < g .nob) × (displaced < 2 ^ g .link) × (next .0 ≤ g .nob) × Slotted g (keyNumber (v .entry)) (v .label) ⌝ }
-    ensures { λ _. ⌜ Stored g (now (t .entry)) (now (t .exit)) (taken g (f .0) (next .0) displaced (slotFor g v) (decode g (now (t .entry)))) ⌝ }
+// Block f becomes the last block of list i, with one slot. The displaced bits are its link.
+fn take(
+    t: &mut [u8],
+    g: Layout,
+    i: ListNumber,
+    f: BlockNumber,
+    displaced: usize,
+    next: FreeStart,
+    v: Item,
+)
+    requires { ⌜ Table g (now t) × (i .0 < g .lists) × (f .0 < g .nob) × (displaced < 2 ^ g .link) × (next .0 ≤ g .nob) × Slotted g (keyNumber (v .entry)) (v .label) ⌝ }
+    ensures { λ _. ⌜ Stored g (now (t .entry)) (now (t .exit)) (taken g (i .0) (f .0) (next .0) displaced (slotFor g v) (decode g (now (t .entry)))) ⌝ }
 {
     let entry = v.entry;
-    empty_block(t, g, f, displaced);
+    empty_block(t, g, f, displaced, i);
     put_slot(
         t,
         overflow_slot(g, f, SlotNumber(0)),
@@ -126,7 +138,7 @@ fn append_room(t: &mut [u8], g: Layout, i: ListNumber, c: usize, v: Item) -> Ans
         v.label,
     );
     put_basic_counter(t, g, i, c + 1);
-    v.added()
+    v.added(basic_number(g, i, SlotNumber(c)))
 }
 
 // The basic block is full, and gets its first overflow block.
@@ -138,8 +150,8 @@ fn append_first(t: &mut [u8], g: Layout, i: ListNumber, v: Item) -> Answer
         Free::Block { number, next } => {
             let displaced = basic_head(t, g, i);
             put_basic_front(t, g, i, g.sib + 1, number.0);
-            take(t, g, number, displaced, next, v);
-            v.added()
+            take(t, g, i, number, displaced, next, v);
+            v.added(overflow_number(g, number, SlotNumber(0)))
         }
         Free::Refused(why) => Answer::Refused(why),
     }
@@ -164,8 +176,8 @@ fn append_more(
             }
             let displaced = overflow_link(t, g, j);
             put_overflow_front(t, g, j, g.sio, number.0);
-            take(t, g, number, displaced, next, v);
-            v.added()
+            take(t, g, i, number, displaced, next, v);
+            v.added(overflow_number(g, number, SlotNumber(0)))
         }
         Free::Refused(why) => Answer::Refused(why),
     }
@@ -196,7 +208,7 @@ fn append_overflow(
             v.label,
         );
         put_overflow_counter(t, g, j, n);
-        return v.added();
+        return v.added(overflow_number(g, j, SlotNumber(n)));
     }
     append_more(t, g, i, h, j, v)
 }

@@ -33,6 +33,7 @@ pub fn enter_sought(t: &mut [u8], s: Settings, g: Layout, key: Key, v: Sought, l
             word,
             label: _,
             compared,
+            slot: _,
         } => match word {
             Word::None => {
                 let list = place.list;

@@ -17,6 +17,8 @@ use table_read::lists::basic_run;
 use table_read::lists::displaced_run;
 use table_read::lists::follow;
 use table_read::lists::overflow_run;
+use table_read::numbers::basic_number;
+use table_read::numbers::overflow_number;
 use table_read::slots::confirm;
 use table_read::slots::label_at;
 use table_read::slots::looked_at;
@@ -31,31 +33,35 @@ ghost use Rattle.keys.specs.Key.{keyNumber};
 ghost use Rattle.table.specs.Decode.{decode};
 ghost use Rattle.table.specs.Table.{Table};
 ghost use Rattle.table.specs.Find.{findIn};
+ghost use Rattle.table.specs.Numbers.{basicNumber};
+ghost use Rattle.table_read.specs.BlockSlots.{numberFrom};
 ghost use Rattle.table_read.specs.Steps.{slotsIn, basicRun, Followed, Overflows, gatherFrom, findFrom};
 ghost use Rattle.table.specs.Answer.{said};
 ghost use Rattle.table.specs.declared.answers.Word.the-variants as word;
 
-// Held, with the label of val bits from bit `at` on; n entries were compared.
-fn held(t: &[u8], at: usize, val: usize, n: usize) -> Answer
+// Held, with the label of val bits from bit `at` on, in the slot of that number; n entries were compared.
+fn held(t: &[u8], at: usize, val: usize, n: usize, slot: u64) -> Answer
     requires { ⌜ (at + val ≤ 8 * length (now t)) × (val ≤ 32) × (n ≤ 2 ^ 21) ⌝ }
-    ensures { λ r. ⌜ r ≡ said word.Held (field (now (t .entry)) at val) n ⌝ }
+    ensures { λ r. ⌜ r ≡ said word.Held (field (now (t .entry)) at val) n slot ⌝ }
 {
     Answer::Said {
         word: Word::Held,
         label: bits::get(t, at, val) as u32,
         compared: n as u32,
+        slot: slot,
     }
 }
 
 // Not there, among n entries.
 fn not_held(n: usize) -> Answer
     requires { ⌜ n ≤ 2 ^ 21 ⌝ }
-    ensures { λ r. ⌜ r ≡ said word.None 0 n ⌝ }
+    ensures { λ r. ⌜ r ≡ said word.None 0 n 0 ⌝ }
 {
     Answer::Said {
         word: Word::None,
         label: 0,
         compared: n as u32,
+        slot: 0,
     }
 }
 
@@ -63,7 +69,7 @@ fn not_held(n: usize) -> Answer
 // stand before them.
 fn find_blocks(t: &[u8], g: Layout, first: BlockNumber, entry: Key, k: usize) -> Answer
     requires { ⌜ Table g (now t) × Followed g (g .nob) (decode g (now t) .overflow) (first .0) × (keyNumber entry < 2 ^ g .bie) × (k ≤ 255) ⌝ }
-    ensures { λ r. ⌜ r ≡ findFrom g (keyNumber entry) (gatherFrom g (g .nob) (decode g (now (t .entry)) .overflow) (first .0)) k ⌝ }
+    ensures { λ r. ⌜ r ≡ findFrom g (numberFrom g (g .nob) (decode g (now (t .entry)) .overflow) (first .0)) (keyNumber entry) (gatherFrom g (g .nob) (decode g (now (t .entry)) .overflow) (first .0)) k ⌝ }
 {
     let mut b = first;
     let mut n = k;
@@ -73,7 +79,13 @@ fn find_blocks(t: &[u8], g: Layout, first: BlockNumber, entry: Key, k: usize) ->
         let run = overflow_run(g, b, front.counter);
         let j = scan(&t[..], run, g.sio, g.slot, g.bie, entry);
         if j.0 < run.count {
-            return held(t, run.start + j.0 * g.slot + g.bie, g.val, n + (j.0 + 1));
+            return held(
+                t,
+                run.start + j.0 * g.slot + g.bie,
+                g.val,
+                n + (j.0 + 1),
+                overflow_number(g, b, j),
+            );
         }
         n += run.count;
         let Step::Further(next) = step_of(front, g.sio) else {
@@ -89,7 +101,7 @@ fn find_blocks(t: &[u8], g: Layout, first: BlockNumber, entry: Key, k: usize) ->
 // a miss ends before anything is kept that only a hit needs.
 fn find_short(t: &[u8], g: Layout, i: ListNumber, count: usize, entry: Key) -> Answer
     requires { ⌜ Table g (now t) × (i .0 < g .lists) × (count ≤ g .sib) × (keyNumber entry < 2 ^ g .bie) ⌝ }
-    ensures { λ r. ⌜ r ≡ findFrom g (keyNumber entry) (slotsIn g (now (t .entry)) (basicRun g (i .0) count)) 0 ⌝ }
+    ensures { λ r. ⌜ r ≡ findFrom g (basicNumber g (i .0)) (keyNumber entry) (slotsIn g (now (t .entry)) (basicRun g (i .0) count)) 0 ⌝ }
 {
     let run = basic_run(g, i, count);
     let n = looked_at(count, g.sib);
@@ -99,7 +111,13 @@ fn find_short(t: &[u8], g: Layout, i: ListNumber, count: usize, entry: Key) -> A
     }
     let j = confirm(&t[..], run, from, g.slot, g.bie, entry);
     if j.0 < count {
-        return held(t, run.start + j.0 * g.slot + g.bie, g.val, j.0 + 1);
+        return held(
+            t,
+            run.start + j.0 * g.slot + g.bie,
+            g.val,
+            j.0 + 1,
+            basic_number(g, i, j),
+        );
     }
     not_held(j.0)
 }
@@ -110,7 +128,7 @@ fn find_long(t: &[u8], g: Layout, i: ListNumber, first: BlockNumber, entry: Key)
     requires { ⌜ Table g (now t) × (i .0 < g .lists) × Overflows g (decode g (now t)) (i .0) (first .0) × (keyNumber entry < 2 ^ g .bie) ⌝ }
     ensures { λ r. ⌜ r ≡ findIn g (decode g (now (t .entry))) (i .0) (keyNumber entry) ⌝ }
 {
-    let Last::Block(last) = follow(t, g, first) else {
+    let Last::Block(last) = follow(t, g, i, first) else {
         return Answer::Refused(Refusal::Damage);
     };
     let displaced = overflow_link(t, g, last);
@@ -121,6 +139,7 @@ fn find_long(t: &[u8], g: Layout, i: ListNumber, first: BlockNumber, entry: Key)
             word: Word::Held,
             label: label_at(t, run, run.start + j.0 * g.slot + g.bie, g.val),
             compared: (j.0 + 1) as u32,
+            slot: basic_number(g, i, j),
         };
     }
     find_blocks(t, g, first, entry, g.sib)

@@ -21,7 +21,7 @@ use Rattle.settings.specs.declared.layout.Layout.{Layout}
 use Rattle.table.specs.Arrays.{tabulate, padded, cleared}
 use Rattle.table.specs.State.{emptyBasic, emptyBlock, restBits}
 use Rattle.table.specs.Updates.{withLink}
-use Rattle.table.specs.Decode.{blockAt, basicSlots, linkAt, overflowSlots, readBasic, readOverflow, decode, written}
+use Rattle.table.specs.Decode.{blockAt, basicSlots, linkAt, ownerAt, overflowSlots, readBasic, readOverflow, decode, written}
 use Rattle.table.specs.New.{newOverflow, newState, newBytes}
 use Rattle.table.specs.Table.{Only}
 use Rattle.table_make.specs.NewSteps.{linked}
@@ -70,13 +70,14 @@ module _ (g : Layout) (F : Proper g) where
 
   pub read-link : (t : List ℕ) (j v : ℕ) → j < g .nob → g .bits ≤ 8 * length t → v < 2 ^ g .link
       → readOverflow g (putField t (linkAt g j) (g .link) v) j ≡ withLink v (readOverflow g t j)
-  unfolding readOverflow linkAt overflowSlots
+  unfolding readOverflow linkAt ownerAt overflowSlots
   read-link t j v h l f =
       let at = blockAt (g .overflow) j + g .overflow .counter in
       let e : at + g .link ≤ 8 * length t = omega (arith, F .overflow-is, over-ends g F j h) in
       λ k. record {
         counter = put-out t at (g .link) v (blockAt (g .overflow) j) (g .overflow .counter) e (inl (omega arith)) k;
         link = put-same t at (g .link) v e f k;
+        owner = put-out t at (g .link) v (blockAt (g .overflow) j + (g .overflow .counter + g .link)) (g .owner) e (inr (omega arith)) k;
         slots =
             tab-ext (g .sio) (λ q. field t (overflowSlots g j + q * g .slot) (g .slot)) (λ q. field (putField t at (g .link) v) (overflowSlots g j + q * g .slot) (g .slot))
             (λ q m. put-out t at (g .link) v (overflowSlots g j + q * g .slot) (g .slot) e (inr (omega arith))) k;
@@ -157,8 +158,8 @@ module _ (g : Layout) (F : Proper g) where
         rest = zero-field (g .bytes) t (blockAt (g .basic) i + g .basic .counter + g .link) (restBits g) (omega arith) k;
       }
 
-  zero-overflow : (t : List ℕ) (j : ℕ) → j < g .nob → readOverflow g (cleared (g .bytes) t) j ≡ emptyBlock g 0
-  unfolding readOverflow linkAt
+  zero-overflow : (t : List ℕ) (j : ℕ) → j < g .nob → readOverflow g (cleared (g .bytes) t) j ≡ emptyBlock g 0 0
+  unfolding readOverflow linkAt ownerAt
   zero-overflow t j h =
       let a = over-ends g F j h in
       let b = F .overflow-is in
@@ -166,6 +167,7 @@ module _ (g : Layout) (F : Proper g) where
       λ k. record {
         counter = zero-field (g .bytes) t (blockAt (g .overflow) j) (g .overflow .counter) (omega arith) k;
         link = zero-field (g .bytes) t (blockAt (g .overflow) j + g .overflow .counter) (g .link) (omega arith) k;
+        owner = zero-field (g .bytes) t (blockAt (g .overflow) j + (g .overflow .counter + g .link)) (g .owner) (omega arith) k;
         slots =
             (tab-ext (g .sio) (λ q. 0) (λ q. field (cleared (g .bytes) t) (overflowSlots g j + q * g .slot) (g .slot))
             (λ q m. zero-field (g .bytes) t (overflowSlots g j + q * g .slot) (g .slot) (omega (arith, slot-ends g F j q m)))

@@ -9,6 +9,7 @@ use Rattle.settings.specs.declared.layout.Layout.{Layout}
 use Rattle.table.specs.State.{Overflow}
 use Rattle.table.specs.Follow.{follow, gather}
 use Rattle.table.specs.Take.{occurs}
+use Rattle.table.specs.Numbers.{blockNumber}
 use Rattle.table_read.specs.Steps.{Followed}
 use Rattle.table_read.specs.declared.lists.BlockSlot.{BlockSlot}
 
@@ -29,6 +30,10 @@ module _ (g : Layout) where
   -- whether f is one of the blocks from b on, of which at most n are followed
   unfoldable pub hasBlock : ℕ → List Overflow → ℕ → ℕ → Bool
   hasBlock n os b f = ltb 0 (occurs f (blocksIn (follow g n os b)))
+
+  -- the number of the slot in place q of the blocks from b on, of which at most n are followed
+  unfoldable pub numberFrom : ℕ → List Overflow → ℕ → ℕ → ℕ
+  numberFrom n os b q = blockNumber g (blocksIn (follow g n os b)) q
 
   -- place q of the blocks, counted through them
   abbrev pub blockSlotIn : List ℕ → ℕ → BlockSlot

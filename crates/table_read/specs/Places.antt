@@ -12,13 +12,13 @@ pub record Fields (b : Blocks) (i w : ℕ) : Type 0 where
   pub near : blockAt b i + b .bits ≤ mostBits
   pub fits : b .counter + w ≤ b .bits
 
--- the bytes t have block i, with a link of w bits
+-- the bytes t have block i, with w bits of link and owner
 pub record BlockIn (t : List ℕ) (b : Blocks) (i w : ℕ) : Type 0 where
   pub fields : Fields b i w
   pub room : blockAt b i + b .bits ≤ 8 * length t
   pub some : 0 < b .counter
   pub short : b .counter ≤ 16
-  pub link : w ≤ 16
+  pub numbers : w ≤ 32
 
 module _ (g : Layout) where
   -- slot p of a block

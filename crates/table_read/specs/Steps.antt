@@ -13,7 +13,7 @@ use Rattle.settings.specs.declared.layout.Layout.{Layout}
 use Rattle.table.specs.Arrays.{tabulate}
 use Rattle.table.specs.State.{Overflow, State, basicAt}
 use Rattle.table.specs.Decode.{basicSlots, overflowSlots}
-use Rattle.table.specs.Follow.{lastOf, follow, gather}
+use Rattle.table.specs.Follow.{lastOf, follow, gather, ownBlocks}
 use Rattle.table.specs.Find.{position, isHeld, labelAt}
 use Rattle.table_read.specs.declared.slots.Slots.{Slots}
 use Rattle.table_read.specs.declared.lists.Last.{Last}
@@ -74,9 +74,9 @@ module _ (g : Layout) where
   lastIn (some []) = g .nob
   lastIn (some (c ∷ cs)) = lastOf c cs
 
-  -- the last block of the list that goes on at block b, where at most n blocks are followed
-  unfoldable pub lastFrom : ℕ → List Overflow → ℕ → ℕ
-  lastFrom n os b = lastIn (follow g n os b)
+  -- the last block of list i, which goes on at block b, where at most n blocks are followed
+  unfoldable pub lastFrom : ℕ → ℕ → List Overflow → ℕ → ℕ
+  lastFrom i n os b = lastIn (ownBlocks i os (follow g n os b))
 
   -- block b as a list's last; nob and above is no block
   unfoldable pub lastAs : ℕ → Last
@@ -86,6 +86,11 @@ module _ (g : Layout) where
   pub record Followed (n : ℕ) (os : List Overflow) (b : ℕ) : Type 0 where
     pub blocks : List ℕ
     pub are : follow g n os b ≡ some blocks
+
+  -- the same of list i, and all its blocks have its number
+  pub record OwnFollowed (i n : ℕ) (os : List Overflow) (b : ℕ) : Type 0 where
+    pub blocks : List ℕ
+    pub are : ownBlocks i os (follow g n os b) ≡ some blocks
 
   -- list i goes on in overflow blocks, at block `first`
   pub record Overflows (st : State) (i first : ℕ) : Type 0 where
@@ -100,6 +105,9 @@ module _ (g : Layout) where
   unfoldable pub gatherFrom : ℕ → List Overflow → ℕ → List ℕ
   gatherFrom n os b = gatherIn os (follow g n os b)
 
-  -- what find answers of the entry e in the slots es, where k slots stand before them and do not hold it
-  unfoldable pub findFrom : ℕ → List ℕ → ℕ → Answer
-  findFrom e es k = cond (isHeld g e es) (said word.Held (labelAt g e es) (k + suc (position g e es))) (said word.None 0 (k + length es))
+  -- what find answers of the entry e in the slots es, where k slots stand before them and do not hold it, and `number` numbers
+  -- their places
+  unfoldable pub findFrom : (ℕ → ℕ) → ℕ → List ℕ → ℕ → Answer
+  findFrom number e es k =
+      cond (isHeld g e es) (said word.Held (labelAt g e es) (k + suc (position g e es)) (number (position g e es)))
+      (said word.None 0 (k + length es) 0)

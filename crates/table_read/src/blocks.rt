@@ -1,4 +1,4 @@
-// What the first fields of blocks say: the free start, counters and links.
+// What the first fields of blocks say: the free start, counters, links and owners.
 use crate::places::counter_at;
 use crate::places::link_at;
 use bits::pow;
@@ -23,6 +23,12 @@ ghost use Rattle.table_read.specs.Places.{BlockIn};
 pub struct Front {
     pub counter: usize,
     pub link: usize,
+}
+
+// The first fields of an overflow block: its front, and the list that it belongs to.
+pub struct Owned {
+    pub front: Front,
+    pub owner: ListNumber,
 }
 
 // The first bits of block i, in one load.
@@ -50,6 +56,29 @@ pub fn overflow_front(t: &[u8], g: Layout, j: BlockNumber) -> Front
     ensures { λ r. ⌜ (r .counter ≡ overflowAt (decode g (now (t .entry)) .overflow) (j .0) .counter) × (r .link ≡ overflowAt (decode g (now (t .entry)) .overflow) (j .0) .link) ⌝ }
 {
     front_of(t, g.overflow, j.0, g.link)
+}
+
+// The counter, the link and the owner of overflow block j, in one load.
+pub fn owned_front(t: &[u8], g: Layout, j: BlockNumber) -> Owned
+    requires { ⌜ Table g (now t) × (j .0 < g .nob) ⌝ }
+    ensures { λ r. ⌜ (r .front .counter ≡ overflowAt (decode g (now (t .entry)) .overflow) (j .0) .counter) × (r .front .link ≡ overflowAt (decode g (now (t .entry)) .overflow) (j .0) .link) × (r .owner .0 ≡ overflowAt (decode g (now (t .entry)) .overflow) (j .0) .owner) ⌝ }
+{
+    let width = g.owner as usize;
+    let owner = pow(width);
+    let link = pow(g.link);
+    let all = bits::get_short(
+        t,
+        counter_at(g.overflow, j.0),
+        g.overflow.counter + (g.link + width),
+    );
+    let both = all / owner;
+    Owned {
+        front: Front {
+            counter: (both / link) as usize,
+            link: (both % link) as usize,
+        },
+        owner: ListNumber((all % owner) as usize),
+    }
 }
 
 // A field of at most 57 bits, and perhaps of none, as an index.

@@ -1,5 +1,6 @@
 // A list's blocks: following them to the last, and the slots of each.
 use crate::blocks::overflow_front;
+use crate::blocks::owned_front;
 use crate::blocks::step_of;
 use crate::places::basic_slots;
 use crate::places::overflow_slots;
@@ -24,11 +25,11 @@ pub enum Last {
     Damage,
 }
 
-// The last block of the list whose overflow blocks start at `first`. At most nob blocks are followed, so
-// that it ends on any bytes.
-pub fn follow(t: &[u8], g: Layout, first: BlockNumber) -> Last
+// The last block of list i, whose overflow blocks start at `first`; each must have the list's number. At most nob blocks are
+// followed, so that it ends on any bytes.
+pub fn follow(t: &[u8], g: Layout, i: ListNumber, first: BlockNumber) -> Last
     requires { ⌜ Table g (now t) ⌝ }
-    ensures { λ r. ⌜ r ≡ lastAs g (lastFrom g (g .nob) (decode g (now (t .entry)) .overflow) (first .0)) ⌝ }
+    ensures { λ r. ⌜ r ≡ lastAs g (lastFrom g (i .0) (g .nob) (decode g (now (t .entry)) .overflow) (first .0)) ⌝ }
 {
     let mut b = first;
     let mut k: usize = 0;
@@ -36,8 +37,11 @@ pub fn follow(t: &[u8], g: Layout, first: BlockNumber) -> Last
         if b.0 >= g.nob {
             return Last::Damage;
         }
-        let front = overflow_front(t, g, b);
-        match step_of(front, g.sio) {
+        let fields = owned_front(t, g, b);
+        if fields.owner.0 != i.0 {
+            return Last::Damage;
+        }
+        match step_of(fields.front, g.sio) {
             Step::Last => return Last::Block(b),
             Step::Further(next) => b = next,
             Step::Damage => return Last::Damage,

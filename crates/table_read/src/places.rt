@@ -1,5 +1,5 @@
-// Where the fields of a block stand (clauses 4.4, 4.5): counter, link and slots, each behind the one before. A basic block has
-// no link; where its list overflows, a block's number stands in the first L bits of its slots, so at the same place.
+// Where the fields of a block stand (clauses 4.4, 4.5): counter, link, owner and slots, each behind the one before. A basic block has
+// no link and no owner; where its list overflows, a block's number stands in the first L bits of its slots, so at the same place.
 // The functions over `Blocks` take the number of a list or of an overflow block alike; those over a layout say which.
 use keys::BlockNumber;
 use keys::ListNumber;
@@ -28,20 +28,20 @@ pub fn link_at(b: Blocks, i: usize) -> usize
     counter_at(b, i) + b.counter
 }
 
-// Where the slots begin, behind a link of `link` bits.
-fn slots_at(b: Blocks, i: usize, link: usize) -> usize
-    requires { ⌜ Fields b i link ⌝ }
-    ensures { λ r. ⌜ r ≡ blockAt b i + (b .counter + link) ⌝ }
+// Where the slots begin, behind `numbers` bits of link and owner.
+fn slots_at(b: Blocks, i: usize, numbers: usize) -> usize
+    requires { ⌜ Fields b i numbers ⌝ }
+    ensures { λ r. ⌜ r ≡ blockAt b i + (b .counter + numbers) ⌝ }
 {
-    link_at(b, i) + link
+    link_at(b, i) + numbers
 }
 
 // Where slot p begins.
-fn slot_at(b: Blocks, i: usize, link: usize, slot: usize, p: usize) -> usize
-    requires { ⌜ Fields b i (link + suc p * slot) ⌝ }
-    ensures { λ r. ⌜ r ≡ blockAt b i + (b .counter + link) + p * slot ⌝ }
+fn slot_at(b: Blocks, i: usize, numbers: usize, slot: usize, p: usize) -> usize
+    requires { ⌜ Fields b i (numbers + suc p * slot) ⌝ }
+    ensures { λ r. ⌜ r ≡ blockAt b i + (b .counter + numbers) + p * slot ⌝ }
 {
-    slots_at(b, i, link) + p * slot
+    slots_at(b, i, numbers) + p * slot
 }
 
 // The slots of basic block i.
@@ -57,7 +57,7 @@ pub fn overflow_slots(g: Layout, j: BlockNumber) -> usize
     requires { ⌜ Proper g × (j .0 < g .nob) ⌝ }
     ensures { λ r. ⌜ r ≡ overflowSlots g (j .0) ⌝ }
 {
-    slots_at(g.overflow, j.0, g.link)
+    slots_at(g.overflow, j.0, g.link + g.owner as usize)
 }
 
 // Slot p of basic block i.
@@ -73,5 +73,5 @@ pub fn overflow_slot(g: Layout, j: BlockNumber, p: SlotNumber) -> usize
     requires { ⌜ Proper g × (j .0 < g .nob) × (p .0 < g .sio) ⌝ }
     ensures { λ r. ⌜ r ≡ overflowSlot g (j .0) (p .0) ⌝ }
 {
-    slot_at(g.overflow, j.0, g.link, g.slot, p.0)
+    slot_at(g.overflow, j.0, g.link + g.owner as usize, g.slot, p.0)
 }

@@ -12,24 +12,22 @@ use borrow.Author.Tests.{lt-ltb, le-ltb, ltb-true, ltb-false}
 use Rattle.laws.specs.Cases.{cases}
 use Rattle.settings.specs.Sizes.{bie, lists}
 use Rattle.settings.specs.Layout.{layoutOf}
-use Rattle.keys.specs.Key.{keyNumber, keyOf, rebuilt}
+use Rattle.keys.specs.Key.{keyNumber}
 use Rattle.keys.specs.theory.Keys.{number-key}
 use Rattle.settings.specs.declared.settings.Settings.{Settings}
 use Rattle.keys.specs.declared.Key.{Key}
 use Rattle.settings.specs.declared.layout.Layout.{Layout}
-use Rattle.settings.specs.declared.refusal.Refusal.the-variants as refusal
 use Rattle.table.specs.State.{Basic, Overflow, State, basicAt, overflowAt, unpack, emptyBasic}
 use Rattle.table.specs.Decode.{decode}
 use Rattle.table.specs.Table.{Table}
-use Rattle.table.specs.Follow.{Content, contentOf, content}
+use Rattle.table.specs.Follow.{Content, mkContent, follow, ownBlocks, contentOf, content}
 use Rattle.table.specs.Record.{recordFrom, recordIn}
-use Rattle.table_read.specs.Steps.{slotsIn, basicRun, displacedRun, overflowRun, lastFrom, Followed, Overflows, gatherFrom}
-use Rattle.table_record.specs.RecordSteps.{slotNth, nthOf, nthIn, Bounded, recordsFrom}
+use Rattle.table_read.specs.Steps.{slotsIn, basicRun, displacedRun, overflowRun, lastFrom, Followed, OwnFollowed, Overflows, gatherFrom}
+use Rattle.table_record.specs.RecordSteps.{slotNth, nthOf, nthIn, Bounded, onNth, recordsFrom}
 use Rattle.table_read.specs.theory.Reads.{slots-length, unpack-length, basic-slots-in, displaced-slots-in, link-lt}
-use Rattle.table_read.specs.theory.Walks.{one-step, followed, content-short, content-bad, content-long, OneStep}
+use Rattle.table_read.specs.theory.Walks.{one-step, followed, ended-own, content-short, content-bad, content-long, OneStep}
 use Rattle.table_read.specs.theory.Finds.{block-last, block-more}
 use Rattle.table_read.specs.declared.slots.Slots.{Slots}
-use Rattle.table.specs.declared.answers.RecordAnswer.{RecordAnswer}
 use Rattle.table.specs.declared.answers.RecordAnswer.the-variants as answer
 use Rattle.table_record.specs.declared.Nth.{Nth}
 use Rattle.table_record.specs.declared.Nth.the-variants as nth
@@ -112,32 +110,42 @@ module _ (g : Layout) (t : List ℕ) (T : Table g t) (k b c : ℕ) (run : Slots)
 
 -- ---- a list's slots
 
-module _ (g : Layout) (t : List ℕ) (T : Table g t) (i n : ℕ) (l : i < g .lists) where
-  pub nth-damaged : content g (decode g t) i ≡ none → nth.Damage ≡ nthIn g (content g (decode g t) i) n
+module _ (g : Layout) (t : List ℕ) (T : Table g t) (i : ℕ) (l : i < g .lists) where
+  pub nth-damaged : (n : ℕ) → content g (decode g t) i ≡ none → nth.Damage ≡ nthIn g (content g (decode g t) i) n
   unfolding nthIn
-  nth-damaged e = sym (ap (λ (o : Option Content). nthIn g o n) e)
+  nth-damaged n e = sym (ap (λ (o : Option Content). nthIn g o n) e)
 
   -- those of a list without overflow blocks
-  pub nth-short : (run : Slots) (c : ℕ) → c ≡ basicAt (decode g t .basic) i .counter → c ≤ g .sib → run ≡ basicRun g i c
+  pub nth-short : (n : ℕ) (run : Slots) (c : ℕ) → c ≡ basicAt (decode g t .basic) i .counter → c ≤ g .sib → run ≡ basicRun g i c
       → nthOf g (slotsIn g t run) n ≡ nthIn g (content g (decode g t) i) n
   unfolding nthIn
-  nth-short run c ec low er =
+  nth-short n run c ec low er =
       let k : basicAt (decode g t .basic) i .counter ≤ g .sib = omega arith in
       ap (λ (b : Slots). nthOf g (slotsIn g t b) n) (er ∙ ap (basicRun g i) ec)
       ∙ ap (λ (es : List ℕ). nthOf g es n) (basic-slots-in g t T i (basicAt (decode g t .basic) i .counter) l k)
       ∙ sym (ap (λ (o : Option Content). nthIn g o n) (content-short g (decode g t) i k))
 
   -- those of a list whose overflow blocks start at h and end with z
-  module _ (h z : ℕ) (over : Overflows g (decode g t) i h) (last-is : z ≡ lastFrom g (g .nob) (decode g t .overflow) h) where
-    last-at : lastFrom g (g .nob) (decode g t .overflow) (basicAt (decode g t .basic) i .head) ≡ z
-    last-at = sym (last-is ∙ ap (lastFrom g (g .nob) (decode g t .overflow)) (over .head))
+  module _ (h z : ℕ) (over : Overflows g (decode g t) i h) (last-is : z ≡ lastFrom g i (g .nob) (decode g t .overflow) h) where
+    last-at : lastFrom g i (g .nob) (decode g t .overflow) (basicAt (decode g t .basic) i .head) ≡ z
+    last-at = sym (last-is ∙ ap (lastFrom g i (g .nob) (decode g t .overflow)) (over .head))
 
-    pub nth-unended : g .nob ≤ z → nth.Damage ≡ nthIn g (content g (decode g t) i) n
-    nth-unended bad = nth-damaged (content-bad g (decode g t) i (over .counter) (omega (arith, last-at)))
+    pub list-unended : g .nob ≤ z → content g (decode g t) i ≡ none
+    list-unended bad = content-bad g (decode g t) i (over .counter) (omega (arith, last-at))
 
     module _ (sound : z < g .nob) where
+      own-at : OwnFollowed g i (g .nob) (decode g t .overflow) (basicAt (decode g t .basic) i .head)
+      own-at = followed g (decode g t .overflow) i (g .nob) (basicAt (decode g t .basic) i .head) (omega (arith, last-at))
+
+      pub list-own : OwnFollowed g i (g .nob) (decode g t .overflow) h
+      list-own =
+          record {
+            blocks = own-at .blocks;
+            are = ap (λ (b : ℕ). ownBlocks i (decode g t .overflow) (follow g (g .nob) (decode g t .overflow) b)) (over .head) ∙ own-at .are;
+          }
+
       pub list-followed : Followed g (g .nob) (decode g t .overflow) h
-      list-followed = followed g (decode g t .overflow) (g .nob) h (omega arith)
+      list-followed = ended-own g (decode g t .overflow) i list-own
 
       abbrev first : List ℕ
       first = unpack g (overflowAt (decode g t .overflow) z .link) (basicAt (decode g t .basic) i .rest)
@@ -145,38 +153,39 @@ module _ (g : Layout) (t : List ℕ) (T : Table g t) (i n : ℕ) (l : i < g .lis
       first-length : length first ≡ g .sib
       first-length = unpack-length g (overflowAt (decode g t .overflow) z .link) (basicAt (decode g t .basic) i .rest)
 
-      nth-list : nthIn g (content g (decode g t) i) n ≡ nthOf g (first ++ gatherFrom g (g .nob) (decode g t .overflow) h) n
-      unfolding nthIn
-      nth-list =
-          let f = followed g (decode g t .overflow) (g .nob) (basicAt (decode g t .basic) i .head) (omega (arith, last-at)) in
-          ap (λ (o : Option Content). nthIn g o n) (content-long g (decode g t) i (over .counter) f)
-          ∙ ap₂ (λ (x y : ℕ). nthOf g (unpack g (overflowAt (decode g t .overflow) x .link) (basicAt (decode g t .basic) i .rest) ++ gatherFrom g (g .nob) (decode g t .overflow) y) n) last-at (sym (over .head))
+      pub list-content : content g (decode g t) i ≡ some (mkContent (list-own .blocks) (first ++ gatherFrom g (g .nob) (decode g t .overflow) h))
+      unfolding list-own
+      list-content =
+          content-long g (decode g t) i (over .counter) own-at
+          ∙ ap₂
+          (λ (x y : ℕ). some (mkContent (own-at .blocks) (unpack g (overflowAt (decode g t .overflow) x .link) (basicAt (decode g t .basic) i .rest) ++ gatherFrom g (g .nob) (decode g t .overflow) y)))
+          last-at
+          (sym (over .head))
 
-      pub nth-displaced : (run : Slots) (d : ℕ) → d ≡ overflowAt (decode g t .overflow) z .link → run ≡ displacedRun g i d → n < g .sib
+      nth-list : (n : ℕ) → nthIn g (content g (decode g t) i) n ≡ nthOf g (first ++ gatherFrom g (g .nob) (decode g t .overflow) h) n
+      unfolding nthIn
+      nth-list n = ap (λ (o : Option Content). nthIn g o n) list-content
+
+      pub nth-displaced : (n : ℕ) (run : Slots) (d : ℕ) → d ≡ overflowAt (decode g t .overflow) z .link → run ≡ displacedRun g i d → n < g .sib
           → nthOf g (slotsIn g t run) n ≡ nthIn g (content g (decode g t) i) n
-      nth-displaced run d ed er low =
+      nth-displaced n run d ed er low =
           ap (λ (b : Slots). nthOf g (slotsIn g t b) n) (er ∙ ap (displacedRun g i) ed)
           ∙ ap (λ (es : List ℕ). nthOf g es n) (displaced-slots-in g t T i (overflowAt (decode g t .overflow) z .link) l (link-lt g t T z sound))
-          ∙ sym (nth-list ∙ nth-first g first _ n (omega (arith, first-length)))
+          ∙ sym (nth-list n ∙ nth-first g first _ n (omega (arith, first-length)))
 
-      pub nth-behind : g .sib ≤ n → nthOf g (gatherFrom g (g .nob) (decode g t .overflow) h) (n - g .sib) ≡ nthIn g (content g (decode g t) i) n
-      nth-behind high =
+      pub nth-behind : (n : ℕ) → g .sib ≤ n
+          → nthOf g (gatherFrom g (g .nob) (decode g t .overflow) h) (n - g .sib) ≡ nthIn g (content g (decode g t) i) n
+      nth-behind n high =
           sym
-          (nth-list
+          (nth-list n
           ∙ nth-second g first _ n (omega (arith, first-length))
           ∙ ap (λ (k : ℕ). nthOf g (gatherFrom g (g .nob) (decode g t .overflow) h) (n - k)) first-length)
 
 -- ---- the lists in a row
 
 module _ (s : Settings) where
-  -- what slot n of list i comes to, and else the lists behind it
-  abbrev pub onNth : ℕ → Nth → (ℕ → RecordAnswer) → RecordAnswer
-  onNth i (nth.Slot k l) on = answer.Record (keyOf (rebuilt s i (keyNumber k))) l
-  onNth i (nth.Past m) on = on m
-  onNth i nth.Damage on = answer.Refused refusal.Damage
-
-  record-step : (i : ℕ) (b : Basic) (bs : List Basic) (os : List Overflow) (n : ℕ) (o : Option Content) → contentOf (layoutOf s) b os ≡ o
-      → recordFrom s i (b ∷ bs) os n ≡ onNth i (nthIn (layoutOf s) o n) (λ m. recordFrom s (suc i) bs os m)
+  record-step : (i : ℕ) (b : Basic) (bs : List Basic) (os : List Overflow) (n : ℕ) (o : Option Content) → contentOf (layoutOf s) i b os ≡ o
+      → recordFrom s i (b ∷ bs) os n ≡ onNth s i (nthIn (layoutOf s) o n) (λ m. recordFrom s (suc i) bs os m)
   unfolding recordFrom nthIn nthOf
   record-step i b bs os n none e = rw e
   record-step i b bs os n (some v) e =
@@ -194,10 +203,10 @@ module _ (s : Settings) where
     records-none i n h = rw (drop-of-length-le (st .basic) h)
 
     pub records-step : (g : Layout) → layoutOf s ≡ g → (i n : ℕ) → i < length (st .basic) → (r : Nth) → r ≡ nthIn g (content g st i) n
-        → recordsFrom s st i n ≡ onNth i r (λ m. recordsFrom s st (suc i) m)
+        → recordsFrom s st i n ≡ onNth s i r (λ m. recordsFrom s st (suc i) m)
     unfolding recordsFrom content
     records-step g e i n h r w =
         ap (λ (bs : List Basic). recordFrom s i bs (st .overflow) n) (drop-cons (st .basic) i emptyBasic h)
-        ∙ record-step i (basicAt (st .basic) i) (drop (suc i) (st .basic)) (st .overflow) n (contentOf (layoutOf s) (basicAt (st .basic) i) (st .overflow)) refl
-        ∙ ap (λ (x : Nth). onNth i x (λ m. recordFrom s (suc i) (drop (suc i) (st .basic)) (st .overflow) m))
-        (ap (λ (x : Layout). nthIn x (contentOf x (basicAt (st .basic) i) (st .overflow)) n) e ∙ sym w)
+        ∙ record-step i (basicAt (st .basic) i) (drop (suc i) (st .basic)) (st .overflow) n (contentOf (layoutOf s) i (basicAt (st .basic) i) (st .overflow)) refl
+        ∙ ap (λ (x : Nth). onNth s i x (λ m. recordFrom s (suc i) (drop (suc i) (st .basic)) (st .overflow) m))
+        (ap (λ (x : Layout). nthIn x (contentOf x i (basicAt (st .basic) i) (st .overflow)) n) e ∙ sym w)

@@ -1,4 +1,6 @@
-// Record: the nth record of the table.
+// Record: the nth record of the table. Retrieve: the record in the slot of a number.
+mod slot;
+
 use keys::BlockNumber;
 use keys::Key;
 use keys::ListNumber;
@@ -8,6 +10,7 @@ use settings::Laid;
 use settings::Layout;
 use settings::Refusal;
 use settings::Settings;
+pub use slot::retrieve;
 use table::RecordAnswer;
 use table::Step;
 use table_read::blocks::basic_counter;
@@ -68,7 +71,7 @@ fn record_in(s: Settings, t: &[u8], g: Layout, n: u64) -> RecordAnswer
 {
     let mut i: usize = 0;
     let mut m = n;
-    while i < g.lists {
+    while i < g.lists as usize {
         match nth_in(t, g, ListNumber(i), m) {
             Nth::Slot { entry, label } => return found(s, ListNumber(i), entry, label),
             Nth::Past(left) => m = left,
@@ -114,7 +117,7 @@ fn nth_long(t: &[u8], g: Layout, i: ListNumber, first: BlockNumber, n: u64) -> N
     requires { ⌜ Table g (now t) × (i .0 < g .lists) × Overflows g (decode g (now t)) (i .0) (first .0) ⌝ }
     ensures { λ r. ⌜ (r ≡ nthIn g (content g (decode g (now (t .entry))) (i .0)) n) × Bounded g r ⌝ }
 {
-    let Last::Block(last) = follow(t, g, first) else {
+    let Last::Block(last) = follow(t, g, i, first) else {
         return Nth::Damage;
     };
     let sib = g.sib as u64;

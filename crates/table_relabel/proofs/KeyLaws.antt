@@ -13,7 +13,7 @@ use Rattle.keys.specs.declared.Key.{Key}
 use Rattle.keys.specs.Key.{keyNumber}
 use Rattle.table.specs.State.{State, entryOf, slotOf}
 use Rattle.table.specs.Decode.{decode}
-use Rattle.table.specs.Find.{position, findIn}
+use Rattle.table.specs.Find.{position, numberAt, findIn}
 use Rattle.table.specs.Done.{done, unchanged, answered, replied}
 use Rattle.table.specs.Store.{storeAt}
 use Rattle.table.specs.Relabel.{relabelFollowed, relabelIn}
@@ -51,31 +51,31 @@ word-kept word.Relabelled h = refl
 
 -- "held", or another answer, which has no place and stays
 pub data Told : Answer → Type 0 where
-  held : (l n : ℕ) → Told (said word.Held l n)
+  held : (l n x : ℕ) → Told (said word.Held l n x)
   other : (a : Answer) → Other a → placeFound a ≡ 0 → answerTo a ≡ a → Told a
 
 pub told : (a : Answer) → Told a
-told (answer.Said l word.Added n) = other (said word.Added l n) tt refl refl
-told (answer.Said l word.Held n) = held l n
-told (answer.Said l word.Gone n) = other (said word.Gone l n) tt refl refl
-told (answer.Said l word.None n) = other (said word.None l n) tt refl refl
-told (answer.Said l word.Relabelled n) = other (said word.Relabelled l n) tt refl refl
+told (answer.Said l word.Added n x) = other (said word.Added l n x) tt refl refl
+told (answer.Said l word.Held n x) = held l n x
+told (answer.Said l word.Gone n x) = other (said word.Gone l n x) tt refl refl
+told (answer.Said l word.None n x) = other (said word.None l n x) tt refl refl
+told (answer.Said l word.Relabelled n x) = other (said word.Relabelled l n x) tt refl refl
 told (answer.Refused why) = other (answer.Refused why) tt refl refl
 
 -- ---- on a list
 
--- the n-th slot holds the entry, with the label l
-pub record Found (g : Layout) (st : State) (i e label l n : ℕ) : Type 0 where
+-- the n-th slot holds the entry, with the label l and the number x
+pub record Found (g : Layout) (st : State) (i e label l n x : ℕ) : Type 0 where
   pub some-compared : 0 < n
   pub placed : Placed g st i (n - 1)
-  pub goes : relabelIn g st i e label ≡ answered (said word.Relabelled l n) (done (relabelled g st i (n - 1) label))
+  pub goes : relabelIn g st i e label ≡ answered (said word.Relabelled l n x) (done (relabelled g st i (n - 1) label))
 
 module _ (g : Layout) (st : State) (i e label : ℕ) where
   -- the entry that stands there is the one that was sought
-  pub held-goes : (l n : ℕ) → findIn g st i e ≡ said word.Held l n → Found g st i e label l n
+  pub held-goes : (l n x : ℕ) → findIn g st i e ≡ said word.Held l n x → Found g st i e label l n x
   unfolding relabelIn relabelFollowed relabelled
-  held-goes l n q =
-      let w = find-held g st i e l n q in
+  held-goes l n x q =
+      let w = find-held g st i e l n x q in
       let es = w .followed .slots in
       let k : n - 1 ≡ position g e es = omega (arith, w .place) in
       let m = ltb-true (position g e es) (length es) (w .held) in
@@ -85,9 +85,9 @@ module _ (g : Layout) (st : State) (i e label : ℕ) where
         placed = record { followed = w .followed; is = w .is; within = omega arith };
         goes =
             rw (w .is, w .held)
-            (ap₂ (λ (x y : ℕ). answered (said word.Relabelled x y) (done (storeAt g st i (w .followed .blocks) (position g e es) (slotOf g e label)))) (w .label) (w .place)
-            ∙ ap (λ (x : ℕ). answered (said word.Relabelled l n) (done (storeAt g st i (w .followed .blocks) (position g e es) (slotOf g x label)))) (sym same)
-            ∙ ap (λ (y : ℕ). answered (said word.Relabelled l n) (done (storeAt g st i (w .followed .blocks) y (slotOf g (entryOf g (getD es y 0)) label)))) (sym k));
+            (ap₂ (λ (a b : ℕ). answered (said word.Relabelled a b (numberAt g i e (w .followed))) (done (storeAt g st i (w .followed .blocks) (position g e es) (slotOf g e label)))) (w .label) (w .place)
+            ∙ ap₂ (λ (a b : ℕ). answered (said word.Relabelled l n a) (done (storeAt g st i (w .followed .blocks) (position g e es) (slotOf g b label)))) (w .number) (sym same)
+            ∙ ap (λ (y : ℕ). answered (said word.Relabelled l n x) (done (storeAt g st i (w .followed .blocks) y (slotOf g (entryOf g (getD es y 0)) label)))) (sym k));
       }
 
   -- what find answers else, relabel does too
@@ -108,8 +108,8 @@ module _ {s : Settings} {t : List ℕ} {key : Key} {g : Layout} {v : Sought} (S 
   unfolding listCall
   call-is = S .call-is (relabel label) ∙ rw (lt-ltb label (2 ^ s .val) h)
 
-  pub sought-held : (l n : ℕ) → v .found ≡ said word.Held l n → Found g (decode g t) list sought label l n
-  sought-held l n f = held-goes g (decode g t) list sought label l n (sym (S .found-is) ∙ f)
+  pub sought-held : (l n x : ℕ) → v .found ≡ said word.Held l n x → Found g (decode g t) list sought label l n x
+  sought-held l n x f = held-goes g (decode g t) list sought label l n x (sym (S .found-is) ∙ f)
 
   pub other-gives : (a : Answer) → v .found ≡ a → Other a → Gives (keyCall s t (relabel label) key) a t
   other-gives a e o =
@@ -117,9 +117,9 @@ module _ {s : Settings} {t : List ℕ} {key : Key} {g : Layout} {v : Sought} (S 
       rw (call-is, relabel-stays g (decode g t) list sought label (subst Other is o)) (record { answer = is; bytes = refl })
 
   -- the entry is the n-th, and has the new label
-  pub relabelled-gives : Bytes t → (l n : ℕ) → Found g (decode g t) list sought label l n → (u : List ℕ)
-      → Relabelled g t u list (n - 1) label → Gives (keyCall s t (relabel label) key) (said word.Relabelled l n) u
-  relabelled-gives y l n F u R = rw (call-is, F .goes) (record { answer = refl; bytes = stored-written (S .table) y R })
+  pub relabelled-gives : Bytes t → (l n x : ℕ) → Found g (decode g t) list sought label l n x → (u : List ℕ)
+      → Relabelled g t u list (n - 1) label → Gives (keyCall s t (relabel label) key) (said word.Relabelled l n x) u
+  relabelled-gives y l n x F u R = rw (call-is, F .goes) (record { answer = refl; bytes = stored-written (S .table) y R })
 
   -- ---- by what find answered
 
@@ -128,7 +128,7 @@ module _ {s : Settings} {t : List ℕ} {key : Key} {g : Layout} {v : Sought} (S 
   found-placed a e n q p = placed (told a) e q
     where
       placed : {a : Answer} → Told a → v .found ≡ a → n ≡ placeFound a → Placed g (decode g t) list (n - 1)
-      placed (held l m) e q = subst (λ (k : ℕ). Placed g (decode g t) list (k - 1)) (sym q) (sought-held l m e .placed)
+      placed (held l m x) e q = subst (λ (k : ℕ). Placed g (decode g t) list (k - 1)) (sym q) (sought-held l m x e .placed)
       placed (other a o z w) e q = absurd (omega (arith, z))
 
   -- the label is put in place n - 1
@@ -137,12 +137,12 @@ module _ {s : Settings} {t : List ℕ} {key : Key} {g : Layout} {v : Sought} (S 
   found-gives y a e n q p u R = gives (told a) e q
     where
       gives : {a : Answer} → Told a → v .found ≡ a → n ≡ placeFound a → Gives (keyCall s t (relabel label) key) (answerTo a) u
-      gives (held l m) e q = relabelled-gives y l m (sought-held l m e) u (subst (λ (k : ℕ). Relabelled g t u list (k - 1) label) q R)
+      gives (held l m x) e q = relabelled-gives y l m x (sought-held l m x e) u (subst (λ (k : ℕ). Relabelled g t u list (k - 1) label) q R)
       gives (other a o z w) e q = absurd (omega (arith, z))
 
   pub missing-gives : (a : Answer) → v .found ≡ a → placeFound a ≡ 0 → Gives (keyCall s t (relabel label) key) (answerTo a) t
   missing-gives a e q = gives (told a) e q
     where
       gives : {a : Answer} → Told a → v .found ≡ a → placeFound a ≡ 0 → Gives (keyCall s t (relabel label) key) (answerTo a) t
-      gives (held l m) e q = absurd (omega (arith, sought-held l m e .some-compared))
+      gives (held l m x) e q = absurd (omega (arith, sought-held l m x e .some-compared))
       gives (other a o z w) e q = rw w (other-gives a e o)

@@ -19,7 +19,7 @@ use Rattle.table.specs.State.{State, mkState, Overflow, basicAt, overflowAt, un
 use Rattle.table.specs.Updates.{withSlot, overOverflow}
 use Rattle.table.specs.Decode.{basicSlots, decode}
 use Rattle.table.specs.Table.{Table}
-use Rattle.table.specs.Follow.{lastOf, follow, gather}
+use Rattle.table.specs.Follow.{lastOf, follow, gather, ownBlocks}
 use Rattle.table.specs.Store.{storeDisplaced, storeAt}
 use Rattle.table_read.specs.Places.{basicSlot, overflowSlot}
 use Rattle.table_read.specs.Steps.{restoredBytes, displacedRun, lastIn, lastFrom}
@@ -28,7 +28,7 @@ use Rattle.table_read.specs.declared.lists.BlockSlot.{BlockSlot}
 use Rattle.table_read.specs.theory.Places.{basic-slot-ends}
 use Rattle.table_read.specs.theory.Reads.{slot-entry, entry-in, displaced-slots-in, link-lt, sized, unpack-length}
 use Rattle.table_read.specs.theory.Walks.{last-low, content-short}
-use Rattle.table_read.specs.theory.BlockSlots.{Chained, content-chained, long-full, long-ends, long-blocks}
+use Rattle.table_read.specs.theory.BlockSlots.{Chained, content-chained, long-full, long-ends, long-blocks, long-own}
 use Rattle.table_store.specs.Stores.{StoredOver, linkPut}
 use Rattle.table_store.specs.Places.{Placed}
 use Rattle.table_store.specs.theory.StoreLaws.{slot-lt, slot-put, over-behind, stored-as, stored-basic-slot, stored-overflow-slot}
@@ -143,14 +143,16 @@ module _ {g : Layout} {t : List ℕ} {i p label : ℕ} (R : Relabellable g t i p
 
     long-is : relabelled g st i p label ≡ storeAt g st i (first ∷ others) p (slotOf g (entryOf g (getD (body ++ tail) p 0)) label)
     unfolding relabelled
-    long-is = ap (relabelledIn g st i p label) (content-chained g st i (long-full g st i (P .followed) (P .is) h) blocks)
+    long-is = ap (relabelledIn g st i p label) (content-chained g st i (long-full g st i (P .followed) (P .is) h) blocks (long-own g st i (P .followed) (P .is) h))
 
     pub last-below : last < g .nob
     last-below = last-low g (st .overflow) (blocks .chain)
 
-    pub ends-there : (b : ℕ) → b ≡ first → lastFrom g (g .nob) (st .overflow) b ≡ last
+    pub ends-there : (b : ℕ) → b ≡ first → lastFrom g i (g .nob) (st .overflow) b ≡ last
     unfolding lastFrom
-    ends-there b e = ap (λ (x : ℕ). lastIn g (follow g (g .nob) (st .overflow) x)) e ∙ ap (lastIn g) (blocks .found)
+    ends-there b e =
+        ap (λ (x : ℕ). lastIn g (ownBlocks i (st .overflow) (follow g (g .nob) (st .overflow) x))) e
+        ∙ rw (blocks .found, long-own g st i (P .followed) (P .is) h)
 
     -- in the basic block
     module _ (k : p < g .sib) where

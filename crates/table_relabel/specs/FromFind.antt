@@ -16,7 +16,7 @@ ifHeld word.Relabelled n = 0
 
 -- the place of the entry that was found, from 1; 0 if it was not
 abbrev pub placeFound : Answer → ℕ
-placeFound (answer.Said l w n) = ifHeld w n
+placeFound (answer.Said l w n x) = ifHeld w n
 placeFound (answer.Refused why) = 0
 
 abbrev pub wordTo : Word → Word
@@ -28,5 +28,5 @@ wordTo word.Relabelled = word.Relabelled
 
 -- "relabelled" for "held", and all else as it is
 abbrev pub answerTo : Answer → Answer
-answerTo (answer.Said l w n) = said (wordTo w) l n
+answerTo (answer.Said l w n x) = said (wordTo w) l n x
 answerTo (answer.Refused why) = answer.Refused why

@@ -31,6 +31,7 @@ fn place_found(found: Answer) -> usize
             word,
             label: _,
             compared,
+            slot: _,
         } => match word {
             Word::Held => compared as usize,
             _ => 0,
@@ -48,16 +49,19 @@ fn answer_to(found: Answer) -> Answer
             word,
             label,
             compared,
+            slot,
         } => match word {
             Word::Held => Answer::Said {
                 word: Word::Relabelled,
                 label: label,
                 compared: compared,
+                slot: slot,
             },
             _ => Answer::Said {
                 word: word,
                 label: label,
                 compared: compared,
+                slot: slot,
             },
         },
         Answer::Refused(why) => Answer::Refused(why),

@@ -50,7 +50,7 @@ fn relabel_displaced(
     requires { ⌜ Relabellable g (now t) (i .0) p label × (p < g .sib) × (at ≡ basicSlot g (i .0) p + g .bie) × (g .sib < basicAt (decode g (now t) .basic) (i .0) .counter) × (first .0 ≡ basicAt (decode g (now t) .basic) (i .0) .head) ⌝ }
     ensures { λ _. ⌜ Relabelled g (now (t .entry)) (now (t .exit)) (i .0) p label ⌝ }
 {
-    let Last::Block(last) = follow(t, g, first) else {
+    let Last::Block(last) = follow(t, g, i, first) else {
         return;
     };
     let old = overflow_link(t, g, last);

@@ -1,11 +1,11 @@
 -- What the stores leave in a table's bytes: each is a field put at its place; and a row of them, a state stored.
-use Prim.Native.Nat.{ℕ, _^_, _<_}
+use Prim.Native.Nat.{ℕ, _+_, _*_, _^_, _<_}
 use mathlib.Core.Path.{_≡_}
 use mathlib.Core.List.{List}
 use Rattle.bits.specs.Field.{field}
 use Rattle.bits.specs.Put.{putField}
 use Rattle.settings.specs.declared.layout.Layout.{Layout}
-use Rattle.table.specs.Decode.{blockAt, basicSlots, linkAt, decode}
+use Rattle.table.specs.Decode.{blockAt, basicSlots, linkAt, ownerAt, decode}
 use Rattle.table.specs.State.{State}
 use Rattle.table.specs.Table.{Table, Only}
 
@@ -30,13 +30,16 @@ module _ (g : Layout) (t : List ℕ) where
   unfoldable pub linkPut : ℕ → ℕ → List ℕ
   linkPut j l = putField t (linkAt g j) (g .link) l
 
+  unfoldable pub ownerPut : ℕ → ℕ → List ℕ
+  ownerPut j i = putField t (ownerAt g j) (g .owner) i
+
   -- the slot x at bit `at`
   unfoldable pub slotPut : ℕ → ℕ → List ℕ
   slotPut at x = putField t at (g .slot) x
 
-  -- overflow block j zeroed, but for its link
-  unfoldable pub emptied : ℕ → ℕ → List ℕ
-  emptied j l = putField (putField t (blockAt (g .overflow) j) (g .overflow .bits) 0) (linkAt g j) (g .link) l
+  -- overflow block j zeroed, but for its link and its owner
+  unfoldable pub emptied : ℕ → ℕ → ℕ → List ℕ
+  emptied j l i = putField (putField t (blockAt (g .overflow) j) (g .overflow .bits) 0) (linkAt g j) (g .link + g .owner) (l * 2 ^ g .owner + i)
 
 -- u is t with the n bits of x stored at bit `at`, where the m bits from `base` on count as h; these bits themselves stay, and r is what they would be
 pub record StoredOver (m n : ℕ) (t u : List ℕ) (base h at x r : ℕ) : Type 0 where

@@ -1,4 +1,4 @@
-// The free start, and the first fields of blocks: counters and links.
+// The free start, and the first fields of blocks: counters, links and owners.
 use crate::zeros::clear_and_put;
 use bits::join;
 use keys::BlockNumber;
@@ -81,11 +81,21 @@ pub fn put_overflow_front(t: &mut [u8], g: Layout, j: BlockNumber, n: usize, l: 
     put_front(t, g.overflow, j.0, g.link, n, l);
 }
 
-// Overflow block j becomes zero, but for its link, l, as every block that is taken or freed (clauses 5.3, 5.4).
-pub fn empty_block(t: &mut [u8], g: Layout, j: BlockNumber, l: usize)
-    requires { ⌜ Table g (now t) × (j .0 < g .nob) × (l < 2 ^ g .link) ⌝ }
-    ensures { λ _. ⌜ Stored g (now (t .entry)) (now (t .exit)) (overOverflow (j .0) (λ o. emptyBlock g l) (decode g (now (t .entry)))) ⌝ }
+// Overflow block j becomes zero, but for its link, l, and its owner, i, as every block that is taken or freed (clauses 5.3, 5.4;
+// the owner of a free block is 0). Side by side, both are one store.
+pub fn empty_block(t: &mut [u8], g: Layout, j: BlockNumber, l: usize, i: ListNumber)
+    requires { ⌜ Table g (now t) × (j .0 < g .nob) × (l < 2 ^ g .link) × (i .0 < g .lists) ⌝ }
+    ensures { λ _. ⌜ Stored g (now (t .entry)) (now (t .exit)) (overOverflow (j .0) (λ o. emptyBlock g l (i .0)) (decode g (now (t .entry)))) ⌝ }
 {
     let b = g.overflow;
-    clear_and_put(t, counter_at(b, j.0), b.bits, link_at(b, j.0), g.link, l);
+    let owner = g.owner as usize;
+    let both = join(l as u64, owner, i.0 as u64) as usize;
+    clear_and_put(
+        t,
+        counter_at(b, j.0),
+        b.bits,
+        link_at(b, j.0),
+        g.link + owner,
+        both,
+    );
 }

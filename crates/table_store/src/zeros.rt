@@ -45,8 +45,8 @@ pub fn clear(t: &mut [u8], off: usize, n: usize)
     }
 }
 
-// The n bits from bit `off` on become zero, and then the k bits from bit `at` on v: a block is emptied but for its link, a
-// slot goes and the counter says so. It is told plain numbers: a layout that is handed on would have to be copied whole.
+// The n bits from bit `off` on become zero, and then the k bits from bit `at` on v: a block is emptied but for its link and its
+// owner, a slot goes and the counter says so. It is told plain numbers: a layout that is handed on would have to be copied whole.
 pub fn clear_and_put(t: &mut [u8], off: usize, n: usize, at: usize, k: usize, v: usize)
     requires { ⌜ (off + n ≤ 8 * length (now t)) × (off + n ≤ mostBits) × Within (now t) at k × (v < 2 ^ k) ⌝ }
     ensures { λ _. ⌜ now (t .exit) ≡ putField (putField (now (t .entry)) off n 0) at k v ⌝ }

@@ -6,7 +6,7 @@ use native.Mathlib.Omega.{arith}
 use Rattle.settings.specs.declared.settings.Settings.{Settings}
 use Rattle.settings.specs.declared.refusal.Refusal.{Refusal}
 use Rattle.settings.specs.Sizes.{tableBytes}
-use Rattle.demand1.specs.Claim.{Call, make, ask, recordAt, check, readText, writeText, pageAt, Lent, Said, refused, outcome, Writes, makes, enters, relabels, deletes, bufferBytes, Untouched}
+use Rattle.demand1.specs.Claim.{Call, make, ask, recordAt, slotAt, check, readText, writeText, pageAt, Lent, Said, refused, outcome, Writes, makes, enters, relabels, deletes, bufferBytes, Untouched}
 use Rattle.demand1.specs.theory.Kept.{untouched, Accepted, make-kept, ask-kept, check-kept, write-kept, page-kept}
 
 -- what writes the table is no refusal
@@ -22,6 +22,7 @@ module _ (s : Settings) (l : Lent) where
   only-these-write make = make-kept s (l .table) .unless
   only-these-write (ask q) = ask-kept s (l .table) q .unless
   only-these-write (recordAt n) = inl refl
+  only-these-write (slotAt n) = inl refl
   only-these-write check = inl refl
   only-these-write (readText x) = inl refl
   only-these-write (writeText k) = inl refl
@@ -32,6 +33,7 @@ module _ (s : Settings) (l : Lent) where
   accepted-write make = inl refl
   accepted-write (ask q) = inl refl
   accepted-write (recordAt n) = inl refl
+  accepted-write (slotAt n) = inl refl
   accepted-write check = check-kept s (l .table) (l .buffer) .unless
   accepted-write (readText x) = inl refl
   accepted-write (writeText k) = write-kept k (l .buffer) .unless
@@ -50,6 +52,7 @@ module _ (s : Settings) (l : Lent) where
   beyond-stays make = (make-kept s (l .table) .untouched, untouched 0 (l .buffer))
   beyond-stays (ask q) = (ask-kept s (l .table) q .untouched, untouched 0 (l .buffer))
   beyond-stays (recordAt n) = (untouched (tableBytes s) (l .table), untouched 0 (l .buffer))
+  beyond-stays (slotAt n) = (untouched (tableBytes s) (l .table), untouched 0 (l .buffer))
   beyond-stays check = (untouched (tableBytes s) (l .table), check-kept s (l .table) (l .buffer) .untouched)
   beyond-stays (readText x) = (untouched (tableBytes s) (l .table), untouched 0 (l .buffer))
   beyond-stays (writeText k) = (untouched (tableBytes s) (l .table), write-kept k (l .buffer) .untouched)

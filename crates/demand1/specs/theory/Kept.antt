@@ -26,9 +26,9 @@ use Rattle.table.specs.Arrays.{cleared}
 use Rattle.table.specs.State.{State, slotOf}
 use Rattle.table.specs.Decode.{image, written}
 use Rattle.table.specs.Follow.{Content, content}
-use Rattle.table.specs.Find.{position, isHeld, labelAt, comparedIn}
+use Rattle.table.specs.Find.{position, isHeld, labelAt, comparedIn, numberAt}
 use Rattle.table.specs.Done.{Done, damage, noBlock, done, answered, replied}
-use Rattle.table.specs.Enter.{append, enterFollowed, enterIn}
+use Rattle.table.specs.Enter.{append, endNumber, enterFollowed, enterIn}
 use Rattle.table.specs.Relabel.{relabelFollowed, relabelIn}
 use Rattle.table.specs.Delete.{takeOut, deleteFollowed, deleteIn}
 use Rattle.table.specs.Store.{storeAt}
@@ -142,7 +142,7 @@ module _ (s : Settings) (t : List ℕ) where
         either (λ a. Kept (tableBytes s) t (Writes (ask q)) (answering ofKey (replied (layoutOf s) t a)))
         (isHeld (layoutOf s) e (v .slots)) (λ b. stays _)
         (λ b.
-        done-kept (said word.Added label (comparedIn (layoutOf s) e (v .slots))) (enters q label h)
+        done-kept (said word.Added label (comparedIn (layoutOf s) e (v .slots)) (endNumber (layoutOf s) (held s t) i v)) (enters q label h)
         (append (layoutOf s) (held s t) i (v .blocks) (slotOf (layoutOf s) e label)))
 
     relabel-kept : (i e label : ℕ) → verbAsked q ≡ relabel label → (o : Option Content)
@@ -154,7 +154,7 @@ module _ (s : Settings) (t : List ℕ) where
         either (λ a. Kept (tableBytes s) t (Writes (ask q)) (answering ofKey (replied (layoutOf s) t a)))
         (isHeld (layoutOf s) e (v .slots))
         (λ b.
-        done-kept (said word.Relabelled (labelAt (layoutOf s) e (v .slots)) (comparedIn (layoutOf s) e (v .slots))) (relabels q label h)
+        done-kept (said word.Relabelled (labelAt (layoutOf s) e (v .slots)) (comparedIn (layoutOf s) e (v .slots)) (numberAt (layoutOf s) i e v)) (relabels q label h)
         (done (storeAt (layoutOf s) (held s t) i (v .blocks) (position (layoutOf s) e (v .slots)) (slotOf (layoutOf s) e label))))
         (λ b. stays _)
 
@@ -167,7 +167,7 @@ module _ (s : Settings) (t : List ℕ) where
         either (λ a. Kept (tableBytes s) t (Writes (ask q)) (answering ofKey (replied (layoutOf s) t a)))
         (isHeld (layoutOf s) e (v .slots))
         (λ b.
-        done-kept (said word.Gone (labelAt (layoutOf s) e (v .slots)) (comparedIn (layoutOf s) e (v .slots))) (deletes q h)
+        done-kept (said word.Gone (labelAt (layoutOf s) e (v .slots)) (comparedIn (layoutOf s) e (v .slots)) 0) (deletes q h)
         (takeOut (layoutOf s) (held s t) i v (position (layoutOf s) e (v .slots))))
         (λ b. stays _)
 

@@ -16,25 +16,22 @@ use Rattle.settings.specs.Sizes.{lists}
 use Rattle.settings.specs.Legal.{Legal}
 use Rattle.settings.specs.Layout.{layoutOf}
 use Rattle.settings.specs.Reply.{Reply}
-use Rattle.settings.specs.theory.Proper.{layout-proper}
-use Rattle.keys.specs.Key.{entry, listNumber}
-use Rattle.keys.specs.theory.Keys.{entry-below}
+use Rattle.keys.specs.Key.{listNumber}
 use Rattle.table.specs.State.{State}
 use Rattle.table.specs.Done.{bytesWith}
-use Rattle.table.specs.Calls.{Verb, find, enter, relabel, delete, listCall, verbDue, held}
+use Rattle.table.specs.Calls.{Verb, verbDue, held}
 use Rattle.plain_set.specs.Rebuilt.{Pair}
 use Rattle.table.specs.declared.answers.Answer as table
 use Rattle.table.specs.theory.Formed.{Formed, decode-formed}
-use Rattle.table.specs.theory.FormedCalls.{Holds, holds-none, holds-some, enter-formed, relabel-formed, delete-formed}
+use Rattle.table.specs.theory.FormedCalls.{Holds, holds-none, holds-some}
 use Rattle.plain_set.specs.Set.{Step, keyStep}
 use Rattle.plain_set.specs.Plain.{plain}
 use Rattle.plain_set.specs.theory.Rep.{Stores}
-use Rattle.plain_set.specs.theory.Keys.{in-table}
 use Rattle.settings.specs.theory.Dues.{NoneDue}
-use Rattle.plain_set.specs.theory.Refusals.{legalCall, label-below}
+use Rattle.plain_set.specs.theory.Refusals.{legalCall}
 use Rattle.plain_set.specs.theory.OneList.{Told, told, rowTold, rowAfter}
 use Rattle.plain_set.specs.theory.Lists.{rowOf, isFull, listsTold, listsAfter, Stands, call-agrees}
-use Rattle.plain_set.specs.theory.StateSteps.{stateAfter, call-acts}
+use Rattle.plain_set.specs.theory.StateSteps.{stateAfter, call-formed, call-acts}
 use Rattle.plain_set.specs.theory.Agree.{Agree}
 use Rattle.plain_set.specs.theory.Stored.{agree-written}
 
@@ -78,20 +75,6 @@ module _ {s : Settings} (right : Legal s) {t : List ℕ} {T : List (List ℕ)} {
   agree-after (holds-some f) c w = agree-written t right (a .bytes) (a .room) (a .fill) f c w
 
   module _ (k : ℕ) (ok : k < 2 ^ s .w) where
-    -- what the call writes is formed
-    call-formed : (v : Verb) → NoneDue (verbDue s v)
-        → Holds (Formed (layoutOf s)) (listCall (layoutOf s) (held s t) (listNumber s k) (entry s k) v .after)
-    unfolding listCall
-    call-formed find d = holds-none
-    call-formed (enter l) d =
-        enter-formed (layoutOf s) (layout-proper s right) (listNumber s k) (entry s k) l (decode-formed (layoutOf s) t) (in-table s right k ok)
-        (unfold layoutOf in (entry-below s k)) (unfold layoutOf in (label-below s l d))
-    call-formed (relabel l) d =
-        relabel-formed (layoutOf s) (layout-proper s right) (listNumber s k) (entry s k) l (decode-formed (layoutOf s) t) (in-table s right k ok)
-        (unfold layoutOf in (entry-below s k)) (unfold layoutOf in (label-below s l d))
-    call-formed delete d =
-        delete-formed (layoutOf s) (layout-proper s right) (listNumber s k) (entry s k) (decode-formed (layoutOf s) t) (in-table s right k ok)
-
     pub legal-follows : (v : Verb) → NoneDue (verbDue s v) → Follows s T v (some k) (legalCall s t v k) (keyStep s ps v k)
     legal-follows v d =
         let c = call-acts s right (a .stores) k ok v d in
@@ -99,6 +82,6 @@ module _ {s : Settings} (right : Legal s) {t : List ℕ} {T : List (List ℕ)} {
         record {
           answers = ap (λ (x : Told). x .answer) (c .tells) ∙ w .answers;
           after = listsAfter s T k v;
-          agree = agree-after (call-formed v d) (c .stores) (w .stands);
+          agree = agree-after (call-formed s right k ok (decode-formed (layoutOf s) t) v d) (c .stores) (w .stands);
           own = λ i h. own-step s T v k _ (c .tells) i (omega (arith, a .stands .long));
         }

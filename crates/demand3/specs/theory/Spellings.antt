@@ -40,7 +40,7 @@ bare-spelling v d = respelled (bare-mapped d)
 module _ (s : Settings) where
   -- What a list of calls answers and leaves -------------------------------------------------------------------------------------
 
-  -- the answers as the calls give them, with `compared`
+  -- the answers as the calls give them, with `compared` and the slot's number
   abbrev pub replies : List ℕ → List Lending → List table.Answer
   replies t [] = []
   replies t (c ∷ cs) = tableCall s (take (c .lent) t) (c .call) .answer ∷ replies (memoryAfter s t c) cs

@@ -1,24 +1,22 @@
 -- The lent bytes and the plain set agree: the bits hold lists of slots that stand for the set. From this follows what the claim says of them.
-use mathlib.Core.Path.{_≡_, refl, sym, ap, _∙_}
+use mathlib.Core.Path.{_≡_, refl, sym, ap, ap₂, _∙_}
 use mathlib.Core.Bool.{true, false}
 use mathlib.Core.List.{List, [], _∷_, _++_}
-use Prim.Native.Nat.{ℕ, suc, _^_, _≤_, _<_}
+use Prim.Native.Nat.{ℕ, suc, _+_, _^_, _≤_, _<_}
 use native.Mathlib.Omega.{arith}
 use lib.ListN.{length, getD}
-use lib.Seq.{ext-getD}
 use lib.Dec.{ltb}
 use borrow.Author.Tests.{ltb-true, ltb-false, ne-eqb}
 use Rattle.laws.specs.Folds.{count}
 use Rattle.laws.specs.Cases.{cases, true-both}
 use Rattle.bits.specs.Bytes.{Bytes}
 use Rattle.settings.specs.declared.settings.Settings.{Settings}
-use Rattle.settings.specs.declared.layout.Layout.{Layout}
 use Rattle.settings.specs.Sizes.{bie, lists, tableBytes}
 use Rattle.settings.specs.Legal.{Legal}
 use Rattle.settings.specs.Layout.{layoutOf}
 use Rattle.keys.specs.Key.{entry, listNumber, rebuilt}
 use Rattle.keys.specs.theory.Keys.{entry-rebuilt, list-rebuilt, rebuilt-below}
-use Rattle.table.specs.State.{Basic, Overflow, State}
+use Rattle.table.specs.State.{Basic, Overflow, State, basicAt}
 use Rattle.table.specs.Decode.{decode}
 use Rattle.table.specs.Follow.{contentOf, content}
 use Rattle.plain_set.specs.Rebuilt.{Pair, slotsOf, pairsOf, rebuiltFrom, rebuiltPairs}
@@ -30,7 +28,6 @@ use Rattle.plain_set.specs.Holds.{Holds}
 use Rattle.plain_set.specs.theory.Count.{count-ext, count-none}
 use Rattle.plain_set.specs.theory.Rep.{Rep, Stores, Single}
 use Rattle.plain_set.specs.theory.Change.{rep-content}
-use Rattle.plain_set.specs.theory.Tests.{allSlots, getD-each, length-each}
 use Rattle.plain_set.specs.theory.Check.{sound-check}
 use Rattle.plain_set.specs.theory.Keys.{layout-lists, entry-fits, number-below}
 use Rattle.plain_set.specs.theory.Rows.{pairsFrom, RowsFit, count-key, count-above}
@@ -46,26 +43,24 @@ pub record Agree (s : Settings) (t : List ℕ) (T : List (List ℕ)) (ps : List 
 
 -- The pairs rebuilt from the bits -------------------------------------------------------------------------------------------
 
--- the slots that following finds in each list are those that the state holds
-rep-slots : {g : Layout} {st : State} {T B : List (List ℕ)} {fs : List ℕ} → Rep g st T B fs → allSlots g (st .basic) (st .overflow) ≡ T
-unfolding content
-rep-slots {g} {st} {T} {B} r =
-    ext-getD [] (allSlots g (st .basic) (st .overflow)) T (length-each g slotsOf (st .basic) (st .overflow) ∙ r .basics ∙ sym (r .lists))
-    (λ i l.
-    getD-each g slotsOf (st .basic) (st .overflow) i [] (omega (arith, length-each g slotsOf (st .basic) (st .overflow)))
-    ∙ ap slotsOf (rep-content r i (omega (arith, length-each g slotsOf (st .basic) (st .overflow), r .basics))))
-
-rebuilt-slots : (s : Settings) (i : ℕ) (bs : List Basic) (os : List Overflow)
-    → rebuiltFrom s i bs os ≡ pairsFrom s i (allSlots (layoutOf s) bs os)
-rebuilt-slots s i [] os = refl
-rebuilt-slots s i (b ∷ bs) os =
-    ap (λ (ps : List Pair). pairsOf s i (slotsOf (contentOf (layoutOf s) b os)) ++ ps) (rebuilt-slots s (suc i) bs os)
+-- the pairs from list i on, where following finds the slots of T
+rebuilt-slots : (s : Settings) (i : ℕ) (bs : List Basic) (os : List Overflow) (T : List (List ℕ)) → length bs ≡ length T
+    → ((j k : ℕ) → j ≡ i + k → k < length bs → slotsOf (contentOf (layoutOf s) j (basicAt bs k) os) ≡ getD T k [])
+    → rebuiltFrom s i bs os ≡ pairsFrom s i T
+rebuilt-slots s i [] os [] l h = refl
+rebuilt-slots s i [] os (es ∷ T) l h = absurd (omega arith)
+rebuilt-slots s i (b ∷ bs) os [] l h = absurd (omega arith)
+rebuilt-slots s i (b ∷ bs) os (es ∷ T) l h =
+    ap₂ _++_ (ap (pairsOf s i) (h i 0 (omega arith) (omega arith)))
+    (rebuilt-slots s (suc i) bs os T (omega arith) (λ j k e m. h j (suc k) (omega arith) (omega arith)))
 
 -- the pairs rebuilt from a state are those of the lists that it holds
 pub rep-rebuilt : (s : Settings) {st : State} {T B : List (List ℕ)} {fs : List ℕ} → Rep (layoutOf s) st T B fs
     → rebuiltPairs s st ≡ pairsFrom s 0 T
-unfolding rebuiltPairs
-rep-rebuilt s {st} r = rebuilt-slots s 0 (st .basic) (st .overflow) ∙ ap (pairsFrom s 0) (rep-slots r)
+unfolding rebuiltPairs content
+rep-rebuilt s {st} {T} r =
+    rebuilt-slots s 0 (st .basic) (st .overflow) T (r .basics ∙ sym (r .lists))
+    (λ j k e m. let z : j ≡ k = omega arith in rw z (ap slotsOf (rep-content r k (omega (arith, r .basics)))))
 
 -- No key twice, and no entry twice in a list ----------------------------------------------------------------------------------
 

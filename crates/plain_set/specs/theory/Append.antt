@@ -1,7 +1,7 @@
 -- Append on one list: the slot x at its end, in its last block, or in a block that is taken from the free chain.
 use mathlib.Core.Path.{_≡_, refl, sym, ap, ap₂, _∙_, subst}
 use mathlib.Core.Bool.{Bool, true, false, _&&_}
-use mathlib.Core.List.{List, [], _∷_, _++_}
+use mathlib.Core.List.{List, [], _∷_, _++_, append-nil}
 use Prim.Native.Nat.{ℕ, suc, _+_, _*_, _≤_, _<_}
 use native.Mathlib.Omega.{arith}
 use lib.ListN.{length, set, drop, length-drop, length-set, drop-of-length-le}
@@ -24,7 +24,7 @@ use Rattle.plain_set.specs.theory.Slots.{unpack-set}
 use Rattle.plain_set.specs.theory.Rep.{Holds, Chain}
 use Rattle.plain_set.specs.theory.Follow.{tail-length, tail-last}
 use Rattle.plain_set.specs.theory.Use.{noVacant, full-holds}
-use Rattle.plain_set.specs.theory.Update.{set-here, set-there, two-first, two-second, two-else, chain-frame, Standing, Edited}
+use Rattle.plain_set.specs.theory.Update.{set-here, set-there, two-first, two-second, two-else, chain-frame, Standing, Edit}
 use Rattle.plain_set.specs.theory.Tails.{occurs-last, not-in, absent, apart, lastBlock, tail-append, tail-extend}
 use Rattle.plain_set.specs.theory.Count.{count-append}
 
@@ -72,11 +72,19 @@ module _ (g : Layout) where
   abbrev pub mustRefuse : List ℕ → List ℕ → Bool
   mustRefuse fs es = noVacant (g .sib) (g .sio) (length es) && eqb (length fs) 0
 
+  -- an edit after which the list has its blocks, or these and the first free one: cs is as many of them as are there, `rest` the others
+  pub record Grown (st : State) (i : ℕ) (bs fs es : List ℕ) (u : State) : Type 0 where
+    pub cs : List ℕ
+    pub ns : List ℕ
+    pub edit : Edit g st i bs fs cs ns es u
+    pub rest : List ℕ
+    pub blocks : cs ++ rest ≡ bs ++ st .free ∷ []
+
   -- how an append ends: never in damage, without a block where that is due, and else with the list one slot longer
   abbrev pub Appended : State → ℕ → List ℕ → List ℕ → List ℕ → ℕ → Done → Type 0
   Appended st i bs fs es x damage = ⊥
   Appended st i bs fs es x noBlock = mustRefuse fs es ≡ true
-  Appended st i bs fs es x (done u) = (mustRefuse fs es ≡ false) × Edited g st i bs fs (es ++ x ∷ []) u
+  Appended st i bs fs es x (done u) = (mustRefuse fs es ≡ false) × Grown st i bs fs (es ++ x ∷ []) u
 
 some-free : (t : Bool) (f : ℕ) (fs : List ℕ) → t && eqb (length (f ∷ fs)) 0 ≡ false
 some-free true f fs = ne-eqb (suc (length fs)) 0 (λ q. omega arith)
@@ -86,14 +94,14 @@ module _ {g : Layout} (F : Proper g) {st : State} {i : ℕ} {es : List ℕ} wher
   vacant : {bs fs : List ℕ} → Standing g st i bs fs es → length es < g .sib + g .sio * length bs → mustRefuse g fs es ≡ false
   vacant {bs} k l =
       rw (
-        full-holds F (basicAt (st .basic) i) (st .overflow) bs es (k .hold),
+        full-holds F i (basicAt (st .basic) i) (st .overflow) bs es (k .hold),
         ne-eqb (length es) (g .sib + g .sio * length bs) (λ q. omega arith),
       )
 
   full : {bs : List ℕ} → Standing g st i bs [] es → length es ≡ g .sib + g .sio * length bs → mustRefuse g [] es ≡ true
   full {bs} k l =
       rw (
-        full-holds F (basicAt (st .basic) i) (st .overflow) bs es (k .hold),
+        full-holds F i (basicAt (st .basic) i) (st .overflow) bs es (k .hold),
         eq-eqb (length es) (g .sib + g .sio * length bs) l,
       )
 
@@ -101,9 +109,9 @@ module _ {g : Layout} (F : Proper g) {st : State} {i : ℕ} {es : List ℕ} wher
   tail-full : {c : ℕ} {cs fs : List ℕ} → Standing g st i (c ∷ cs) fs es → g .sio ≤ suc (lastBlock (st .overflow) c cs .counter)
       → (suc (lastBlock (st .overflow) c cs .counter) ≡ g .sio) × (length es ≡ g .sib + g .sio * suc (length cs))
   tail-full {c} {cs} k l =
-      let h : Holds g (basicAt (st .basic) i) (st .overflow) (c ∷ cs) es = k .hold in
-      let a = tail-last g (st .overflow) c cs (drop (g .sib) es) (h .0) (h .5) in
-      let b = tail-length g (st .overflow) c cs (drop (g .sib) es) (h .0) (h .5) in
+      let h : Holds g i (basicAt (st .basic) i) (st .overflow) (c ∷ cs) es = k .hold in
+      let a = tail-last g i (st .overflow) c cs (drop (g .sib) es) (h .0) (h .5) in
+      let b = tail-length g i (st .overflow) c cs (drop (g .sib) es) (h .0) (h .5) in
       (omega (arith, length-drop (g .sib) es), omega (arith, length-drop (g .sib) es))
 
   module _ (x : ℕ) (fx : Fits (g .slot) x) where
@@ -117,6 +125,8 @@ module _ {g : Layout} (F : Proper g) {st : State} {i : ℕ} {es : List ℕ} wher
           record {
             cs = [];
             ns = fs;
+            rest = st .free ∷ [];
+            blocks = refl;
             edit = record {
               block = basicMore g x b;
               us = st .overflow;
@@ -146,12 +156,14 @@ module _ {g : Layout} (F : Proper g) {st : State} {i : ℕ} {es : List ℕ} wher
         let b : Basic = basicAt (st .basic) i in
         let os : List Overflow = st .overflow in
         let f : ℕ = st .free in
-        let v : Overflow = withSlot 0 x (emptyBlock g (b .head)) in
+        let v : Overflow = withSlot 0 x (emptyBlock g (b .head) i) in
         rw (le-ltb (b .counter) (g .sib) (omega arith), taking-some _ k) (
           some-free (noVacant (g .sib) (g .sio) (length es)) f fs,
           record {
             cs = f ∷ [];
             ns = fs;
+            rest = [];
+            blocks = refl;
             edit = record {
               block = withBasicFront (suc (g .sib)) f b;
               us = set os f v;
@@ -185,14 +197,16 @@ module _ {g : Layout} (F : Proper g) {st : State} {i : ℕ} {es : List ℕ} wher
       unfolding append
       append-last {fs} k l =
           let os : List Overflow = st .overflow in
-          let h : Holds g (basicAt (st .basic) i) os (c ∷ cs) es = k .hold in
+          let h : Holds g i (basicAt (st .basic) i) os (c ∷ cs) es = k .hold in
           let p : ℕ = lastOf c cs in
           let v : Overflow = oneMore x (overflowAt os p) in
           rw (lt-ltb (suc (overflowAt os p .counter)) (g .sio) l) (
-            vacant k (omega (arith, tail-last g os c cs (drop (g .sib) es) (h .0) (h .5), length-drop (g .sib) es)),
+            vacant k (omega (arith, tail-last g i os c cs (drop (g .sib) es) (h .0) (h .5), length-drop (g .sib) es)),
             record {
               cs = c ∷ cs;
               ns = fs;
+              rest = st .free ∷ [];
+              blocks = refl;
               edit = record {
                 block = basicAt (st .basic) i;
                 us = set os p v;
@@ -206,7 +220,7 @@ module _ {g : Layout} (F : Proper g) {st : State} {i : ℕ} {es : List ℕ} wher
                   h .3,
                   h .4 ∙ sym (padded-append-le (g .sib) es (x ∷ []) (omega arith)),
                   rw (drop-append-le (g .sib) es (x ∷ []) (omega arith))
-                      (tail-append g os (set os p v) c cs (drop (g .sib) es) (h .0) x (h .5) (λ j. omega (arith, k .dis j)) l
+                      (tail-append g i os (set os p v) c cs (drop (g .sib) es) (h .0) x (h .5) (λ j. omega (arith, k .dis j)) l
                       (set-here os p v (omega (arith, k .len, k .low p (omega (arith, occurs-last c cs)))))
                       (set-there os p v)),
                 );
@@ -227,17 +241,19 @@ module _ {g : Layout} (F : Proper g) {st : State} {i : ℕ} {es : List ℕ} wher
       unfolding append
       append-more {fs} k l =
           let os : List Overflow = st .overflow in
-          let h : Holds g (basicAt (st .basic) i) os (c ∷ cs) es = k .hold in
+          let h : Holds g i (basicAt (st .basic) i) os (c ∷ cs) es = k .hold in
           let f : ℕ = st .free in
           let p : ℕ = lastOf c cs in
           let v : Overflow = withFront (g .sio) f (overflowAt os p) in
-          let u : Overflow = withSlot 0 x (emptyBlock g (overflowAt os p .link)) in
+          let u : Overflow = withSlot 0 x (emptyBlock g (overflowAt os p .link) i) in
           let us : List Overflow = set (set os p v) f u in
           rw (le-ltb (suc (overflowAt os p .counter)) (g .sio) (omega arith), taking-some _ k) (
             some-free (noVacant (g .sib) (g .sio) (length es)) f fs,
             record {
               cs = c ∷ (cs ++ f ∷ []);
               ns = fs;
+              rest = [];
+              blocks = append-nil (c ∷ (cs ++ f ∷ []));
               edit = record {
                 block = basicAt (st .basic) i;
                 us = us;
@@ -251,7 +267,7 @@ module _ {g : Layout} (F : Proper g) {st : State} {i : ℕ} {es : List ℕ} wher
                   h .3,
                   h .4 ∙ sym (padded-append-le (g .sib) es (x ∷ []) (omega arith)),
                   rw (drop-append-le (g .sib) es (x ∷ []) (omega arith))
-                      (tail-extend F os us c cs (drop (g .sib) es) (h .0) x f (h .5) (λ j. omega (arith, k .dis j)) l (free-new k)
+                      (tail-extend F i os us c cs (drop (g .sib) es) (h .0) x f (h .5) (λ j. omega (arith, k .dis j)) l (free-new k)
                       (two-first os p f v u (omega (arith, k .len, k .low p (omega (arith, occurs-last c cs))))
                       (λ q. apart f p (c ∷ cs) (free-new k) (occurs-last c cs) (sym q)))
                       (two-second os p f v u (omega (arith, k .len, free-low k)))

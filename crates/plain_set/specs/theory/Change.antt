@@ -40,12 +40,23 @@ module _ (g : Layout) where
     pub is : o ≡ done after
     pub stores : Stores g after T
 
+  -- an append to list i of st that was done, where the lists stood in the blocks B, and the lists after it: list i has its blocks, or these and the
+  -- first free one, and no other list has others
+  pub record Extended (st : State) (B : List (List ℕ)) (i : ℕ) (o : Done) (T : List (List ℕ)) : Type 0 where
+    pub after : State
+    pub is : o ≡ done after
+    pub cs : List ℕ
+    pub ns : List ℕ
+    pub rep : Rep g after T (set B i cs) ns
+    pub rest : List ℕ
+    pub blocks : cs ++ rest ≡ getD B i [] ++ st .free ∷ []
+
 -- list i, followed to its end: its blocks and its slots
 pub rep-content : {g : Layout} {st : State} {T B : List (List ℕ)} {fs : List ℕ} → Rep g st T B fs → (i : ℕ) → i < g .lists
     → content g st i ≡ some (mkContent (getD B i []) (getD T i []))
 unfolding content
 rep-content {g} {st} {T} {B} {fs} r i h =
-    content-holds g (basicAt (st .basic) i) (st .overflow) (getD B i []) (getD T i []) (r .each i h)
+    content-holds g i (basicAt (st .basic) i) (st .overflow) (getD B i []) (getD T i []) (r .each i h)
     (λ j l. rep-standing r h .low j (omega arith))
     (omega (arith, blocks-total (g .nob) B fs (r .once), sum-at length B i [] (omega (arith, r .blocks))))
 
@@ -57,7 +68,7 @@ module _ {g : Layout} (F : Proper g) {st : State} {T B : List (List ℕ)} {fs : 
       used : usedBy g T ≡ sum length B
       used =
           sum-ext (g .lists) (λ i. blocksFor (g .sib) (g .sio) (length (getD T i []))) (λ i. length (getD B i []))
-          (λ i h. blocks-holds F (basicAt (st .basic) i) (st .overflow) (getD B i []) (getD T i []) (r .each i h))
+          (λ i h. blocks-holds F i (basicAt (st .basic) i) (st .overflow) (getD B i []) (getD T i []) (r .each i h))
           ∙ ap (λ (n : ℕ). sumBelow n (λ i. length (getD B i []))) (sym (r .blocks))
           ∙ sumBelow-list length B []
 
@@ -78,18 +89,22 @@ module _ {g : Layout} (F : Proper g) {st : State} {T B : List (List ℕ)} {fs : 
           go noBlock w = λ e. refl
           go (done u) w = rw (used-all, w .0) (λ e. never e)
 
-      pub append-done : noRoom g T i ≡ false → Ended g (append g st i (getD B i []) x) (set T i (getD T i [] ++ x ∷ []))
+      pub append-done : noRoom g T i ≡ false → Extended g st B i (append g st i (getD B i []) x) (set T i (getD T i [] ++ x ∷ []))
       append-done = go (append g st i (getD B i []) x) (append-local F x fx (getD B i []) fs (rep-standing r h))
         where
           go : (o : Done) → Appended g st i (getD B i []) fs (getD T i []) x o → noRoom g T i ≡ false
-              → Ended g o (set T i (getD T i [] ++ x ∷ []))
+              → Extended g st B i o (set T i (getD T i [] ++ x ∷ []))
           go damage w = absurd w
           go noBlock w = rw (used-all, w) (λ e. never (sym e))
           go (done u) w = λ e.
               record {
                 after = u;
                 is = refl;
-                stores = record { B = set B i (w .1 .cs); fs = w .1 .ns; rep = rep-edit r h (w .1 .edit) };
+                cs = w .1 .cs;
+                ns = w .1 .ns;
+                rep = rep-edit r h (w .1 .edit);
+                rest = w .1 .rest;
+                blocks = w .1 .blocks;
               }
 
     -- the slot x stored in place p of list i: its blocks and the free chain stay

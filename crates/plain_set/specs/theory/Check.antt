@@ -2,31 +2,29 @@
 use mathlib.Core.Path.{_≡_, refl, sym, ap, _∙_}
 use mathlib.Core.Bool.{true, _&&_}
 use mathlib.Core.List.{List, [], _∷_}
-use mathlib.Core.Option.{some}
+use mathlib.Core.Option.{Option, some}
 use Prim.Native.Nat.{ℕ, zero, suc, _+_, _-_, _≤_, _<_}
 use native.Mathlib.Omega.{arith}
 use lib.ListN.{length, getD, drop, drop-of-length-le}
-use lib.Seq.{ext-getD}
 use lib.Dec.{eqb, ltb}
 use borrow.Author.Tests.{eq-eqb, ne-eqb, lt-ltb}
-use Rattle.laws.specs.Folds.{every, allZero}
+use Rattle.laws.specs.Folds.{every, allZero, sumBelow}
 use Rattle.laws.specs.Cases.{both-true, true-both}
 use Rattle.laws.specs.Tests.{below-all}
-use Rattle.laws.specs.Sums.{occurs-head}
+use Rattle.laws.specs.Sums.{occurs-head, sum-ext}
 use Rattle.settings.specs.declared.layout.Layout.{Layout}
 use Rattle.table.specs.Arrays.{padded}
 use Rattle.table.specs.State.{Basic, Overflow, State, basicAt, overflowAt}
-use Rattle.table.specs.Follow.{mkContent, contentOf, content}
+use Rattle.table.specs.Follow.{Content, mkContent, content}
 use Rattle.table.specs.Take.{occurs}
 use Rattle.table.specs.Check.{blocksOf, basicUnused, overflowUnused, freeZero, listSound, listsSound, chainFrom, freeChain, occursInLists, stateSound}
-use Rattle.table.specs.theory.Every.{lists-all}
-use Rattle.plain_set.specs.theory.Count.{one, one-le, sum}
+use Rattle.plain_set.specs.theory.Count.{one, one-le, sum, sumBelow-list}
 use Rattle.plain_set.specs.theory.Blocks.{below, blocks-total}
 use Rattle.plain_set.specs.theory.Pad.{length-padded, padded-zeros}
 use Rattle.plain_set.specs.theory.Rep.{Tail, Holds, Links, Chain, Rep, Sound}
 use Rattle.plain_set.specs.theory.Tails.{not-in}
 use Rattle.plain_set.specs.theory.Change.{rep-content}
-use Rattle.plain_set.specs.theory.Tests.{single-once, allBlocks, occursInLists-sum, getD-each, length-each}
+use Rattle.plain_set.specs.theory.Tests.{single-once}
 
 module _ (g : Layout) where
   -- a full block has no unused slots
@@ -34,19 +32,19 @@ module _ (g : Layout) where
   padded-none n es = rw (drop-of-length-le (padded n es) {i = suc n} (omega (arith, length-padded n es)))
 
   -- the unused slots of a list's blocks are zero
-  tail-unused : (os : List Overflow) (b : ℕ) (bs : List ℕ) (es : List ℕ) (d : ℕ) → Tail g os b bs es d
+  tail-unused : (i : ℕ) (os : List Overflow) (b : ℕ) (bs : List ℕ) (es : List ℕ) (d : ℕ) → Tail g i os b bs es d
       → every (overflowUnused g os) (b ∷ bs) ≡ true
-  tail-unused os b [] es d h =
+  tail-unused i os b [] es d h =
       let e : suc (length es - 1) ≡ length es = omega arith in
       true-both {a = overflowUnused g os b} (rw (h .2, e) (padded-zeros (g .sio) es)) refl
-  tail-unused os b (c ∷ cs) es d h =
+  tail-unused i os b (c ∷ cs) es d h =
       true-both {a = overflowUnused g os b} (rw (h .1) (padded-none (g .sio) es))
-      (tail-unused os c cs (drop (g .sio) es) d (h .2))
+      (tail-unused i os c cs (drop (g .sio) es) d (h .2))
 
-  holds-unused : (b : Basic) (os : List Overflow) (bs : List ℕ) (es : List ℕ) → Holds g b os bs es
+  holds-unused : (i : ℕ) (b : Basic) (os : List Overflow) (bs : List ℕ) (es : List ℕ) → Holds g i b os bs es
       → basicUnused g b bs && every (overflowUnused g os) bs ≡ true
-  holds-unused b os [] es h = true-both {a = basicUnused g b []} (rw (h .2, h .1) (padded-zeros (g .sib) es)) refl
-  holds-unused b os (c ∷ cs) es h = tail-unused os c cs (drop (g .sib) es) (h .0) (h .5)
+  holds-unused i b os [] es h = true-both {a = basicUnused g b []} (rw (h .2, h .1) (padded-zeros (g .sib) es)) refl
+  holds-unused i b os (c ∷ cs) es h = tail-unused i os c cs (drop (g .sib) es) (h .0) (h .5)
 
   -- the walk along the free chain finds it
   chain-links : (n : ℕ) (os : List Overflow) (f : ℕ) (fs : List ℕ) → Links g os f fs → ((j : ℕ) → occurs j (f ∷ fs) ≤ 1)
@@ -81,18 +79,15 @@ module _ (g : Layout) where
       (chain-links (g .nob) (st .overflow) m ms (h .1) dis low l)
 
   pub sound-check : (st : State) → Sound g st → stateSound g st ≡ true
-  unfolding stateSound content
+  unfolding stateSound
   sound-check st o =
       true-both lists-fine
       (rw (free-is st fs (r .chain) dis low (omega (arith, blocks-total (g .nob) (o .B) fs (r .once))))
       (true-both
       (chain-zero os (st .free) fs (r .chain))
-      (below-all (g .nob) (λ j. eqb (occursInLists g j bs os + occurs j fs) 1)
-      (λ j l. eq-eqb (occursInLists g j bs os + occurs j fs) 1 (one-each j l)))))
+      (below-all (g .nob) (λ j. eqb (occursInLists g j st + occurs j fs) 1)
+      (λ j l. eq-eqb (occursInLists g j st + occurs j fs) 1 (one-each j l)))))
     where
-      bs : List Basic
-      bs = st .basic
-
       os : List Overflow
       os = st .overflow
 
@@ -108,39 +103,29 @@ module _ (g : Layout) where
       low : (j : ℕ) → 0 < occurs j fs → j < g .nob
       low j l = below j (g .nob) (omega (arith, r .once j))
 
-      content-is : (i : ℕ) → i < g .lists → contentOf g (basicAt bs i) os ≡ some (mkContent (getD (o .B) i []) (getD (o .T) i []))
-      content-is i l = rep-content r i l
+      -- the lists' blocks are those that following finds
+      occurs-is : (j : ℕ) → occursInLists g j st ≡ sum (occurs j) (o .B)
+      occurs-is j =
+          sum-ext (g .lists) (λ i. occurs j (blocksOf (content g st i))) (λ i. occurs j (getD (o .B) i []))
+          (λ i l. ap (λ (v : Option Content). occurs j (blocksOf v)) (rep-content r i l))
+          ∙ ap (λ (n : ℕ). sumBelow n (λ i. occurs j (getD (o .B) i []))) (sym (r .blocks))
+          ∙ sumBelow-list (occurs j) (o .B) []
 
-      blocks-are : allBlocks g bs os ≡ o .B
-      blocks-are =
-          ext-getD [] (allBlocks g bs os) (o .B) (length-each g blocksOf bs os ∙ r .basics ∙ sym (r .blocks))
-          (λ i l.
-          getD-each g blocksOf bs os i [] (omega (arith, length-each g blocksOf bs os))
-          ∙ ap blocksOf (content-is i (omega (arith, length-each g blocksOf bs os, r .basics))))
+      one-each : (j : ℕ) → j < g .nob → occursInLists g j st + occurs j fs ≡ 1
+      one-each j l = omega (arith, occurs-is j, r .once j, ap one (lt-ltb j (g .nob) l))
 
-      one-each : (j : ℕ) → j < g .nob → occursInLists g j bs os + occurs j fs ≡ 1
-      one-each j l =
-          omega (
-            arith,
-            occursInLists-sum g j bs os,
-            ap (λ (B : List (List ℕ)). sum (occurs j) B) blocks-are,
-            r .once j,
-            ap one (lt-ltb j (g .nob) l),
-          )
-
-      list-fine : (i : ℕ) → i < g .lists → listSound g (basicAt bs i) os (some (mkContent (getD (o .B) i []) (getD (o .T) i []))) ≡ true
+      list-fine : (i : ℕ) → i < g .lists → listSound g (basicAt (st .basic) i) os (some (mkContent (getD (o .B) i []) (getD (o .T) i []))) ≡ true
       list-fine i l =
-          let b : Basic = basicAt bs i in
+          let b : Basic = basicAt (st .basic) i in
           let cs : List ℕ = getD (o .B) i [] in
           let es : List ℕ = getD (o .T) i [] in
-          let z = holds-unused b os cs es (r .each i l) in
+          let z = holds-unused i b os cs es (r .each i l) in
           true-both
           (both-true (basicUnused g b cs) (every (overflowUnused g os) cs) z .0)
           (true-both
           (both-true (basicUnused g b cs) (every (overflowUnused g os) cs) z .1)
           (single-once g es (o .single i l)))
 
-      lists-fine : listsSound g bs os ≡ true
+      lists-fine : listsSound g st ≡ true
       lists-fine =
-          lists-all g bs os
-          (λ i l. let m : i < g .lists = omega (arith, r .basics) in rw (content-is i m) (list-fine i m))
+          below-all (g .lists) (λ i. listSound g (basicAt (st .basic) i) os (content g st i)) (λ i l. rw (rep-content r i l) (list-fine i l))

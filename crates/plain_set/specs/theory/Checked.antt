@@ -12,11 +12,12 @@ use borrow.Author.Tests.{eqb-true, ltb-true, ltb-false}
 use Rattle.laws.specs.Folds.{every, everyBelow, allZero}
 use Rattle.laws.specs.Cases.{cases, both-true, never}
 use Rattle.laws.specs.Tests.{below-at}
+use Rattle.laws.specs.Sums.{sum-ext, sum-zero}
 use Rattle.settings.specs.declared.layout.Layout.{Layout}
 use Rattle.settings.specs.Proper.{Proper}
 use Rattle.table.specs.Arrays.{padded}
 use Rattle.table.specs.State.{Basic, Overflow, State, mkOverflow, basicAt, overflowAt, emptyBlock, unpack, ownSlots}
-use Rattle.table.specs.Follow.{lastOf, Content, cons?, follow, gather, contentOver, contentOf, content, goOn, stepAt}
+use Rattle.table.specs.Follow.{lastOf, Content, cons?, isOwn, ownBlocks, follow, gather, contentOver, contentOf, content, goOn, stepAt}
 use Rattle.table.specs.theory.Ways.{Way, way}
 use Rattle.table.specs.theory.Ways as ways
 use Rattle.table.specs.declared.step.Step.{Step}
@@ -24,18 +25,17 @@ use Rattle.table.specs.declared.step.Step.the-variants.{Last, Further, Damage}
 use Rattle.table.specs.Take.{occurs}
 use Rattle.plain_set.specs.Rebuilt.{slotsOf}
 use Rattle.table.specs.Check.{blocksOf, basicUnused, overflowUnused, freeZero, noEntryTwice, listSound, listsSound, chainFrom, freeChain, occursInLists, chainSound, stateSound}
-use Rattle.plain_set.specs.theory.Count.{one, sum}
+use Rattle.plain_set.specs.theory.Count.{one}
 use Rattle.table.specs.theory.Formed.{All, all-nil, Fits, Formed, overflow-fits}
 use Rattle.table.specs.theory.FormedCalls.{ContentFits, holds-none, holds-some, Holds as Whole, content-holds as content-formed}
-use Rattle.table.specs.theory.Every.{lists-at}
 use Rattle.table.specs.theory.FormedUpdates.{unpack-each}
 use Rattle.plain_set.specs.theory.Pad.{padded-id, padded-append-le, zeros-padded}
 use Rattle.plain_set.specs.theory.Rep.{Tail, Holds, Links, Chain, Single, Sound}
 use Rattle.plain_set.specs.theory.Tests.{once-single, allBlocks, allSlots, occursInLists-sum, getD-each, length-each}
 
 -- a block, by its fields
-overflow-eta : (o : Overflow) (n l : ℕ) (es : List ℕ) → o .counter ≡ n → o .link ≡ l → o .slots ≡ es → o ≡ mkOverflow n l es
-overflow-eta o n l es p q r = λ i. record { counter = p i; link = q i; slots = r i }
+overflow-eta : (o : Overflow) (n l i : ℕ) (es : List ℕ) → o .counter ≡ n → o .link ≡ l → o .owner ≡ i → o .slots ≡ es → o ≡ mkOverflow n l i es
+overflow-eta o n l i es p q w r = λ j. record { counter = p j; link = q j; owner = w j; slots = r j }
 
 module _ (g : Layout) where
   -- the blocks c, cs that following passes
@@ -83,36 +83,53 @@ module _ (g : Layout) where
       (λ e. let q = eqb-true j c e in omega (arith, p .0))
       (λ e. path-low os d ds j (p .3) (omega (arith, ap one e)))
 
+  -- and those that are left once their owner is tested are the list's own
+  abbrev Owned : ℕ → List Overflow → ℕ → Option (List ℕ) → Type 0
+  Owned i os b none = Unit {0}
+  Owned i os b (some bs) = Followed os b (some bs) × (every (isOwn i os) bs ≡ true)
+
+  owned : (i : ℕ) (os : List Overflow) (b : ℕ) → Owned i os b (ownBlocks i os (follow g (g .nob) os b))
+  owned i os b = go (follow g (g .nob) os b) (followed (g .nob) os b)
+    where
+      go : (o : Option (List ℕ)) → Followed os b o → Owned i os b (ownBlocks i os o)
+      go none w = tt
+      go (some bs) w = cases (every (isOwn i os) bs) (λ e. rw e (w, e)) (λ e. rw e tt)
+
   -- the blocks that following finds, in any state, are blocks of the table
-  list-low : (os : List Overflow) (b : Basic) (j : ℕ) → 0 < occurs j (blocksOf (contentOf g b os)) → j < g .nob
-  list-low os b j =
+  list-low : (i : ℕ) (os : List Overflow) (b : Basic) (j : ℕ) → 0 < occurs j (blocksOf (contentOf g i b os)) → j < g .nob
+  list-low i os b j =
       cases (ltb (b .counter) (suc (g .sib)))
       (λ e. rw e (λ h. absurd (omega arith)))
       (λ e.
       cases (eqb (b .counter) (suc (g .sib)))
-      (λ f. rw (e, f) (over (follow g (g .nob) os (b .head)) (followed (g .nob) os (b .head))))
+      (λ f. rw (e, f) (over (ownBlocks i os (follow g (g .nob) os (b .head))) (owned i os (b .head))))
       (λ f. rw (e, f) (λ h. absurd (omega arith))))
     where
-      over : (o : Option (List ℕ)) → Followed os (b .head) o → 0 < occurs j (blocksOf (contentOver g b os o)) → j < g .nob
+      over : (o : Option (List ℕ)) → Owned i os (b .head) o → 0 < occurs j (blocksOf (contentOver g b os o)) → j < g .nob
       over none w h = absurd (omega arith)
-      over (some []) w h = absurd w
-      over (some (c ∷ cs)) w h = path-low os c cs j (w .1) h
+      over (some []) w h = absurd (w .0)
+      over (some (c ∷ cs)) w h = path-low os c cs j (w .0 .1) h
 
-  none-above : (bs : List Basic) (os : List Overflow) (j : ℕ) → g .nob ≤ j → sum (occurs j) (allBlocks g bs os) ≡ 0
-  none-above [] os j l = refl
-  none-above (b ∷ bs) os j l =
-      let n : ℕ = occurs j (blocksOf (contentOf g b os)) in
-      cases (ltb 0 n)
-      (λ e. absurd (omega (arith, list-low os b j (ltb-true 0 n e))))
-      (λ e. omega (arith, ltb-false 0 n e, none-above bs os j l))
+  -- numbers that are all of blocks of the table: no other stands there
+  not-above : (j : ℕ) (ns : List ℕ) → ((n : ℕ) → 0 < occurs n ns → n < g .nob) → g .nob ≤ j → occurs j ns ≡ 0
+  not-above j ns f l =
+      cases (ltb 0 (occurs j ns))
+      (λ e. absurd (omega (arith, f j (ltb-true 0 (occurs j ns) e))))
+      (λ e. omega (arith, ltb-false 0 (occurs j ns) e))
+
+  none-above : (st : State) (j : ℕ) → g .nob ≤ j → occursInLists g j st ≡ 0
+  unfolding content
+  none-above st j l =
+      sum-ext (g .lists) (λ i. occurs j (blocksOf (content g st i))) (λ i. 0)
+      (λ i h. not-above j (blocksOf (content g st i)) (list-low i (st .overflow) (basicAt (st .basic) i)) l)
+      ∙ sum-zero (g .lists)
 
   -- all slots found have the slots' width
   content-fits : {o : Option Content} → Whole (ContentFits g) o → All (Fits (g .slot)) (slotsOf o)
   content-fits holds-none = all-nil
   content-fits (holds-some v) = v .slots
 
-  list-fits : {st : State} (i : ℕ) → Formed g st → All (Fits (g .slot)) (slotsOf (contentOf g (basicAt (st .basic) i) (st .overflow)))
-  unfolding content
+  list-fits : {st : State} (i : ℕ) → Formed g st → All (Fits (g .slot)) (slotsOf (content g st i))
   list-fits i f = content-fits (content-formed g f i)
 
   list-single : (b : Basic) (os : List Overflow) (o : Option Content) → listSound g b os o ≡ true → Single g (slotsOf o)
@@ -131,11 +148,13 @@ module _ (g : Layout) where
 
   module _ (os : List Overflow) (sized : (j : ℕ) → j < g .nob → length (overflowAt os j .slots) ≡ g .sio) where
     free-block : (f l : ℕ) → f < g .nob → overflowAt os f .link ≡ l → freeZero g os f ≡ true
-        → overflowAt os f ≡ emptyBlock g l
+        → overflowAt os f ≡ emptyBlock g l 0
     free-block f l h e z =
         let o : Overflow = overflowAt os f in
-        overflow-eta o 0 l (padded (g .sio) []) (eqb-true (o .counter) 0 (both-true (eqb (o .counter) 0) (allZero (o .slots)) z .0)) e
-        (zeros-padded (o .slots) 0 (g .sio) (sized f h) (omega arith) (both-true (eqb (o .counter) 0) (allZero (o .slots)) z .1))
+        let a = both-true (eqb (o .counter) 0) (isOwn 0 os f && allZero (o .slots)) z in
+        let c = both-true (isOwn 0 os f) (allZero (o .slots)) (a .1) in
+        overflow-eta o 0 l 0 (padded (g .sio) []) (eqb-true (o .counter) 0 (a .0)) e (eqb-true (o .owner) 0 (c .0))
+        (zeros-padded (o .slots) 0 (g .sio) (sized f h) (omega arith) (c .1))
 
     linked-cons : (f : ℕ) (o : Option (List ℕ)) → Linked os (overflowAt os f .link) o → f < g .nob → Linked os f (cons? f o)
     linked-cons f none w l = tt
@@ -195,20 +214,23 @@ module _ {g : Layout} (F : Proper g) where
           F .sio-low,
         )
 
-    -- such blocks, with zeros where slots are unused, hold the slots that following gathers
-    path-tail : (c : ℕ) (cs : List ℕ) → Path g os c cs → every (overflowUnused g os) (c ∷ cs) ≡ true
-        → Tail g os c cs (gather g os (c ∷ cs)) (overflowAt os (lastOf c cs) .link)
-    path-tail c [] p z =
+    own : (i c : ℕ) (cs : List ℕ) → every (isOwn i os) (c ∷ cs) ≡ true → overflowAt os c .owner ≡ i
+    own i c cs w = eqb-true (overflowAt os c .owner) i (both-true (isOwn i os c) (every (isOwn i os) cs) w .0)
+
+    -- such blocks of one list, with zeros where slots are unused, hold the slots that following gathers
+    path-tail : (i c : ℕ) (cs : List ℕ) → Path g os c cs → every (isOwn i os) (c ∷ cs) ≡ true → every (overflowUnused g os) (c ∷ cs) ≡ true
+        → Tail g i os c cs (gather g os (c ∷ cs)) (overflowAt os (lastOf c cs) .link)
+    path-tail i c [] p w z =
         let o : Overflow = overflowAt os c in
         let xs : List ℕ = take (suc (o .counter)) (o .slots) in
         let t : length xs ≡ suc (o .counter) = length-take-le (suc (o .counter)) (o .slots) (omega (arith, sized c (p .0), p .1)) in
         rw append-nil (
           omega arith,
           omega (arith, p .1),
-          overflow-eta o (length xs - 1) (o .link) (padded (g .sio) xs) (omega arith) refl
+          overflow-eta o (length xs - 1) (o .link) i (padded (g .sio) xs) (omega arith) refl (own i c [] w)
               (zeros-padded (o .slots) (suc (o .counter)) (g .sio) (sized c (p .0)) (p .1) (both-true (overflowUnused g os c) true z .0)),
         )
-    path-tail c (d ∷ ds) p z =
+    path-tail i c (d ∷ ds) p w z =
         let o : Overflow = overflowAt os c in
         let s : length (o .slots) ≡ g .sio = sized c (p .0) in
         let whole : take (suc (o .counter)) (o .slots) ≡ o .slots = take-all (suc (o .counter)) (o .slots) (omega (arith, p .1)) in
@@ -216,16 +238,17 @@ module _ {g : Layout} (F : Proper g) where
         let v : ℕ = overflowAt os (lastOf d ds) .link in
         rw whole (
           omega (arith, length-append (o .slots) later, gather-some d ds (path-first g os d ds (p .3))),
-          overflow-eta o (g .sio) d (padded (g .sio) (o .slots ++ later)) (p .1) (p .2)
+          overflow-eta o (g .sio) d i (padded (g .sio) (o .slots ++ later)) (p .1) (p .2) (own i c (d ∷ ds) w)
               (sym (padded-append-le (g .sio) (o .slots) later (omega arith) ∙ padded-id (g .sio) (o .slots) s)),
-          subst (λ (xs : List ℕ). Tail g os d ds xs v) (sym (drop-at (o .slots) later (g .sio) s))
-              (path-tail d ds (p .3) (both-true (overflowUnused g os c) (every (overflowUnused g os) (d ∷ ds)) z .1)),
+          subst (λ (xs : List ℕ). Tail g i os d ds xs v) (sym (drop-at (o .slots) later (g .sio) s))
+              (path-tail i d ds (p .3) (both-true (isOwn i os c) (every (isOwn i os) (d ∷ ds)) w .1)
+              (both-true (overflowUnused g os c) (every (overflowUnused g os) (d ∷ ds)) z .1)),
         )
 
     -- a list that passes its test stands as the blocks and slots that were found
-    list-holds : (b : Basic) → listSound g b os (contentOf g b os) ≡ true
-        → Holds g b os (blocksOf (contentOf g b os)) (slotsOf (contentOf g b os))
-    list-holds b =
+    list-holds : (i : ℕ) (b : Basic) → listSound g b os (contentOf g i b os) ≡ true
+        → Holds g i b os (blocksOf (contentOf g i b os)) (slotsOf (contentOf g i b os))
+    list-holds i b =
         cases (ltb (b .counter) (suc (g .sib)))
         (λ e.
         rw e
@@ -237,83 +260,80 @@ module _ {g : Layout} (F : Proper g) where
         (omega arith, omega arith, zeros-padded all (b .counter) (g .sib) s (omega arith) (both-true (basicUnused g b []) _ h .0))))
         (λ e.
         cases (eqb (b .counter) (suc (g .sib)))
-        (λ f. rw (e, f) (over (follow g (g .nob) os (b .head)) (followed g (g .nob) os (b .head)) (eqb-true (b .counter) (suc (g .sib)) f)))
+        (λ f.
+        rw (e, f)
+        (over (ownBlocks i os (follow g (g .nob) os (b .head))) (owned g i os (b .head)) (eqb-true (b .counter) (suc (g .sib)) f)))
         (λ f. rw (e, f) (λ h. never h)))
       where
-        over : (o : Option (List ℕ)) → Followed g os (b .head) o → b .counter ≡ suc (g .sib) → listSound g b os (contentOver g b os o) ≡ true
-            → Holds g b os (blocksOf (contentOver g b os o)) (slotsOf (contentOver g b os o))
+        over : (o : Option (List ℕ)) → Owned g i os (b .head) o → b .counter ≡ suc (g .sib) → listSound g b os (contentOver g b os o) ≡ true
+            → Holds g i b os (blocksOf (contentOver g b os o)) (slotsOf (contentOver g b os o))
         over none w f h = never h
-        over (some []) w f h = absurd w
+        over (some []) w f h = absurd (w .0)
         over (some (c ∷ cs)) w f h =
             let d : ℕ = overflowAt os (lastOf c cs) .link in
             let base : List ℕ = unpack g d (b .rest) in
             let later : List ℕ = gather g os (c ∷ cs) in
             let l : length base ≡ g .sib = unpack-each g d (b .rest) .long in (
               d,
-              omega (arith, length-append base later, gather-some c cs (path-first g os c cs (w .1))),
+              omega (arith, length-append base later, gather-some c cs (path-first g os c cs (w .0 .1))),
               f,
-              w .0,
+              w .0 .0,
               sym (padded-append-le (g .sib) base later (omega arith) ∙ padded-id (g .sib) base l),
-              subst (λ (xs : List ℕ). Tail g os c cs xs d) (sym (drop-at base later (g .sib) l))
-                  (path-tail c cs (w .1) (both-true (every (overflowUnused g os) (c ∷ cs)) (noEntryTwice g (base ++ later)) h .0)),
+              subst (λ (xs : List ℕ). Tail g i os c cs xs d) (sym (drop-at base later (g .sib) l))
+                  (path-tail i c cs (w .0 .1) (w .1) (both-true (every (overflowUnused g os) (c ∷ cs)) (noEntryTwice g (base ++ later)) h .0)),
             )
 
   -- check's test passes: the state holds the lists that following finds, each block once, each entry once in its list
   pub check-sound : (st : State) → Formed g st → stateSound g st ≡ true → Sound g st
-  unfolding stateSound
-  check-sound st d h = go (freeChain g st) (chained g st d) (both-true (listsSound g bs os) (chainSound g st (freeChain g st)) h .1)
+  unfolding stateSound content
+  check-sound st d h = go (freeChain g st) (chained g st d) (both-true (listsSound g st) (chainSound g st (freeChain g st)) h .1)
     where
-      bs : List Basic
-      bs = st .basic
-
       os : List Overflow
       os = st .overflow
 
-      ok-at : (i : ℕ) → i < g .lists → listSound g (basicAt bs i) os (contentOf g (basicAt bs i) os) ≡ true
-      ok-at i l =
-          lists-at g bs os i (both-true (listsSound g bs os) (chainSound g st (freeChain g st)) h .0) (omega (arith, d .basic .long))
+      basic : ℕ → Basic
+      basic i = basicAt (st .basic) i
 
-      not-above : (j : ℕ) (ns : List ℕ) → ((n : ℕ) → 0 < occurs n ns → n < g .nob) → g .nob ≤ j → occurs j ns ≡ 0
-      not-above j ns f l =
-          cases (ltb 0 (occurs j ns))
-          (λ e. absurd (omega (arith, f j (ltb-true 0 (occurs j ns) e))))
-          (λ e. omega (arith, ltb-false 0 (occurs j ns) e))
+      ok-at : (i : ℕ) → i < g .lists → listSound g (basic i) os (content g st i) ≡ true
+      ok-at i l =
+          below-at (g .lists) (λ i. listSound g (basic i) os (content g st i))
+          (both-true (listsSound g st) (chainSound g st (freeChain g st)) h .0) i l
 
       go : (o : Option (List ℕ)) → Chained g st o → chainSound g st o ≡ true → Sound g st
       go none w z = never z
       go (some fs) w z =
           record {
-            T = allSlots g bs os;
-            B = allBlocks g bs os;
+            T = allSlots g st;
+            B = allBlocks g st;
             fs = fs;
             rep = record {
               basics = d .basic .long;
               overs = d .overflow .long;
-              lists = length-each g slotsOf bs os ∙ d .basic .long;
-              blocks = length-each g blocksOf bs os ∙ d .basic .long;
+              lists = length-each g slotsOf st;
+              blocks = length-each g blocksOf st;
               each = λ i l.
-                  rw (getD-each g slotsOf bs os i [] (omega (arith, d .basic .long)), getD-each g blocksOf bs os i [] (omega (arith, d .basic .long)))
-                  (list-holds os (λ j l. overflow-fits g d j l .slots .long) (basicAt bs i) (ok-at i l));
-              fits = λ i l. rw (getD-each g slotsOf bs os i [] (omega (arith, d .basic .long))) (list-fits g i d);
+                  rw (getD-each g slotsOf st i [] l, getD-each g blocksOf st i [] l)
+                  (list-holds os (λ j l. overflow-fits g d j l .slots .long) i (basic i) (ok-at i l));
+              fits = λ i l. rw (getD-each g slotsOf st i [] l) (list-fits g i d);
               chain = w .0 (both-true zeroed (everyBelow (g .nob) one-each) z .0);
               once = λ j.
                   cases (ltb j (g .nob))
                   (λ e.
-                  let q : occursInLists g j bs os + occurs j fs ≡ 1 =
-                  eqb-true (occursInLists g j bs os + occurs j fs) 1
+                  let q : occursInLists g j st + occurs j fs ≡ 1 =
+                  eqb-true (occursInLists g j st + occurs j fs) 1
                   (below-at (g .nob) one-each (both-true zeroed (everyBelow (g .nob) one-each) z .1) j (ltb-true j (g .nob) e)) in
-                  omega (arith, occursInLists-sum g j bs os, ap one e))
+                  omega (arith, occursInLists-sum g j st, ap one e))
                   (λ e.
                   let l = ltb-false j (g .nob) e in
-                  omega (arith, ap one e, none-above g bs os j l, not-above j fs (w .1) l));
+                  omega (arith, occursInLists-sum g j st, ap one e, none-above g st j l, not-above g j fs (w .1) l));
             };
             single = λ i l.
-                rw (getD-each g slotsOf bs os i [] (omega (arith, d .basic .long)))
-                (list-single g (basicAt bs i) os (contentOf g (basicAt bs i) os) (ok-at i l));
+                rw (getD-each g slotsOf st i [] l)
+                (list-single g (basic i) os (content g st i) (ok-at i l));
           }
         where
           zeroed : Bool
           zeroed = every (freeZero g os) fs
 
           one-each : ℕ → Bool
-          one-each j = eqb (occursInLists g j bs os + occurs j fs) 1
+          one-each j = eqb (occursInLists g j st + occurs j fs) 1

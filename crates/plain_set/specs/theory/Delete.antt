@@ -63,13 +63,13 @@ module _ {g : Layout} {st : State} {i : ℕ} {es : List ℕ} (p x : ℕ) (l : p 
   store-low {c} {cs} {fs} k m =
       let b : Basic = basicAt (st .basic) i in
       let os : List Overflow = st .overflow in
-      let h : Holds g b os (c ∷ cs) es = k .hold in
+      let h : Holds g i b os (c ∷ cs) es = k .hold in
       let n : ℕ = lastOf c cs in
       let o : Overflow = overflowAt os n in
       let body : List ℕ = set (unpack g (o .link) (b .rest)) p x in
       let v : Overflow = withLink (headOf g body) o in
       let was : unpack g (o .link) (b .rest) ≡ padded (g .sib) es =
-      ap (λ (d : ℕ). unpack g d (b .rest)) (last-link g os c cs (drop (g .sib) es) (h .0) (h .5)) ∙ h .4 in
+      ap (λ (d : ℕ). unpack g d (b .rest)) (last-link g i os c cs (drop (g .sib) es) (h .0) (h .5)) ∙ h .4 in
       rw (lt-ltb p (g .sib) m)
       record {
         block = withRest (restOf g body) b;
@@ -84,7 +84,7 @@ module _ {g : Layout} {st : State} {i : ℕ} {es : List ℕ} (p x : ℕ) (l : p 
           h .3,
           unpack-set g (o .link) (b .rest) p x fx ∙ ap (λ (ys : List ℕ). set ys p x) was ∙ sym (padded-set (g .sib) es p x l m),
           rw (drop-set-lt (g .sib) es p x m)
-              (tail-relink g os (set os n v) c cs (drop (g .sib) es) (h .0) (headOf g body) (h .5) (λ j. omega (arith, k .dis j))
+              (tail-relink g i os (set os n v) c cs (drop (g .sib) es) (h .0) (headOf g body) (h .5) (λ j. omega (arith, k .dis j))
               (set-here os n v (omega (arith, k .len, k .low n (omega (arith, occurs-last c cs)))))
               (set-there os n v)),
         );
@@ -103,7 +103,7 @@ module _ {g : Layout} {st : State} {i : ℕ} {es : List ℕ} (p x : ℕ) (l : p 
   unfolding storeAt
   store-high {c} {cs} {fs} k m =
       let os : List Overflow = st .overflow in
-      let h : Holds g (basicAt (st .basic) i) os (c ∷ cs) es = k .hold in
+      let h : Holds g i (basicAt (st .basic) i) os (c ∷ cs) es = k .hold in
       let q : ℕ = p - g .sib in
       let us : List Overflow = storeOverflow g os (c ∷ cs) q x in
       rw (le-ltb p (g .sib) m)
@@ -120,7 +120,7 @@ module _ {g : Layout} {st : State} {i : ℕ} {es : List ℕ} (p x : ℕ) (l : p 
           h .3,
           h .4 ∙ sym (padded-set-out (g .sib) es p x m),
           rw (drop-set-ge (g .sib) es p x m)
-              (tail-store g os c cs (drop (g .sib) es) (h .0) q x (h .5) (λ j. omega (arith, k .dis j))
+              (tail-store g i os c cs (drop (g .sib) es) (h .0) q x (h .5) (λ j. omega (arith, k .dis j))
               (λ j z. omega (arith, k .len, k .low j (omega arith)))
               (omega (arith, length-drop (g .sib) es))),
         );
@@ -152,7 +152,7 @@ module _ {g : Layout} {st : State} {i : ℕ} {bs es : List ℕ} where
 
   -- a block l to the front of the free chain
   chain-put : (us : List Overflow) (fs : List ℕ) (l : ℕ) → Standing g st i bs fs es
-      → overflowAt us l ≡ emptyBlock g (linkFree g (st .free) l)
+      → overflowAt us l ≡ emptyBlock g (linkFree g (st .free) l) 0
       → ((j : ℕ) → 0 < occurs j fs → overflowAt us j ≡ overflowAt (st .overflow) j)
       → Chain g us l (l ∷ fs)
   chain-put us [] l k e rest = (refl, e ∙ rw (eq-eqb (st .free) (g .nob) (k .chain)))
@@ -161,7 +161,7 @@ module _ {g : Layout} {st : State} {i : ℕ} {bs es : List ℕ} where
     (
       e
           ∙ rw (ne-eqb (st .free) (g .nob) (λ q. omega (arith, k .chain .0, k .low n (omega (arith, occurs-head n ns)))))
-          (ap (λ (m : ℕ). emptyBlock g m) (k .chain .0)),
+          (ap (λ (m : ℕ). emptyBlock g m 0) (k .chain .0)),
       links-frame g (st .overflow) us n ns rest (k .chain .1),
     ),
   )
@@ -202,11 +202,11 @@ module _ {g : Layout} (F : Proper g) {st : State} {i : ℕ} {es : List ℕ} (m :
       (overOverflow (lastOf c cs) lastSlotOff st)
   shrink-keep {c} {cs} {fs} k some-left =
       let os : List Overflow = st .overflow in
-      let h : Holds g (basicAt (st .basic) i) os (c ∷ cs) es = k .hold in
+      let h : Holds g i (basicAt (st .basic) i) os (c ∷ cs) es = k .hold in
       let n : ℕ = lastOf c cs in
       let v : Overflow = lastSlotOff (overflowAt os n) in
       let t : length (take m es) ≡ m = length-take-le m es (omega arith) in
-      let long = tail-last g os c cs (drop (g .sib) es) (h .0) (h .5) in
+      let long = tail-last g i os c cs (drop (g .sib) es) (h .0) (h .5) in
       let dl = length-drop (g .sib) es in
       record {
         cs = c ∷ cs;
@@ -224,7 +224,7 @@ module _ {g : Layout} (F : Proper g) {st : State} {i : ℕ} {es : List ℕ} (m :
             h .3,
             h .4 ∙ sym (padded-init-out (g .sib) es m (omega arith)),
             rw (drop-take (g .sib) m es)
-                (tail-shrink g os (set os n v) c cs (drop (g .sib) es) (h .0) (m - g .sib) (h .5) (λ j. omega (arith, k .dis j)) some-left
+                (tail-shrink g i os (set os n v) c cs (drop (g .sib) es) (h .0) (m - g .sib) (h .5) (λ j. omega (arith, k .dis j)) some-left
                 (omega arith)
                 (set-here os n v (omega (arith, k .len, k .low n (omega (arith, occurs-last c cs)))))
                 (set-there os n v)),
@@ -246,10 +246,10 @@ module _ {g : Layout} (F : Proper g) {st : State} {i : ℕ} {es : List ℕ} (m :
   shrink-back {c} {fs} k single =
       let b : Basic = basicAt (st .basic) i in
       let os : List Overflow = st .overflow in
-      let h : Holds g b os (c ∷ []) es = k .hold in
-      let v : Overflow = emptyBlock g (linkFree g (st .free) c) in
+      let h : Holds g i b os (c ∷ []) es = k .hold in
+      let v : Overflow = emptyBlock g (linkFree g (st .free) c) 0 in
       let t : length (take m es) ≡ m = length-take-le m es (omega arith) in
-      let long = tail-last g os c [] (drop (g .sib) es) (h .0) (h .5) in
+      let long = tail-last g i os c [] (drop (g .sib) es) (h .0) (h .5) in
       let sized : m ≡ g .sib = omega (arith, length-drop (g .sib) es, h .1) in
       record {
         cs = [];
@@ -263,7 +263,7 @@ module _ {g : Layout} (F : Proper g) {st : State} {i : ℕ} {es : List ℕ} (m :
           hold = (
             omega arith,
             omega arith,
-            ap (λ (n : ℕ). unpack g n (b .rest)) (last-link g os c [] (drop (g .sib) es) (h .0) (h .5))
+            ap (λ (n : ℕ). unpack g n (b .rest)) (last-link g i os c [] (drop (g .sib) es) (h .0) (h .5))
                 ∙ h .4
                 ∙ sym (padded-init-out (g .sib) es m (omega arith)),
           );
@@ -283,11 +283,11 @@ module _ {g : Layout} (F : Proper g) {st : State} {i : ℕ} {es : List ℕ} (m :
       (freed g (lastOf d ds) (overOverflow (prevOf c d ds) (withFront (g .sio - 1) (lastBlock (st .overflow) d ds .link)) st))
   shrink-free {c} {d} {ds} {fs} k single =
       let os : List Overflow = st .overflow in
-      let h : Holds g (basicAt (st .basic) i) os (c ∷ d ∷ ds) es = k .hold in
+      let h : Holds g i (basicAt (st .basic) i) os (c ∷ d ∷ ds) es = k .hold in
       let n : ℕ = lastOf d ds in
       let p : ℕ = prevOf c d ds in
       let v : Overflow = withFront (g .sio - 1) (overflowAt os n .link) (overflowAt os p) in
-      let u : Overflow = emptyBlock g (linkFree g (st .free) n) in
+      let u : Overflow = emptyBlock g (linkFree g (st .free) n) 0 in
       let us : List Overflow = set (set os p v) n u in
       let t : length (take m es) ≡ m = length-take-le m es (omega arith) in
       let dl = length-drop (g .sib) es in
@@ -309,7 +309,7 @@ module _ {g : Layout} (F : Proper g) {st : State} {i : ℕ} {es : List ℕ} (m :
             h .3,
             h .4 ∙ sym (padded-init-out (g .sib) es m (omega arith)),
             rw (drop-take (g .sib) m es)
-                (tail-drop F os us c d ds (drop (g .sib) es) (h .0) (m - g .sib) (h .5) (λ j. omega (arith, k .dis j)) single (omega arith)
+                (tail-drop F i os us c d ds (drop (g .sib) es) (h .0) (m - g .sib) (h .5) (λ j. omega (arith, k .dis j)) single (omega arith)
                 (two-first os p n v u (omega (arith, k .len, k .low p (omega arith)))
                 (λ q. omega (arith, occurs-prev c d ds, occurs-butLast p d ds, k .dis p, ap one (eq-eqb p n q))))
                 (two-else os p n v u)),

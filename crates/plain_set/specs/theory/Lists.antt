@@ -45,6 +45,13 @@ module _ (s : Settings) (T : List (List ℕ)) (k : ℕ) where
   abbrev pub holdsKey : Bool
   holdsKey = inRow s k rowOf
 
+  -- then its entry stands in its place
+  pub place-there : holdsKey ≡ true → placeIn s k rowOf < length rowOf
+  place-there e = ltb-true _ _ e
+
+  pub place-entry : holdsKey ≡ true → entryOf (layoutOf s) (getD rowOf (placeIn s k rowOf) 0) ≡ entry s k
+  place-entry e = eqb-true _ _ (position-held (layoutOf s) (entry s k) rowOf 0 (place-there e))
+
   -- the key's list has no vacant slot, and no block is free
   abbrev pub isFull : Bool
   isFull = noRoom (layoutOf s) T (listNumber s k)
@@ -90,22 +97,25 @@ module _ (s : Settings) (legal : Legal s) (T : List (List ℕ)) (ps : List Pair)
     pair-there : (x : ℕ) → entryOf (layoutOf s) x ≡ entry s k → pairOf s (listNumber s k) x ≡ pair k (labelOf (layoutOf s) x)
     pair-there x e = ap (λ (n : ℕ). pair n (labelOf (layoutOf s) x)) (key-of-entry s legal k x ok e)
 
+    -- the label of such a slot in the key's list is the key's
+    pub lookup-at : (p : ℕ) → p < length (rowOf s T k) → entryOf (layoutOf s) (getD (rowOf s T k) p 0) ≡ entry s k
+        → lookup k ps ≡ some (labelOf (layoutOf s) (getD (rowOf s T k) p 0))
+    lookup-at p l e =
+        let x : ℕ = getD (rowOf s T k) p 0 in
+        let q : Pair = pair k (labelOf (layoutOf s) x) in
+        let self : isPair q q ≡ true = rw (eq-eqb k k refl, eq-eqb (labelOf (layoutOf s) x) (labelOf (layoutOf s) x) refl) in
+        let found =
+        count-at (λ y. isPair q (pairOf s (listNumber s k) y)) (rowOf s T k) p 0 l (ap (isPair q) (pair-there x e) ∙ self) in
+        lookup-some k (labelOf (layoutOf s) x) ps (w .once k)
+        (omega (arith, w .pairs (isPair q), count-at-row s (isPair q) T (listNumber s k) in-lists))
+
     -- the pair at the place of the key's entry
     pair-held : holdsKey s T k ≡ true
         → pairOf s (listNumber s k) (getD (rowOf s T k) (placeIn s k (rowOf s T k)) 0) ≡ pair k (labelIn s k (rowOf s T k))
-    pair-held e =
-        pair-there (getD (rowOf s T k) (placeIn s k (rowOf s T k)) 0)
-        (eqb-true _ _ (position-held (layoutOf s) (entry s k) (rowOf s T k) 0 (ltb-true _ _ e)))
+    pair-held e = pair-there (getD (rowOf s T k) (placeIn s k (rowOf s T k)) 0) (place-entry s T k e)
 
     lookup-held : holdsKey s T k ≡ true → lookup k ps ≡ some (labelIn s k (rowOf s T k))
-    lookup-held e =
-        let q : Pair = pair k (labelIn s k (rowOf s T k)) in
-        let p : ℕ = placeIn s k (rowOf s T k) in
-        let self : isPair q q ≡ true = rw (eq-eqb k k refl, eq-eqb (labelIn s k (rowOf s T k)) (labelIn s k (rowOf s T k)) refl) in
-        let at : isPair q (pairOf s (listNumber s k) (getD (rowOf s T k) p 0)) ≡ true = ap (isPair q) (pair-held e) ∙ self in
-        let found = count-at (λ x. isPair q (pairOf s (listNumber s k) x)) (rowOf s T k) p 0 (ltb-true _ _ e) at in
-        lookup-some k (labelIn s k (rowOf s T k)) ps (w .once k)
-        (omega (arith, w .pairs (isPair q), count-at-row s (isPair q) T (listNumber s k) in-lists))
+    lookup-held e = lookup-at (placeIn s k (rowOf s T k)) (place-there s T k e) (place-entry s T k e)
 
     none-there : holdsKey s T k ≡ false → count (hasKey k) ps ≡ 0
     none-there e =
@@ -158,7 +168,7 @@ module _ (s : Settings) (legal : Legal s) (T : List (List ℕ)) (ps : List Pair)
               omega (
                 arith,
                 count-put s f T (listNumber s k) (set es p x) in-lists,
-                count-set (λ y. f (pairOf s (listNumber s k) y)) es p x 0 (ltb-true _ _ e),
+                count-set (λ y. f (pairOf s (listNumber s k) y)) es p x 0 (place-there s T k e),
                 count-relabel f k l (labelIn s k es) ps (lookup-held e),
                 ap (λ (q : Pair). one (f q)) (pair-held e),
                 ap (λ (q : Pair). one (f q)) (pair-new l high),
@@ -181,12 +191,12 @@ module _ (s : Settings) (legal : Legal s) (T : List (List ℕ)) (ps : List Pair)
         record {
           long = simp length-set (w .long);
           fit = fit-put s T (listNumber s k) (swapOut es p) in-lists (w .fit)
-              (all-swap p (ltb-true _ _ e) (w .fit (listNumber s k) (number-below s legal k ok)));
+              (all-swap p (place-there s T k e) (w .fit (listNumber s k) (number-below s legal k ok)));
           pairs = λ f.
               omega (
                 arith,
                 count-put s f T (listNumber s k) (swapOut es p) in-lists,
-                count-swap (λ y. f (pairOf s (listNumber s k) y)) es p (ltb-true _ _ e),
+                count-swap (λ y. f (pairOf s (listNumber s k) y)) es p (place-there s T k e),
                 count-erase f k (labelIn s k (rowOf s T k)) ps (lookup-held e),
                 ap (λ (q : Pair). one (f q)) (pair-held e),
                 w .pairs f,

@@ -51,7 +51,7 @@ bytes-drop zero t a i = a i
 bytes-drop (suc n) [] a i = omega arith
 bytes-drop (suc n) (x ∷ t) a i = bytes-drop n t (λ j. a (suc j)) i
 
-decode-append : (g : Layout) → Proper g → (u v : List ℕ) → g .bits ≤ 8 * length u → decode g (u ++ v) ≡ decode g u
+pub decode-append : (g : Layout) → Proper g → (u v : List ℕ) → g .bits ≤ 8 * length u → decode g (u ++ v) ≡ decode g u
 decode-append g F u v h =
     image-inj g F (decode-formed g (u ++ v)) (decode-formed g u)
     (image-decode g F (u ++ v) ∙ field-append u v 0 (g .bits) (omega arith) ∙ sym (image-decode g F u))

@@ -4,7 +4,7 @@ use mathlib.Core.Logic.{_≢_}
 use mathlib.Core.Bool.{true}
 use mathlib.Core.List.{List, [], _∷_, _++_}
 use mathlib.Core.Option.{Option, none, some}
-use Prim.Native.Nat.{ℕ, zero, suc, _-_, _≤_, _<_}
+use Prim.Native.Nat.{ℕ, zero, suc, _+_, _-_, _≤_, _<_}
 use native.Mathlib.Omega.{arith}
 use lib.ListN.{length, getD}
 use lib.Dec.{ltb}
@@ -59,18 +59,18 @@ module _ (s : Settings) where
 
   -- The lists from list i on, each without damage ------------------------------------------------------------------------------
 
-  record Each (bs : List Basic) (os : List Overflow) : Type 0 where
-    undamaged : (k : ℕ) → k < length bs → contentOf (layoutOf s) (basicAt bs k) os ≢ none
+  record Each (i : ℕ) (bs : List Basic) (os : List Overflow) : Type 0 where
+    undamaged : (j k : ℕ) → j ≡ i + k → k < length bs → contentOf (layoutOf s) j (basicAt bs k) os ≢ none
 
-  nth-from : (i : ℕ) (bs : List Basic) (os : List Overflow) → Each bs os → (n : ℕ)
+  nth-from : (i : ℕ) (bs : List Basic) (os : List Overflow) → Each i bs os → (n : ℕ)
       → recordFrom s i bs os n ≡ nthRecord (rebuiltFrom s i bs os) n
   unfolding recordFrom
   nth-from i [] os U n = refl
   nth-from i (b ∷ bs) os U n =
-      go (contentOf (layoutOf s) b os) refl (U .undamaged 0 (omega arith))
-      (λ m. nth-from (suc i) bs os (record { undamaged = λ k h. U .undamaged (suc k) (omega arith) }) m)
+      go (contentOf (layoutOf s) i b os) refl (U .undamaged i 0 (omega arith) (omega arith))
+      (λ m. nth-from (suc i) bs os (record { undamaged = λ j k e h. U .undamaged j (suc k) (omega arith) (omega arith) }) m)
     where
-      go : (o : Option Content) → contentOf (layoutOf s) b os ≡ o → o ≢ none
+      go : (o : Option Content) → contentOf (layoutOf s) i b os ≡ o → o ≢ none
           → ((m : ℕ) → recordFrom s (suc i) bs os m ≡ nthRecord (rebuiltFrom s (suc i) bs os) m)
           → recordFrom s i (b ∷ bs) os n ≡ nthRecord (rebuiltFrom s i (b ∷ bs) os) n
       go none e u on = absurd (u refl)
@@ -89,7 +89,9 @@ module _ (s : Settings) (t : List ℕ) where
   unfolding recordIn rebuiltPairs content
   record-in-nth u n =
       nth-from s 0 (decode (layoutOf s) t .basic) (decode (layoutOf s) t .overflow)
-      (record { undamaged = λ k h. u k (omega (arith, decode-formed (layoutOf s) t .basic .long)) }) n
+      (record {
+        undamaged = λ j k e h. let z : j ≡ k = omega arith in rw z (u k (omega (arith, decode-formed (layoutOf s) t .basic .long)));
+      }) n
 
   -- clause 6.9, on every table without damage
   pub record-nth : Legal s → tableBytes s ≤ length t → Undamaged (layoutOf s) (decode (layoutOf s) t) → (n : ℕ)

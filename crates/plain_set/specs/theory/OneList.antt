@@ -29,7 +29,7 @@ tell a n = record { answer = a; compared = n }
 
 -- clause 7.1: a refusal has compared 0
 abbrev pub comparedOf : table.Answer → ℕ
-comparedOf (answer.Said label w n) = n
+comparedOf (answer.Said label w n slot) = n
 comparedOf (answer.Refused why) = 0
 
 abbrev pub told : table.Answer → Told

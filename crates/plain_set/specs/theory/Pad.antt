@@ -1,12 +1,12 @@
 -- Rows of slots with zeros behind, and laws of lists that the library lacks.
-use mathlib.Core.Path.{_≡_, refl, sym, ap, ap₂, subst}
+use mathlib.Core.Path.{_≡_, refl, sym, ap, ap₂, _∙_, subst}
 use mathlib.Core.Bool.{true}
 use mathlib.Core.List.{List, [], _∷_, _++_}
 use Prim.Native.Nat.{ℕ, zero, suc, _+_, _-_, _≤_, _<_}
 use native.Mathlib.Omega.{arith}
 use native.Mathlib.Nat.{sub-zero, zero-sub, suc-sub-suc}
-use lib.ListN.{length, set, take, drop, length-append}
-use lib.Seq.{take-nil, drop-set-add}
+use lib.ListN.{length, getD, set, take, drop, length-append}
+use lib.Seq.{take-nil, drop-set-add, getD-drop}
 use lib.Dec.{eqb}
 use borrow.Author.Tests.{eqb-true}
 use Rattle.laws.specs.Folds.{allZero}
@@ -23,6 +23,14 @@ take-padded zero [] h = refl
 take-padded zero (x ∷ es) h = absurd (omega arith)
 take-padded (suc n) [] h = refl
 take-padded (suc n) (x ∷ es) h = ap (x ∷_) (take-padded n es (omega arith))
+
+-- a slot of the block
+pub getD-padded : (n : ℕ) (es : List ℕ) (q : ℕ) → q < n → getD (padded n es) q 0 ≡ getD es q 0
+getD-padded zero es q h = absurd (omega arith)
+getD-padded (suc n) [] zero h = refl
+getD-padded (suc n) [] (suc q) h = getD-padded n [] q (omega arith)
+getD-padded (suc n) (x ∷ es) zero h = refl
+getD-padded (suc n) (x ∷ es) (suc q) h = getD-padded n es q (omega arith)
 
 -- a full block holds what it can take
 pub padded-take : (n : ℕ) (es : List ℕ) → n ≤ length es → padded n es ≡ take n es
@@ -105,6 +113,9 @@ module _ {A : Type 0} where
   drop-take (suc n) zero l = rw zero-sub
   drop-take (suc n) (suc m) [] = sym (take-nil (suc m - suc n))
   drop-take (suc n) (suc m) (x ∷ l) = rw suc-sub-suc (drop-take n m l)
+
+  pub getD-drop-ge : (n : ℕ) (l : List A) (i : ℕ) (d : A) → n ≤ i → getD (drop n l) (i - n) d ≡ getD l i d
+  getD-drop-ge n l i d h = let e : n + (i - n) ≡ i = omega arith in getD-drop n l (i - n) d ∙ ap (λ (m : ℕ). getD l m d) e
 
   pub drop-set-ge : (n : ℕ) (l : List A) (i : ℕ) (x : A) → n ≤ i → drop n (set l i x) ≡ set (drop n l) (i - n) x
   drop-set-ge n l i x h =

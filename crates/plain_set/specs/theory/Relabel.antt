@@ -8,7 +8,7 @@ use native.Mathlib.Omega.{arith}
 use lib.ListN.{length, getD, set}
 use lib.Seq.{getD-set-same, getD-set-other}
 use lib.Dec.{eqb, ltb}
-use borrow.Author.Tests.{eqb-true, eqb-false, ltb-true}
+use borrow.Author.Tests.{eqb-true, eqb-false}
 use Rattle.laws.specs.Cases.{cases}
 use Rattle.bits.specs.Bytes.{Bytes}
 use Rattle.settings.specs.declared.settings.Settings.{Settings}
@@ -20,7 +20,6 @@ use Rattle.settings.specs.Reply.{Reply, reply, called}
 use Rattle.settings.specs.theory.Dues.{NoneDue, by-dues}
 use Rattle.settings.specs.theory.Proper.{layout-proper}
 use Rattle.keys.specs.Key.{listNumber, entry}
-use Rattle.keys.specs.theory.Keys.{entry-below}
 use Rattle.table.specs.State.{Basic, Overflow, State, emptyBasic, absentBlock, basicAt, overflowAt, unpack, headOf, restOf, entryOf}
 use Rattle.table.specs.Follow.{Content, lastOf, content}
 use Rattle.table.specs.Sound as table
@@ -32,8 +31,7 @@ use Rattle.table.specs.declared.answers.Answer.{Answer}
 use Rattle.table.specs.declared.answers.Answer.the-variants as answer
 use Rattle.table.specs.declared.answers.CheckAnswer.the-variants as checking
 use Rattle.table.specs.theory.Formed.{Formed, decode-formed}
-use Rattle.table.specs.theory.FormedCalls.{either, Holds, holds-of, relabel-formed}
-use Rattle.table.specs.theory.Positions.{position-held}
+use Rattle.table.specs.theory.FormedCalls.{either, holds-of}
 use Rattle.table.specs.theory.Written.{decode-written}
 use Rattle.plain_set.specs.Rebuilt.{Pair, slotsOf}
 use Rattle.plain_set.specs.Set.{Given, keyGiven, call, callDue}
@@ -42,8 +40,9 @@ use Rattle.plain_set.specs.theory.Rep.{Links, Chain, Rep}
 use Rattle.plain_set.specs.theory.Change.{rep-content, store-done}
 use Rattle.plain_set.specs.theory.Keys.{slot-fits, slot-entry, slot-label, in-table}
 use Rattle.plain_set.specs.theory.OneList.{placeIn, labelIn, slotFor}
-use Rattle.plain_set.specs.theory.Lists.{rowOf, holdsKey}
+use Rattle.plain_set.specs.theory.Lists.{rowOf, holdsKey, place-there, place-entry}
 use Rattle.plain_set.specs.theory.Refusals.{legalCall, label-below, none-due}
+use Rattle.plain_set.specs.theory.StateSteps.{call-formed}
 use Rattle.plain_set.specs.theory.Agree.{Agree}
 use Rattle.plain_set.specs.theory.Stored.{bits-room}
 use Rattle.plain_set.specs.theory.Start.{sound-agree}
@@ -143,7 +142,7 @@ module _ {s : Settings} (right : Legal s) {t : List ℕ} {T : List (List ℕ)} {
   store-only e =
       let r : Rep g (held s t) T (a .stores .B) (a .stores .fs) = a .stores .rep in
       let below : i < g .lists = in-table s right k ok in
-      let place : p < length es = ltb-true p (length es) e in
+      let place : p < length es = place-there s T k e in
       let high : l < 2 ^ s .val = label-below s l d in
       let q : Rep g u (set T i (set es p x)) (a .stores .B) (a .stores .fs) =
       store-done (layout-proper s right) r i below p x place (slot-fits s k l high) in
@@ -157,24 +156,20 @@ module _ {s : Settings} (right : Legal s) {t : List ℕ} {T : List (List ℕ)} {
         had = rep-content r i below;
         has = rw (rep-content q i below, getD-set-same T i (set es p x) [] (omega (arith, r .lists)));
         place = place;
-        old = (eqb-true _ _ (position-held g (entry s k) es 0 place), refl);
+        old = (place-entry s T k e, refl);
         new = (slot-entry s k l high, slot-label s k l high);
       }
 
   store-formed : holdsKey s T k ≡ true → Formed g u
-  unfolding relabelIn relabelFollowed
+  unfolding listCall relabelIn relabelFollowed
   store-formed e =
-      let r : Rep g (held s t) T (a .stores .B) (a .stores .fs) = a .stores .rep in
-      let below : i < g .lists = in-table s right k ok in
-      let w : Holds (Formed g) (relabelIn g (held s t) i (entry s k) l .after) =
-      relabel-formed g (layout-proper s right) i (entry s k) l (decode-formed g t) below (unfold layoutOf in (entry-below s k))
-      (unfold layoutOf in (label-below s l d)) in
-      holds-of w (rw (rep-content r i below, e) refl)
+      holds-of (call-formed s right k ok (decode-formed g t) (relabel l) d)
+      (rw (rep-content (a .stores .rep) i (in-table s right k ok), e) refl)
 
   -- the call with legal inputs
   pub legal-relabel : RelabelsOnly s t k l (legalCall s t (relabel l) k)
   unfolding listCall relabelIn relabelFollowed
-  legal-relabel m n =
+  legal-relabel m n slot =
       rw (rep-content (a .stores .rep) i (in-table s right k ok))
       (cases (holdsKey s T k)
       (λ e.
@@ -200,7 +195,7 @@ module _ (s : Settings) (t m : List ℕ) (bytes : Bytes t) (sound : checkCall s 
       RelabelsOnly s t (keyGiven o) l
       (choose (Reply Answer) (λ why. reply (answer.Refused why) t) (legalCall s t (relabel l) (keyGiven o))))
       (callDue s (length t) (call (relabel l) o))
-      (λ why was n q. absurd (let z : _≡_ {A = ℕ} 0 1 = cc in omega arith))
+      (λ why was n slot q. absurd (let z : _≡_ {A = ℕ} 0 1 = cc in omega arith))
       (λ d.
       let w = none-due s (length t) (relabel l) o d in
       legal-relabel (c .0 .right) a (keyGiven o) (w .key) l (w .label))

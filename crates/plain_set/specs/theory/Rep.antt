@@ -14,19 +14,19 @@ use Rattle.table.specs.Take.{occurs}
 use Rattle.table.specs.theory.Formed.{All, Fits}
 use Rattle.plain_set.specs.theory.Count.{one, sum}
 
-module _ (g : Layout) where
-  -- an overflow block with the counter n, the link l and the slots ys
+module _ (g : Layout) (i : ℕ) where
+  -- an overflow block of list i with the counter n, the link l and the slots ys
   abbrev pub blockWith : ℕ → ℕ → List ℕ → Overflow
-  blockWith n l ys = withCounter n (withSlots ys (emptyBlock g l))
+  blockWith n l ys = withCounter n (withSlots ys (emptyBlock g l i))
 
-  -- the slots es stand in the overflow blocks b, bs: all full but the last, zeros behind; the last one's link holds d
+  -- the slots es stand in the overflow blocks b, bs of list i: all full but the last, zeros behind; the last one's link holds d
   abbrev pub Tail : List Overflow → ℕ → List ℕ → List ℕ → ℕ → Type 0
   Tail os b [] es d = (0 < length es) × (length es ≤ g .sio) × (overflowAt os b ≡ blockWith (length es - 1) d (padded (g .sio) es))
   Tail os b (c ∷ cs) es d =
       (g .sio < length es) × (overflowAt os b ≡ blockWith (g .sio) c (padded (g .sio) es)) × Tail os c cs (drop (g .sio) es) d
 
-  -- the slots es stand in the basic block b and the overflow blocks bs; if there are any, their last link holds the first bits d of the basic
-  -- block's slots
+  -- the slots es of list i stand in the basic block b and the overflow blocks bs; if there are any, their last link holds the first bits d of the
+  -- basic block's slots
   abbrev pub Holds : Basic → List Overflow → List ℕ → List ℕ → Type 0
   Holds b os [] es = (length es ≤ g .sib) × (b .counter ≡ length es) × (ownSlots g b ≡ padded (g .sib) es)
   Holds b os (c ∷ cs) es =
@@ -37,10 +37,11 @@ module _ (g : Layout) where
       × (unpack g d (b .rest) ≡ padded (g .sib) es)
       × Tail os c cs (drop (g .sib) es) d
 
+module _ (g : Layout) where
   -- zeroed blocks f, fs, each linked to the next and the last to itself
   abbrev pub Links : List Overflow → ℕ → List ℕ → Type 0
-  Links os f [] = overflowAt os f ≡ emptyBlock g f
-  Links os f (n ∷ ns) = (overflowAt os f ≡ emptyBlock g n) × Links os n ns
+  Links os f [] = overflowAt os f ≡ emptyBlock g f 0
+  Links os f (n ∷ ns) = (overflowAt os f ≡ emptyBlock g n 0) × Links os n ns
 
   -- the free chain fs, with the free start f
   abbrev pub Chain : List Overflow → ℕ → List ℕ → Type 0
@@ -53,7 +54,7 @@ module _ (g : Layout) where
     pub overs : length (st .overflow) ≡ g .nob
     pub lists : length T ≡ g .lists
     pub blocks : length B ≡ g .lists
-    pub each : (i : ℕ) → i < g .lists → Holds (basicAt (st .basic) i) (st .overflow) (getD B i []) (getD T i [])
+    pub each : (i : ℕ) → i < g .lists → Holds g i (basicAt (st .basic) i) (st .overflow) (getD B i []) (getD T i [])
     pub fits : (i : ℕ) → i < g .lists → All (Fits (g .slot)) (getD T i [])
     pub chain : Chain (st .overflow) (st .free) fs
     -- every overflow block stands exactly once, in one list or in the free chain

@@ -3,15 +3,15 @@ use mathlib.Core.Path.{_≡_, refl, sym, subst}
 use mathlib.Core.List.{List, []}
 use mathlib.Core.Option.{Option, none, some}
 use Prim.Native.Nat.{ℕ, _^_, _<_}
-use lib.ListN.{length, set}
+use lib.ListN.{set}
 use lib.Seq.{set-getD}
-use borrow.Author.Tests.{ltb-true}
 use Rattle.laws.specs.Cases.{cases}
 use Rattle.settings.specs.declared.settings.Settings.{Settings}
 use Rattle.settings.specs.Legal.{Legal}
 use Rattle.settings.specs.Layout.{layoutOf}
 use Rattle.keys.specs.Key.{entry, listNumber}
 use Rattle.settings.specs.theory.Proper.{layout-proper}
+use Rattle.keys.specs.theory.Keys.{entry-below}
 use Rattle.table.specs.State.{State}
 use Rattle.table.specs.Done.{Answered}
 use Rattle.table.specs.Find.{findFollowed, findIn}
@@ -19,13 +19,29 @@ use Rattle.table.specs.Enter.{enterFollowed, enterIn}
 use Rattle.table.specs.Relabel.{relabelFollowed, relabelIn}
 use Rattle.table.specs.Delete.{deleteFollowed, deleteIn}
 use Rattle.table.specs.Calls.{Verb, find, enter, relabel, delete, listCall, verbDue}
+use Rattle.table.specs.theory.Formed.{Formed}
+use Rattle.table.specs.theory.FormedCalls.{Holds, holds-none, enter-formed, relabel-formed, delete-formed}
 use Rattle.plain_set.specs.theory.Rep.{Stores}
 use Rattle.plain_set.specs.theory.Change.{rep-content, append-refused, append-done, store-done, delete-done}
 use Rattle.plain_set.specs.theory.Keys.{slot-fits, in-table}
 use Rattle.settings.specs.theory.Dues.{NoneDue}
 use Rattle.plain_set.specs.theory.Refusals.{label-below}
 use Rattle.plain_set.specs.theory.OneList.{Told, told, placeIn, slotFor, rowTold, rowAfter}
-use Rattle.plain_set.specs.theory.Lists.{rowOf, holdsKey, isFull, listsTold, listsAfter}
+use Rattle.plain_set.specs.theory.Lists.{rowOf, holdsKey, place-there, isFull, listsTold, listsAfter}
+
+-- what a call with legal inputs writes, on any formed state, is formed
+pub call-formed : (s : Settings) → Legal s → (k : ℕ) → k < 2 ^ s .w → {st : State} → Formed (layoutOf s) st
+    → (v : Verb) → NoneDue (verbDue s v) → Holds (Formed (layoutOf s)) (listCall (layoutOf s) st (listNumber s k) (entry s k) v .after)
+unfolding listCall
+call-formed s legal k ok f find d = holds-none
+call-formed s legal k ok f (enter l) d =
+    enter-formed (layoutOf s) (layout-proper s legal) (listNumber s k) (entry s k) l f (in-table s legal k ok)
+    (unfold layoutOf in (entry-below s k)) (unfold layoutOf in (label-below s l d))
+call-formed s legal k ok f (relabel l) d =
+    relabel-formed (layoutOf s) (layout-proper s legal) (listNumber s k) (entry s k) l f (in-table s legal k ok)
+    (unfold layoutOf in (entry-below s k)) (unfold layoutOf in (label-below s l d))
+call-formed s legal k ok f delete d =
+    delete-formed (layoutOf s) (layout-proper s legal) (listNumber s k) (entry s k) f (in-table s legal k ok)
 
 -- the state after a call on st
 abbrev pub stateAfter : State → Option State → State
@@ -63,14 +79,14 @@ module _ (s : Settings) (legal : Legal s) {st : State} {T : List (List ℕ)} (o 
       record { tells = refl; stores = kept })
       (λ q.
       let c = append-done (layout-proper s legal) (o .rep) (listNumber s k) below (slotFor s k l) fits q in
-      rw (e, c .is, q) record { tells = refl; stores = c .stores })))
+      rw (e, c .is, q) record { tells = refl; stores = record { B = set (o .B) (listNumber s k) (c .cs); fs = c .ns; rep = c .rep } })))
   call-acts (relabel l) d =
       rw (rep-content (o .rep) (listNumber s k) below)
       (cases (holdsKey s T k)
       (λ e.
       let p : ℕ = placeIn s k (rowOf s T k) in
       let c =
-      store-done (layout-proper s legal) (o .rep) (listNumber s k) below p (slotFor s k l) (ltb-true p (length (rowOf s T k)) e)
+      store-done (layout-proper s legal) (o .rep) (listNumber s k) below p (slotFor s k l) (place-there s T k e)
       (slot-fits s k l (label-below s l d)) in
       rw e record { tells = refl; stores = record { B = o .B; fs = o .fs; rep = c } })
       (λ e. rw e record { tells = refl; stores = kept }))
@@ -79,6 +95,6 @@ module _ (s : Settings) (legal : Legal s) {st : State} {T : List (List ℕ)} (o 
       (cases (holdsKey s T k)
       (λ e.
       let p : ℕ = placeIn s k (rowOf s T k) in
-      let c = delete-done (layout-proper s legal) (o .rep) (listNumber s k) below p (ltb-true p (length (rowOf s T k)) e) in
+      let c = delete-done (layout-proper s legal) (o .rep) (listNumber s k) below p (place-there s T k e) in
       rw (e, c .is) record { tells = refl; stores = c .stores })
       (λ e. rw e record { tells = refl; stores = kept }))

@@ -72,14 +72,14 @@ not-prev b c d ds dis e =
 abbrev pub lastBlock : List Overflow → ℕ → List ℕ → Overflow
 lastBlock os b bs = overflowAt os (lastOf b bs)
 
-module _ (g : Layout) where
+module _ (g : Layout) (i : ℕ) where
   -- one slot more in the last block
-  pub tail-append : (os us : List Overflow) (b : ℕ) (bs es : List ℕ) (d x : ℕ) → Tail g os b bs es d
+  pub tail-append : (os us : List Overflow) (b : ℕ) (bs es : List ℕ) (d x : ℕ) → Tail g i os b bs es d
       → ((j : ℕ) → occurs j (b ∷ bs) ≤ 1)
       → suc (lastBlock os b bs .counter) < g .sio
       → lastBlock us b bs ≡ oneMore x (lastBlock os b bs)
       → ((j : ℕ) → j ≢ lastOf b bs → overflowAt us j ≡ overflowAt os j)
-      → Tail g us b bs (es ++ x ∷ []) d
+      → Tail g i us b bs (es ++ x ∷ []) d
   tail-append os us b [] es d x h dis room e rest =
       let n : suc (overflowAt os b .counter) ≡ length es = omega (arith, ap (λ (o : Overflow). o .counter) (h .2)) in
       let l : length (es ++ x ∷ []) - 1 ≡ length es = omega (arith, length-snoc es x) in (
@@ -89,17 +89,17 @@ module _ (g : Layout) where
       )
   tail-append os us b (c ∷ cs) es d x h dis room e rest = (
     omega (arith, length-snoc es x),
-    rest b (not-last b c cs dis) ∙ h .1 ∙ ap (blockWith g (g .sio) c) (sym (padded-append-le (g .sio) es (x ∷ []) (omega arith))),
+    rest b (not-last b c cs dis) ∙ h .1 ∙ ap (blockWith g i (g .sio) c) (sym (padded-append-le (g .sio) es (x ∷ []) (omega arith))),
     rw (drop-append-le (g .sio) es (x ∷ []) (omega arith))
         (tail-append os us c cs (drop (g .sio) es) d x (h .2) (λ j. omega (arith, dis j)) room e rest),
   )
 
   -- other bits v in the last block's link
-  pub tail-relink : (os us : List Overflow) (b : ℕ) (bs es : List ℕ) (d v : ℕ) → Tail g os b bs es d
+  pub tail-relink : (os us : List Overflow) (b : ℕ) (bs es : List ℕ) (d v : ℕ) → Tail g i os b bs es d
       → ((j : ℕ) → occurs j (b ∷ bs) ≤ 1)
       → lastBlock us b bs ≡ withLink v (lastBlock os b bs)
       → ((j : ℕ) → j ≢ lastOf b bs → overflowAt us j ≡ overflowAt os j)
-      → Tail g us b bs es v
+      → Tail g i us b bs es v
   tail-relink os us b [] es d v h dis e rest = (h .0, h .1, e ∙ rw (h .2))
   tail-relink os us b (c ∷ cs) es d v h dis e rest = (
     h .0,
@@ -108,13 +108,13 @@ module _ (g : Layout) where
   )
 
   -- one slot less in a last block that keeps some
-  pub tail-shrink : (os us : List Overflow) (b : ℕ) (bs es : List ℕ) (d m : ℕ) → Tail g os b bs es d
+  pub tail-shrink : (os us : List Overflow) (b : ℕ) (bs es : List ℕ) (d m : ℕ) → Tail g i os b bs es d
       → ((j : ℕ) → occurs j (b ∷ bs) ≤ 1)
       → 0 < lastBlock os b bs .counter
       → length es ≡ suc m
       → lastBlock us b bs ≡ lastSlotOff (lastBlock os b bs)
       → ((j : ℕ) → j ≢ lastOf b bs → overflowAt us j ≡ overflowAt os j)
-      → Tail g us b bs (take m es) d
+      → Tail g i us b bs (take m es) d
   tail-shrink os us b [] es d m h dis some-left l e rest =
       let n : overflowAt os b .counter ≡ m = omega (arith, ap (λ (o : Overflow). o .counter) (h .2)) in
       let t : length (take m es) ≡ m = length-take-le m es (omega arith) in (
@@ -125,23 +125,23 @@ module _ (g : Layout) where
   tail-shrink os us b (c ∷ cs) es d m h dis some-left l e rest =
       let t : length (take m es) ≡ m = length-take-le m es (omega arith) in
       let k : length (drop (g .sio) es) ≡ suc (m - g .sio) = omega (arith, length-drop (g .sio) es) in
-      let long = tail-last g os c cs (drop (g .sio) es) d (h .2) in (
+      let long = tail-last g i os c cs (drop (g .sio) es) d (h .2) in (
         omega arith,
-        rest b (not-last b c cs dis) ∙ h .1 ∙ ap (blockWith g (g .sio) c) (sym (padded-init-out (g .sio) es m (omega arith))),
+        rest b (not-last b c cs dis) ∙ h .1 ∙ ap (blockWith g i (g .sio) c) (sym (padded-init-out (g .sio) es m (omega arith))),
         rw (drop-take (g .sio) m es)
             (tail-shrink os us c cs (drop (g .sio) es) d (m - g .sio) (h .2) (λ j. omega (arith, dis j)) some-left k e rest),
       )
 
-module _ {g : Layout} (F : Proper g) where
+module _ {g : Layout} (F : Proper g) (i : ℕ) where
   -- a new block f behind a last block that is full: it takes the link
-  pub tail-extend : (os us : List Overflow) (b : ℕ) (bs es : List ℕ) (d x f : ℕ) → Tail g os b bs es d
+  pub tail-extend : (os us : List Overflow) (b : ℕ) (bs es : List ℕ) (d x f : ℕ) → Tail g i os b bs es d
       → ((j : ℕ) → occurs j (b ∷ bs) ≤ 1)
       → suc (lastBlock os b bs .counter) ≡ g .sio
       → occurs f (b ∷ bs) ≡ 0
       → lastBlock us b bs ≡ withFront (g .sio) f (lastBlock os b bs)
-      → overflowAt us f ≡ withSlot 0 x (emptyBlock g (lastBlock os b bs .link))
+      → overflowAt us f ≡ withSlot 0 x (emptyBlock g (lastBlock os b bs .link) i)
       → ((j : ℕ) → j ≢ lastOf b bs → j ≢ f → overflowAt us j ≡ overflowAt os j)
-      → Tail g us b (bs ++ f ∷ []) (es ++ x ∷ []) d
+      → Tail g i us b (bs ++ f ∷ []) (es ++ x ∷ []) d
   tail-extend os us b [] es d x f h dis full new e k rest =
       let n : length es ≡ g .sio = omega (arith, ap (λ (o : Overflow). o .counter) (h .2)) in (
         omega (arith, length-snoc es x),
@@ -153,19 +153,19 @@ module _ {g : Layout} (F : Proper g) where
     omega (arith, length-snoc es x),
     rest b (not-last b c cs dis) (absent b f (c ∷ cs) new)
         ∙ h .1
-        ∙ ap (blockWith g (g .sio) c) (sym (padded-append-le (g .sio) es (x ∷ []) (omega arith))),
+        ∙ ap (blockWith g i (g .sio) c) (sym (padded-append-le (g .sio) es (x ∷ []) (omega arith))),
     rw (drop-append-le (g .sio) es (x ∷ []) (omega arith))
         (tail-extend os us c cs (drop (g .sio) es) d x f (h .2) (λ j. omega (arith, dis j)) full (omega arith) e k rest),
   )
 
   -- the last of several blocks, with its one slot, off: the one before it takes its link
-  pub tail-drop : (os us : List Overflow) (b c : ℕ) (cs es : List ℕ) (d m : ℕ) → Tail g os b (c ∷ cs) es d
+  pub tail-drop : (os us : List Overflow) (b c : ℕ) (cs es : List ℕ) (d m : ℕ) → Tail g i os b (c ∷ cs) es d
       → ((j : ℕ) → occurs j (b ∷ c ∷ cs) ≤ 1)
       → lastBlock os c cs .counter ≡ 0
       → length es ≡ suc m
       → overflowAt us (prevOf b c cs) ≡ withFront (g .sio - 1) (lastBlock os c cs .link) (overflowAt os (prevOf b c cs))
       → ((j : ℕ) → j ≢ prevOf b c cs → j ≢ lastOf c cs → overflowAt us j ≡ overflowAt os j)
-      → Tail g us b (butLast c cs) (take m es) d
+      → Tail g i us b (butLast c cs) (take m es) d
   tail-drop os us b c [] es d m h dis single l e rest =
       let n : overflowAt os c .counter ≡ length (drop (g .sio) es) - 1 = ap (λ (o : Overflow). o .counter) (h .2 .2) in
       let k : overflowAt os c .link ≡ d = ap (λ (o : Overflow). o .link) (h .2 .2) in
@@ -181,7 +181,7 @@ module _ {g : Layout} (F : Proper g) where
         omega (arith, h .2 .0, length-drop (g .sio) es),
         rest b (not-prev b c c₂ cs dis) (not-last b c (c₂ ∷ cs) dis)
             ∙ h .1
-            ∙ ap (blockWith g (g .sio) c) (sym (padded-init-out (g .sio) es m (omega arith))),
+            ∙ ap (blockWith g i (g .sio) c) (sym (padded-init-out (g .sio) es m (omega arith))),
         rw (drop-take (g .sio) m es)
             (tail-drop os us c c₂ cs (drop (g .sio) es) d (m - g .sio) (h .2) (λ j. omega (arith, dis j)) single k e rest),
       )
@@ -204,20 +204,20 @@ module _ (g : Layout) where
   store-length os (b ∷ bs) q x =
       cases (ltb q (g .sio)) (λ e. rw e (simp length-set)) (λ e. rw e (store-length os bs (q - g .sio) x))
 
-  pub tail-store : (os : List Overflow) (b : ℕ) (bs es : List ℕ) (d q x : ℕ) → Tail g os b bs es d
+  pub tail-store : (i : ℕ) (os : List Overflow) (b : ℕ) (bs es : List ℕ) (d q x : ℕ) → Tail g i os b bs es d
       → ((j : ℕ) → occurs j (b ∷ bs) ≤ 1)
       → ((j : ℕ) → 0 < occurs j (b ∷ bs) → j < length os)
       → q < length es
-      → Tail g (storeOverflow g os (b ∷ bs) q x) b bs (set es q x) d
+      → Tail g i (storeOverflow g os (b ∷ bs) q x) b bs (set es q x) d
   unfolding storeOverflow
-  tail-store os b [] es d q x h dis low l =
+  tail-store i os b [] es d q x h dis low l =
       rw (lt-ltb q (g .sio) (omega arith)) (
         omega (arith, length-set es q x),
         omega (arith, length-set es q x),
         set-here os b (withSlot q x (overflowAt os b)) (low b (occurs-head b []))
             ∙ rw (h .2, length-set es q x, padded-set (g .sio) es q x l (omega arith)),
       )
-  tail-store os b (c ∷ cs) es d q x h dis low l =
+  tail-store i os b (c ∷ cs) es d q x h dis low l =
       cases (ltb q (g .sio))
       (λ e.
       let v : Overflow = withSlot q x (overflowAt os b) in
@@ -225,7 +225,7 @@ module _ (g : Layout) where
         omega (arith, length-set es q x),
         set-here os b v (low b (occurs-head b (c ∷ cs))) ∙ rw (h .1, padded-set (g .sio) es q x l (ltb-true q (g .sio) e)),
         rw (drop-set-lt (g .sio) es q x (ltb-true q (g .sio) e))
-            (tail-frame g os (set os b v) c cs (drop (g .sio) es) d (λ j m. set-there os b v j (not-in b j (c ∷ cs) dis m)) (h .2)),
+            (tail-frame g i os (set os b v) c cs (drop (g .sio) es) d (λ j m. set-there os b v j (not-in b j (c ∷ cs) dis m)) (h .2)),
       ))
       (λ e.
       let m : g .sio ≤ q = ltb-false q (g .sio) e in
@@ -233,8 +233,8 @@ module _ (g : Layout) where
         omega (arith, length-set es q x),
         store-else os (c ∷ cs) (q - g .sio) x b (omega (arith, dis b, occurs-head b []))
             ∙ h .1
-            ∙ ap (blockWith g (g .sio) c) (sym (padded-set-out (g .sio) es q x m)),
+            ∙ ap (blockWith g i (g .sio) c) (sym (padded-set-out (g .sio) es q x m)),
         rw (drop-set-ge (g .sio) es q x m)
-            (tail-store os c cs (drop (g .sio) es) d (q - g .sio) x (h .2) (λ j. omega (arith, dis j)) (λ j i. low j (omega arith))
+            (tail-store i os c cs (drop (g .sio) es) d (q - g .sio) x (h .2) (λ j. omega (arith, dis j)) (λ j z. low j (omega arith))
             (omega (arith, length-drop (g .sio) es))),
       ))

@@ -8,13 +8,16 @@ use native.Mathlib.Omega.{arith}
 use lib.ListN.{length, getD}
 use lib.Dec.{eqb}
 use borrow.Author.Tests.{eq-eqb, eqb-true}
+use Rattle.laws.specs.Folds.{sumBelow}
 use Rattle.laws.specs.Cases.{cases, never}
 use Rattle.settings.specs.declared.layout.Layout.{Layout}
-use Rattle.table.specs.State.{Basic, Overflow, basicAt, entryOf}
-use Rattle.table.specs.Follow.{Content, contentOf}
+use Rattle.table.specs.Arrays.{tabulate}
+use Rattle.table.specs.State.{State, entryOf}
+use Rattle.table.specs.Follow.{Content, content}
 use Rattle.table.specs.Take.{occurs}
 use Rattle.plain_set.specs.Rebuilt.{slotsOf}
 use Rattle.table.specs.Check.{blocksOf, hasEntry, noEntryTwice, occursInLists}
+use Rattle.table.specs.theory.Arrays.{length-tab, getD-tab}
 use Rattle.plain_set.specs.theory.Count.{one, sum}
 use Rattle.plain_set.specs.theory.Rep.{entries, Single}
 
@@ -53,27 +56,26 @@ module _ (g : Layout) where
       rw (none-hasEntry (entryOf g x) es z) (single-once es (λ e. omega (arith, h e)))
 
   -- each list, followed to its end: what f makes of it
-  abbrev pub eachList : {A : Type 0} → (Option Content → A) → List Basic → List Overflow → List A
-  eachList f [] os = []
-  eachList f (b ∷ bs) os = f (contentOf g b os) ∷ eachList f bs os
+  abbrev pub eachList : {A : Type 0} → (Option Content → A) → State → List A
+  eachList f st = tabulate (g .lists) (λ i. f (content g st i))
 
-  pub getD-each : {A : Type 0} (f : Option Content → A) (bs : List Basic) (os : List Overflow) (i : ℕ) (d : A) → i < length bs
-      → getD (eachList f bs os) i d ≡ f (contentOf g (basicAt bs i) os)
-  getD-each f [] os i d h = absurd (omega arith)
-  getD-each f (b ∷ bs) os zero d h = refl
-  getD-each f (b ∷ bs) os (suc i) d h = getD-each f bs os i d (omega arith)
+  pub getD-each : {A : Type 0} (f : Option Content → A) (st : State) (i : ℕ) (d : A) → i < g .lists
+      → getD (eachList f st) i d ≡ f (content g st i)
+  getD-each f st i d h = getD-tab (g .lists) (λ i. f (content g st i)) i d h
 
-  pub length-each : {A : Type 0} (f : Option Content → A) (bs : List Basic) (os : List Overflow) → length (eachList f bs os) ≡ length bs
-  length-each f [] os = refl
-  length-each f (b ∷ bs) os = ap suc (length-each f bs os)
+  pub length-each : {A : Type 0} (f : Option Content → A) (st : State) → length (eachList f st) ≡ g .lists
+  length-each f st = length-tab (g .lists) (λ i. f (content g st i))
 
   -- the overflow blocks and the slots of all lists
-  abbrev pub allBlocks : List Basic → List Overflow → List (List ℕ)
+  abbrev pub allBlocks : State → List (List ℕ)
   allBlocks = eachList blocksOf
 
-  abbrev pub allSlots : List Basic → List Overflow → List (List ℕ)
+  abbrev pub allSlots : State → List (List ℕ)
   allSlots = eachList slotsOf
 
-  pub occursInLists-sum : (j : ℕ) (bs : List Basic) (os : List Overflow) → occursInLists g j bs os ≡ sum (occurs j) (allBlocks bs os)
-  occursInLists-sum j [] os = refl
-  occursInLists-sum j (b ∷ bs) os = omega (arith, occursInLists-sum j bs os)
+  pub occursInLists-sum : (j : ℕ) (st : State) → occursInLists g j st ≡ sum (occurs j) (allBlocks st)
+  occursInLists-sum j st = sumBelow-tab (g .lists) (occurs j) (λ i. blocksOf (content g st i))
+    where
+      sumBelow-tab : (n : ℕ) (f : List ℕ → ℕ) (h : ℕ → List ℕ) → sumBelow n (λ i. f (h i)) ≡ sum f (tabulate n h)
+      sumBelow-tab zero f h = refl
+      sumBelow-tab (suc n) f h = omega (arith, sumBelow-tab n f (λ i. h (suc i)))

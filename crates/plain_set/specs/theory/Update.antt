@@ -41,16 +41,16 @@ module _ (os : List Overflow) (p f : ℕ) (v u : Overflow) where
 -- A list whose blocks stay holds what it held, and so does the free chain. The blocks that an edit of one list may touch are those of that list
 -- and of the free chain, before and after.
 module _ (g : Layout) where
-  pub tail-frame : (os us : List Overflow) (b : ℕ) (bs es : List ℕ) (d : ℕ)
-      → ((j : ℕ) → 0 < occurs j (b ∷ bs) → overflowAt us j ≡ overflowAt os j) → Tail g os b bs es d → Tail g us b bs es d
-  tail-frame os us b [] es d f h = (h .0, h .1, f b (occurs-head b []) ∙ h .2)
-  tail-frame os us b (c ∷ cs) es d f h =
-      (h .0, f b (occurs-head b (c ∷ cs)) ∙ h .1, tail-frame os us c cs (drop (g .sio) es) d (λ j l. f j (omega arith)) (h .2))
+  pub tail-frame : (i : ℕ) (os us : List Overflow) (b : ℕ) (bs es : List ℕ) (d : ℕ)
+      → ((j : ℕ) → 0 < occurs j (b ∷ bs) → overflowAt us j ≡ overflowAt os j) → Tail g i os b bs es d → Tail g i us b bs es d
+  tail-frame i os us b [] es d f h = (h .0, h .1, f b (occurs-head b []) ∙ h .2)
+  tail-frame i os us b (c ∷ cs) es d f h =
+      (h .0, f b (occurs-head b (c ∷ cs)) ∙ h .1, tail-frame i os us c cs (drop (g .sio) es) d (λ j l. f j (omega arith)) (h .2))
 
-  holds-frame : (os us : List Overflow) (b : Basic) (bs es : List ℕ)
-      → ((j : ℕ) → 0 < occurs j bs → overflowAt us j ≡ overflowAt os j) → Holds g b os bs es → Holds g b us bs es
-  holds-frame os us b [] es f h = h
-  holds-frame os us b (c ∷ cs) es f h = (h .0, h .1, h .2, h .3, h .4, tail-frame os us c cs (drop (g .sib) es) (h .0) f (h .5))
+  holds-frame : (i : ℕ) (os us : List Overflow) (b : Basic) (bs es : List ℕ)
+      → ((j : ℕ) → 0 < occurs j bs → overflowAt us j ≡ overflowAt os j) → Holds g i b os bs es → Holds g i b us bs es
+  holds-frame i os us b [] es f h = h
+  holds-frame i os us b (c ∷ cs) es f h = (h .0, h .1, h .2, h .3, h .4, tail-frame i os us c cs (drop (g .sib) es) (h .0) f (h .5))
 
   pub links-frame : (os us : List Overflow) (f : ℕ) (fs : List ℕ)
       → ((j : ℕ) → 0 < occurs j (f ∷ fs) → overflowAt us j ≡ overflowAt os j) → Links g os f fs → Links g us f fs
@@ -67,7 +67,7 @@ module _ (g : Layout) where
     pub len : length (st .overflow) ≡ g .nob
     pub dis : (j : ℕ) → occurs j bs + occurs j fs ≤ 1
     pub low : (j : ℕ) → 0 < occurs j bs + occurs j fs → j < g .nob
-    pub hold : Holds g (basicAt (st .basic) i) (st .overflow) bs es
+    pub hold : Holds g i (basicAt (st .basic) i) (st .overflow) bs es
     pub fit : All (Fits (g .slot)) es
     pub chain : Chain g (st .overflow) (st .free) fs
 
@@ -78,7 +78,7 @@ module _ (g : Layout) where
     pub free : ℕ
     pub is : u ≡ mkState free (set (st .basic) i block) us
     pub len : length us ≡ g .nob
-    pub hold : Holds g block us cs es
+    pub hold : Holds g i block us cs es
     pub fit : All (Fits (g .slot)) es
     pub chain : Chain g us free ns
     pub others : (j : ℕ) → occurs j bs + occurs j fs ≡ 0 → overflowAt us j ≡ overflowAt (st .overflow) j
@@ -121,7 +121,7 @@ module _ {g : Layout} {st : State} {T B : List (List ℕ)} {fs : List ℕ} (r : 
         once = λ j. omega (arith, r .once j, sum-set (occurs j) B i cs [] (omega (arith, r .blocks)), w .same j);
       }
     where
-      here : (j : ℕ) → j ≡ i → Holds g (basicAt (set (st .basic) i (w .block)) j) (w .us) (getD (set B i cs) j []) (getD (set T i es) j [])
+      here : (j : ℕ) → j ≡ i → Holds g j (basicAt (set (st .basic) i (w .block)) j) (w .us) (getD (set B i cs) j []) (getD (set T i es) j [])
       here j z =
           rw (
             z,
@@ -132,10 +132,10 @@ module _ {g : Layout} {st : State} {T B : List (List ℕ)} {fs : List ℕ} (r : 
           (w .hold)
 
       there : (j : ℕ) → j < g .lists → j ≢ i
-          → Holds g (basicAt (set (st .basic) i (w .block)) j) (w .us) (getD (set B i cs) j []) (getD (set T i es) j [])
+          → Holds g j (basicAt (set (st .basic) i (w .block)) j) (w .us) (getD (set B i cs) j []) (getD (set T i es) j [])
       there j l ne =
           rw (getD-set-other (st .basic) i j (w .block) emptyBasic ne, getD-set-other B i j cs [] ne, getD-set-other T i j es [] ne)
-          (holds-frame g (st .overflow) (w .us) (basicAt (st .basic) j) (getD B j []) (getD T j [])
+          (holds-frame g j (st .overflow) (w .us) (basicAt (st .basic) j) (getD B j []) (getD T j [])
           (λ n m. w .others n (omega (arith, r .once n, one-le (ltb n (g .nob)), two n)))
           (r .each j l))
         where

@@ -46,27 +46,27 @@ module _ {g : Layout} (F : Proper g) where
   uses-some n m h l = div-eq-of-lt-le (g .sio) (omega (arith, F .sio-low)) (omega (arith, F .sio-low))
 
   -- a list's blocks are as many as its length uses
-  pub blocks-holds : (b : Basic) (os : List Overflow) (bs es : List ℕ) → Holds g b os bs es
+  pub blocks-holds : (i : ℕ) (b : Basic) (os : List Overflow) (bs es : List ℕ) → Holds g i b os bs es
       → blocksFor (g .sib) (g .sio) (length es) ≡ length bs
-  blocks-holds b os [] es h = uses-none (length es) (h .0)
-  blocks-holds b os (c ∷ cs) es h = uses-some (length es) (length cs) (holds-more g b os c cs es h) (holds-length g b os (c ∷ cs) es h)
+  blocks-holds i b os [] es h = uses-none (length es) (h .0)
+  blocks-holds i b os (c ∷ cs) es h = uses-some (length es) (length cs) (holds-more g i b os c cs es h) (holds-length g i b os (c ∷ cs) es h)
 
   -- a list has no vacant slot exactly if its blocks are full
-  pub full-holds : (b : Basic) (os : List Overflow) (bs es : List ℕ) → Holds g b os bs es
+  pub full-holds : (i : ℕ) (b : Basic) (os : List Overflow) (bs es : List ℕ) → Holds g i b os bs es
       → noVacant (g .sib) (g .sio) (length es) ≡ eqb (length es) (g .sib + g .sio * length bs)
-  full-holds b os bs es h =
+  full-holds i b os bs es h =
       eqb-iff (blocksFor (g .sib) (g .sio) (suc (length es))) (suc (blocksFor (g .sib) (g .sio) (length es)))
       (length es) (g .sib + g .sio * length bs)
-      (λ q. exact (q ∙ ap suc (blocks-holds b os bs es h)))
-      (λ q. uses-some (suc (length es)) (length bs) (omega arith) (omega (arith, F .sio-low)) ∙ ap suc (sym (blocks-holds b os bs es h)))
+      (λ q. exact (q ∙ ap suc (blocks-holds i b os bs es h)))
+      (λ q. uses-some (suc (length es)) (length bs) (omega arith) (omega (arith, F .sio-low)) ∙ ap suc (sym (blocks-holds i b os bs es h)))
     where
-      more : (cs : List ℕ) → Holds g b os cs es → length es < g .sib + g .sio * length cs
+      more : (cs : List ℕ) → Holds g i b os cs es → length es < g .sib + g .sio * length cs
           → blocksFor (g .sib) (g .sio) (suc (length es)) ≡ suc (length cs) → ⊥
       more [] w l q = omega (arith, uses-none (suc (length es)) (omega arith))
-      more (c ∷ cs) w l q = omega (arith, uses-some (suc (length es)) (length cs) (omega (arith, holds-more g b os c cs es w)) l)
+      more (c ∷ cs) w l q = omega (arith, uses-some (suc (length es)) (length cs) (omega (arith, holds-more g i b os c cs es w)) l)
 
       exact : blocksFor (g .sib) (g .sio) (suc (length es)) ≡ suc (length bs) → length es ≡ g .sib + g .sio * length bs
       exact q =
           cases (ltb (length es) (g .sib + g .sio * length bs))
           (λ e. absurd (more bs h (ltb-true (length es) (g .sib + g .sio * length bs) e) q))
-          (λ e. omega (arith, ltb-false (length es) (g .sib + g .sio * length bs) e, holds-length g b os bs es h))
+          (λ e. omega (arith, ltb-false (length es) (g .sib + g .sio * length bs) e, holds-length g i b os bs es h))

@@ -10,11 +10,11 @@ use Rattle.settings.specs.theory.Primes.{prime-table}
 use Rattle.program_answers.specs.Program.{program, programBytes}
 
 -- clause 10.1: the bits of the table
-pub program-bits : tableBits program ≡ 156935
+pub program-bits : tableBits program ≡ 157447
 unfolding linkBits freeStartBits basicCounterBits basicBlockBits lists overflowCounterBits overflowBlockBits overflowStart tableBits ceilLog2 leastFrom
 program-bits = refl
 
-pub program-bytes : programBytes ≡ 19617
+pub program-bytes : programBytes ≡ 19681
 unfolding programBytes tableBytes
 program-bytes = rw program-bits refl
 

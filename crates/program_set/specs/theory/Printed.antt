@@ -18,7 +18,7 @@ use Rattle.table.specs.Follow.{Content, content}
 use Rattle.table.specs.Answer.{said}
 use Rattle.table.specs.Find.{position, isHeld, labelAt, comparedIn, findFollowed, findIn}
 use Rattle.table.specs.Done.{Done, damage, noBlock, done, Answered, answered, replied}
-use Rattle.table.specs.Enter.{append, enterFollowed, enterIn}
+use Rattle.table.specs.Enter.{append, endNumber, enterFollowed, enterIn}
 use Rattle.table.specs.Relabel.{relabelFollowed, relabelIn}
 use Rattle.table.specs.Delete.{takeOut, deleteFollowed, deleteIn}
 use Rattle.plain_set.specs.Rebuilt.{slotsOf}
@@ -45,16 +45,16 @@ use Rattle.program_set.specs.Claim.{keyNamed, comparedOn, printed}
 
 -- an answer that says a word says it with the number n
 abbrev Counts : ℕ → table.Answer → Type 0
-Counts n (answer.Said label w m) = m ≡ n
+Counts n (answer.Said label w m x) = m ≡ n
 Counts n (answer.Refused why) = Unit {0}
 
-change-counts : (w : Word) (label n : ℕ) (d : Done) → Counts n (answered (said w label n) d .answer)
-change-counts w label n damage = tt
-change-counts w label n noBlock = tt
-change-counts w label n (done st) = refl
+change-counts : (w : Word) (label n x : ℕ) (d : Done) → Counts n (answered (said w label n x) d .answer)
+change-counts w label n x damage = tt
+change-counts w label n x noBlock = tt
+change-counts w label n x (done st) = refl
 
 module _ (g : Layout) (st : State) (i e : ℕ) where
-  find-counts : (o : Option Content) → Counts (comparedIn g e (slotsOf o)) (findFollowed g e o)
+  find-counts : (o : Option Content) → Counts (comparedIn g e (slotsOf o)) (findFollowed g i e o)
   unfolding findFollowed
   find-counts none = tt
   find-counts (some v) = either (Counts (comparedIn g e (v .slots))) (isHeld g e (v .slots)) (λ q. refl) (λ q. refl)
@@ -64,7 +64,7 @@ module _ (g : Layout) (st : State) (i e : ℕ) where
   enter-counts label none = tt
   enter-counts label (some v) =
       either (λ (a : Answered). Counts (comparedIn g e (v .slots)) (a .answer)) (isHeld g e (v .slots)) (λ q. tt)
-      (λ q. change-counts word.Added label (comparedIn g e (v .slots)) (append g st i (v .blocks) (slotOf g e label)))
+      (λ q. change-counts word.Added label (comparedIn g e (v .slots)) (endNumber g st i v) (append g st i (v .blocks) (slotOf g e label)))
 
   relabel-counts : (label : ℕ) (o : Option Content) → Counts (comparedIn g e (slotsOf o)) (relabelFollowed g st i e label o .answer)
   unfolding relabelFollowed
@@ -77,7 +77,7 @@ module _ (g : Layout) (st : State) (i e : ℕ) where
   delete-counts none = tt
   delete-counts (some v) =
       either (λ (a : Answered). Counts (comparedIn g e (v .slots)) (a .answer)) (isHeld g e (v .slots))
-      (λ q. change-counts word.Gone (labelAt g e (v .slots)) (comparedIn g e (v .slots)) (takeOut g st i v (position g e (v .slots))))
+      (λ q. change-counts word.Gone (labelAt g e (v .slots)) (comparedIn g e (v .slots)) 0 (takeOut g st i v (position g e (v .slots))))
       (λ q. refl)
 
   list-counts : (v : Verb) → Counts (comparedIn g e (slotsOf (content g st i))) (listCall g st i e v .answer)
@@ -105,7 +105,7 @@ module _ (t : List ℕ) where
   answer-printed : (k : Key) → k .low < 2 ^ 64 → (a : table.Answer) → Counts (comparedOn t (keyNumber k)) a
       → answerText k a ≡ printed t (keyNumber k) (plain a)
   unfolding answerText
-  answer-printed k low (answer.Said label w m) c = rw (c, key-number k low)
+  answer-printed k low (answer.Said label w m x) c = rw (c, key-number k low)
   answer-printed k low (answer.Refused why) c = refl
 
   pub command-printed : programBytes ≤ length t → (c : Command)

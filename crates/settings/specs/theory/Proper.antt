@@ -39,6 +39,7 @@ layout-proper s l =
       lists-low = pow-pos (s .bii);
       lists-high = pow-mono (r .bii-high);
       link-high = small .0;
+      owner-high = r .bii-high;
       free-high = small .1;
       basic-high = small .2;
       overflow-high = small .3;
@@ -53,6 +54,7 @@ layout-proper s l =
       overflow-holds = omega (arith, log-holds (1 + s .sio));
       link-holds = log-holds (s .nob);
       free-holds = omega (arith, log-holds (1 + s .nob));
+      owner-holds = refl;
     }
 
 -- as many lists as index bits tell, and entries of bie bits

@@ -12,7 +12,7 @@ use Rattle.bits.specs.Field.{field}
 use Rattle.settings.specs.Proper.{Proper}
 use Rattle.settings.specs.declared.layout.Layout.{Layout}
 use Rattle.table.specs.State.{mkState, basicAt, overflowAt, restBits, emptyBasic, absentBlock}
-use Rattle.table.specs.Decode.{blockAt, basicSlots, linkAt, overflowSlots, readBasic, readOverflow, decode}
+use Rattle.table.specs.Decode.{blockAt, basicSlots, linkAt, ownerAt, overflowSlots, readBasic, readOverflow, decode}
 use Rattle.table.specs.Table.{Only}
 use Rattle.table.specs.theory.Arrays.{getD-tab, tab-ext, tab-set}
 use Rattle.table.specs.theory.Decode.{only-field}
@@ -74,12 +74,13 @@ module _ (g : Layout) (F : Proper g) where
   slot-low j k = omega arith
 
   pub same-over : (t u : List ℕ) (a n j : ℕ) → Only t u a n → (blockAt (g .overflow) j + g .overflow .bits ≤ a) ⊎ (a + n ≤ blockAt (g .overflow) j) → readOverflow g u j ≡ readOverflow g t j
-  unfolding readOverflow linkAt
+  unfolding readOverflow linkAt ownerAt
   same-over t u a n j o d =
       let s = F .overflow-is in
       λ k. record {
         counter = only-field t u a n (blockAt (g .overflow) j) (g .overflow .counter) o (⊎-elim (λ x. inl (omega arith)) (λ x. inr (omega arith)) d) k;
         link = only-field t u a n (blockAt (g .overflow) j + g .overflow .counter) (g .link) o (⊎-elim (λ x. inl (omega arith)) (λ x. inr (omega arith)) d) k;
+        owner = only-field t u a n (blockAt (g .overflow) j + (g .overflow .counter + g .link)) (g .owner) o (⊎-elim (λ x. inl (omega arith)) (λ x. inr (omega arith)) d) k;
         slots =
             tab-ext (g .sio) (λ q. field t (overflowSlots g j + q * g .slot) (g .slot)) (λ q. field u (overflowSlots g j + q * g .slot) (g .slot))
             (λ q l. only-field t u a n (overflowSlots g j + q * g .slot) (g .slot) o

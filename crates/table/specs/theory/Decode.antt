@@ -16,7 +16,7 @@ use Rattle.settings.specs.Proper.{Proper}
 use Rattle.settings.specs.declared.layout.Layout.{Layout}
 use Rattle.table.specs.Arrays.{tabulate, packed}
 use Rattle.table.specs.State.{restBits}
-use Rattle.table.specs.Decode.{blockAt, basicSlots, linkAt, overflowSlots, readBasic, readOverflow, decode, packBasic, packOverflow, image, written}
+use Rattle.table.specs.Decode.{blockAt, basicSlots, linkAt, ownerAt, overflowSlots, readBasic, readOverflow, decode, packBasic, packOverflow, image, written}
 use Rattle.table.specs.Table.{Only}
 use Rattle.table.specs.theory.Arrays.{tab-ext, map-tab, fields-packed}
 
@@ -32,12 +32,17 @@ module _ (g : Layout) (F : Proper g) where
       ∙ ap₂ (λ (x y : ℕ). x * 2 ^ restBits g + field t y (restBits g)) (field-cat t (blockAt (g .basic) i) (g .basic .counter) (g .link)) (sym a))
 
   pub pack-readO : (t : List ℕ) (j : ℕ) → packOverflow g (readOverflow g t j) ≡ field t (blockAt (g .overflow) j) (g .overflow .bits)
-  unfolding readOverflow overflowSlots linkAt
+  unfolding readOverflow overflowSlots linkAt ownerAt
   pack-readO t j =
+      let e : g .overflow .counter + (g .link + g .owner) ≡ g .overflow .counter + g .link + g .owner = omega arith in
+      let front =
+      ap (field t (blockAt (g .overflow) j)) e
+      ∙ field-cat t (blockAt (g .overflow) j) (g .overflow .counter + g .link) (g .owner)
+      ∙ ap (λ (x : ℕ). x * 2 ^ g .owner + field t (blockAt (g .overflow) j + (g .overflow .counter + g .link)) (g .owner)) (field-cat t (blockAt (g .overflow) j) (g .overflow .counter) (g .link)) in
       sym
       (ap (field t (blockAt (g .overflow) j)) (F .overflow-is)
-      ∙ field-cat t (blockAt (g .overflow) j) (g .overflow .counter + g .link) (g .sio * g .slot)
-      ∙ ap₂ (λ (x y : ℕ). x * 2 ^ (g .sio * g .slot) + y) (field-cat t (blockAt (g .overflow) j) (g .overflow .counter) (g .link)) (fields-packed t (g .slot) (g .sio) (blockAt (g .overflow) j + (g .overflow .counter + g .link))))
+      ∙ field-cat t (blockAt (g .overflow) j) (g .overflow .counter + (g .link + g .owner)) (g .sio * g .slot)
+      ∙ ap₂ (λ (x y : ℕ). x * 2 ^ (g .sio * g .slot) + y) front (fields-packed t (g .slot) (g .sio) (blockAt (g .overflow) j + (g .overflow .counter + (g .link + g .owner)))))
 
   pub image-decode : (t : List ℕ) → image g (decode g t) ≡ field t 0 (g .bits)
   unfolding image decode blockAt

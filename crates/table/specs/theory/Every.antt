@@ -11,10 +11,9 @@ use borrow.Author.Tests.{eqb-true, eqb-false, eq-eqb, ne-eqb}
 use Rattle.laws.specs.Folds.{every, allZero}
 use Rattle.laws.specs.Cases.{cases, both-true, true-both, never}
 use Rattle.settings.specs.declared.layout.Layout.{Layout}
-use Rattle.table.specs.State.{entryOf, Basic, Overflow, basicAt}
+use Rattle.table.specs.State.{entryOf}
 use Rattle.table.specs.Take.{occurs}
-use Rattle.table.specs.Check.{hasEntry, noEntryTwice, listSound, listsSound}
-use Rattle.table.specs.Follow.{contentOf}
+use Rattle.table.specs.Check.{hasEntry, noEntryTwice}
 
 -- ---- a test of each number that stands in a list
 
@@ -79,16 +78,3 @@ module _ (g : Layout) where
   single-all (x ∷ xs) h =
       rw (has-none (entryOf g x) xs (λ q l d. h 0 (suc q) (omega arith) (omega arith) (sym d)))
       (single-all xs (λ p q l m. h (suc p) (suc q) (omega arith) (omega arith)))
-
-  -- ---- the lists one by one, by their numbers
-
-  pub lists-at : (bs : List Basic) (os : List Overflow) (i : ℕ) → listsSound g bs os ≡ true → i < length bs
-      → listSound g (basicAt bs i) os (contentOf g (basicAt bs i) os) ≡ true
-  lists-at [] os i e h = absurd (omega arith)
-  lists-at (b ∷ bs) os zero e h = both-true (listSound g b os (contentOf g b os)) (listsSound g bs os) e .0
-  lists-at (b ∷ bs) os (suc i) e h = lists-at bs os i (both-true (listSound g b os (contentOf g b os)) (listsSound g bs os) e .1) (omega arith)
-
-  pub lists-all : (bs : List Basic) (os : List Overflow) → ((i : ℕ) → i < length bs → listSound g (basicAt bs i) os (contentOf g (basicAt bs i) os) ≡ true)
-      → listsSound g bs os ≡ true
-  lists-all [] os h = refl
-  lists-all (b ∷ bs) os h = true-both (h 0 (omega arith)) (lists-all bs os (λ i l. h (suc i) (omega arith)))

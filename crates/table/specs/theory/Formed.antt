@@ -8,7 +8,7 @@ use Rattle.bits.specs.theory.Fields.{field-lt}
 use Rattle.settings.specs.declared.layout.Layout.{Layout}
 use Rattle.table.specs.Arrays.{tabulate}
 use Rattle.table.specs.State.{Basic, Overflow, State, basicAt, overflowAt, restBits, emptyBasic, absentBlock}
-use Rattle.table.specs.Decode.{blockAt, basicSlots, linkAt, overflowSlots, readBasic, readOverflow, decode}
+use Rattle.table.specs.Decode.{blockAt, basicSlots, linkAt, ownerAt, overflowSlots, readBasic, readOverflow, decode}
 use Rattle.table.specs.theory.Arrays.{length-tab}
 
 -- ---- lists whose members all have a property
@@ -87,6 +87,7 @@ module _ (g : Layout) where
   pub record OverflowFits (o : Overflow) : Type 0 where
     pub counter : Fits (g .overflow .counter) (o .counter)
     pub link : Fits (g .link) (o .link)
+    pub owner : Fits (g .owner) (o .owner)
     pub slots : Each (Fits (g .slot)) (g .sio) (o .slots)
 
   -- every field of the state fits its bits, and there are as many blocks of each kind as the layout has
@@ -118,6 +119,7 @@ module _ (g : Layout) where
       record {
         counter = field-lt t (blockAt (g .overflow) j) (g .overflow .counter);
         link = field-lt t (linkAt g j) (g .link);
+        owner = field-lt t (ownerAt g j) (g .owner);
         slots = each-tab _ (λ k h. field-lt t (overflowSlots g j + k * g .slot) (g .slot));
       }
 

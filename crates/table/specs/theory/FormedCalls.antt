@@ -11,13 +11,14 @@ use lib.Pow.{pow-pos}
 use borrow.Author.Tests.{ltb-true, ltb-false, eqb-false}
 use Rattle.settings.specs.Proper.{Proper}
 use Rattle.laws.specs.Cases.{cases}
+use Rattle.laws.specs.Folds.{every}
 use Rattle.settings.specs.declared.layout.Layout.{Layout}
 use Rattle.table.specs.State.{Basic, Overflow, State, absentBlock, basicAt, overflowAt, restBits, slotOf}
 use Rattle.table.specs.Updates.{withFront, withBasicFront, overBasic, overOverflow}
-use Rattle.table.specs.Follow.{lastOf, prevOf, Content, cons?, follow, gather, contentOver, content, goOn, stepAt}
+use Rattle.table.specs.Follow.{lastOf, prevOf, Content, cons?, follow, gather, isOwn, ownBlocks, contentOver, content, goOn, stepAt}
 use Rattle.table.specs.Find.{position, isHeld, labelAt, comparedIn}
 use Rattle.table.specs.Take.{occurs, nextFree, taking, freed}
-use Rattle.table.specs.Enter.{extended, append, enterFollowed, enterIn}
+use Rattle.table.specs.Enter.{extended, append, endNumber, enterFollowed, enterIn}
 use Rattle.table.specs.Relabel.{relabelFollowed, relabelIn}
 use Rattle.table.specs.Delete.{priorOf, handedBack, shrinkAt, cannotFree, shrink, deleteFollowed, deleteIn}
 use Rattle.table.specs.New.{newOverflow, newState}
@@ -28,7 +29,7 @@ use Rattle.table.specs.theory.Written.{join-fits}
 use Rattle.table.specs.declared.answers.Answer.{Answer}
 use Rattle.table.specs.Answer.{said}
 use Rattle.table.specs.declared.answers.Word.the-variants as word
-use Rattle.table.specs.theory.FormedUpdates.{unpack-each, head-fits, rest-fits, formed-free, formed-basic, formed-overflow, counter-fits, link-fits, slot-fits, empty-fits, front-fits, body-fits, own-fits, block-link, block-free}
+use Rattle.table.specs.theory.FormedUpdates.{unpack-each, head-fits, rest-fits, formed-free, formed-basic, formed-overflow, counter-fits, link-fits, slot-fits, empty-fits, front-fits, body-fits, own-fits, block-link, block-free, list-owner}
 use Rattle.table.specs.Table.{Within}
 use Rattle.table.specs.declared.step.Before.{Before}
 use Rattle.table.specs.declared.step.Before.the-variants as prior
@@ -111,6 +112,11 @@ module _ (g : Layout) where
   over-holds b {os} e (holds-some {a = c ∷ cs} f) =
       holds-some (record { blocks = f; slots = all-append (unpack-each g (overflowAt os (lastOf c cs) .link) (b .rest) .all) (gather-fits e (f .below)) })
 
+  -- a list's own blocks are blocks that were followed
+  pub own-holds : {P : List ℕ → Type 0} (i : ℕ) (os : List Overflow) {o : Option (List ℕ)} → Holds P o → Holds P (ownBlocks i os o)
+  own-holds i os holds-none = holds-none
+  own-holds {P} i os (holds-some {a = bs} p) = either (Holds P) (every (isOwn i os) bs) (λ e. holds-some p) (λ e. holds-none)
+
   -- the content of a list of a formed state
   pub content-holds : {st : State} → Formed g st → (i : ℕ) → Holds ContentFits (content g st i)
   unfolding content
@@ -122,7 +128,7 @@ module _ (g : Layout) where
         slots = all-take (b .counter) (unpack-each g (b .head) (b .rest) .all);
       }))
       (λ e. either (Holds ContentFits) (eqb (b .counter) (suc (g .sib)))
-      (λ c. over-holds b (f .overflow) (follow-holds (g .nob) (st .overflow) (b .head)))
+      (λ c. over-holds b (f .overflow) (own-holds i (st .overflow) (follow-holds (g .nob) (st .overflow) (b .head))))
       (λ c. holds-none))
 
   pub content-fits : {st : State} (i : ℕ) {v : Content} → Formed g st → content g st i ≡ some v → ContentFits v
@@ -164,17 +170,18 @@ module _ (g : Layout) (F : Proper g) where
       (formed-overflow l w
       (empty-fits
       (either (Fits (g .link)) (eqb (st .free) (g .nob)) (λ e. block-link F h)
-      (λ e. block-link F (let ne = eqb-false (st .free) (g .nob) e in omega arith)))))
+      (λ e. block-link F (let ne = eqb-false (st .free) (g .nob) e in omega arith)))
+      (pow-pos (g .owner))))
       (block-free F (omega arith))
 
   -- ---- enter's change
 
-  extended-ends : (st : State) (bs : List ℕ) {d x : ℕ} (linkTo : ℕ → State → State) → Fits (g .link) d → Fits (g .slot) x
-      → ((f : ℕ) → f < g .nob → Formed g (linkTo f st)) → Ends (Formed g) (extended g st bs d x linkTo)
-  extended-ends st bs linkTo hd hx k =
+  extended-ends : (st : State) {i : ℕ} (bs : List ℕ) {d x : ℕ} (linkTo : ℕ → State → State) → i < g .lists → Fits (g .link) d → Fits (g .slot) x
+      → ((f : ℕ) → f < g .nob → Formed g (linkTo f st)) → Ends (Formed g) (extended g st i bs d x linkTo)
+  extended-ends st bs linkTo h hd hx k =
       taking-ends st bs
       (λ m l. ends-done
-      (formed-free (formed-overflow (st .free) (k (st .free) m) (slot-fits 0 hx (empty-fits hd))) (next-fits (st .overflow) (st .free) l)))
+      (formed-free (formed-overflow (st .free) (k (st .free) m) (slot-fits 0 hx (empty-fits hd (list-owner F h)))) (next-fits (st .overflow) (st .free) l)))
 
   pub append-ends : {st : State} (i : ℕ) {bs : List ℕ} {x : ℕ} → Formed g st → i < g .lists → All (Below (g .nob)) bs → Fits (g .slot) x
       → Ends (Formed g) (append g st i bs x)
@@ -184,7 +191,7 @@ module _ (g : Layout) (F : Proper g) where
       let fits = basic-fits g f i h in
       either (Ends (Formed g)) (ltb (b .counter) (g .sib))
       (λ e. ends-done (formed-basic i f (body-fits F (omega (arith, ltb-true (b .counter) (g .sib) e, F .basic-holds)) (each-set (own-fits g b) (b .counter) p))))
-      (λ e. extended-ends st [] (λ f. overBasic i (withBasicFront (suc (g .sib)) f)) (fits .head) p
+      (λ e. extended-ends st [] (λ f. overBasic i (withBasicFront (suc (g .sib)) f)) h (fits .head) p
       (λ j m. formed-basic i f (front-fits (F .basic-holds) (block-link F m) fits)))
   append-ends {st} i f h (all-cons {x = c} {xs = cs} q qs) p =
       let l = lastOf c cs in
@@ -193,7 +200,7 @@ module _ (g : Layout) (F : Proper g) where
       either (Ends (Formed g)) (ltb (suc (o .counter)) (g .sio))
       (λ e. ends-done
       (formed-overflow l f (counter-fits (omega (arith, ltb-true (suc (o .counter)) (g .sio) e, F .overflow-holds)) (slot-fits (suc (o .counter)) p fits))))
-      (λ e. extended-ends st (c ∷ cs) (λ f. overOverflow l (withFront (g .sio) f)) (fits .link) p
+      (λ e. extended-ends st (c ∷ cs) (λ f. overOverflow l (withFront (g .sio) f)) h (fits .link) p
       (λ j m. formed-overflow l f (counter-fits (F .overflow-holds) (link-fits (block-link F m) fits))))
 
   -- ---- the changes of relabel and delete
@@ -270,9 +277,9 @@ module _ (g : Layout) (F : Proper g) where
       → Holds (Formed g) (enterFollowed g st i e label o .after)
   unfolding enterFollowed
   enter-followed i e label f h p holds-none = holds-none
-  enter-followed i e label f h p (holds-some {a = v} s) =
+  enter-followed {st} i e label f h p (holds-some {a = v} s) =
       either (λ (a : Answered). Holds (Formed g) (a .after)) (isHeld g e (v .slots)) (λ t. holds-none)
-      (λ t. answered-formed (said word.Added label (comparedIn g e (v .slots))) (append-ends i f h (s .blocks .below) p))
+      (λ t. answered-formed (said word.Added label (comparedIn g e (v .slots)) (endNumber g st i v)) (append-ends i f h (s .blocks .below) p))
 
   pub enter-formed : {st : State} (i e label : ℕ) → Formed g st → i < g .lists → e < 2 ^ g .bie → label < 2 ^ g .val
       → Holds (Formed g) (enterIn g st i e label .after)
@@ -302,7 +309,7 @@ module _ (g : Layout) (F : Proper g) where
       let last = all-getD (s .slots) (pow-pos (g .slot)) (length (v .slots) - 1) in
       either (λ (a : Answered). Holds (Formed g) (a .after)) (isHeld g e (v .slots))
       (λ t.
-      answered-formed (said word.Gone (labelAt g e (v .slots)) (comparedIn g e (v .slots)))
+      answered-formed (said word.Gone (labelAt g e (v .slots)) (comparedIn g e (v .slots)) 0)
       (shrink-ends i (store-formed i (position g e (v .slots)) f h bl last) h bl))
       (λ t. holds-none)
 
@@ -318,5 +325,5 @@ module _ (g : Layout) (F : Proper g) where
         free = pow-pos (g .basic .start);
         basic = each-tab _ (λ i h. record { counter = pow-pos (g .basic .counter); head = pow-pos (g .link); rest = pow-pos (restBits g) });
         overflow = each-tab (newOverflow g) (λ j h.
-            empty-fits (either (Fits (g .link)) (eqb (suc j) (g .nob)) (λ e. block-link F h) (λ e. block-link F (let ne = eqb-false (suc j) (g .nob) e in omega arith))));
+            empty-fits (either (Fits (g .link)) (eqb (suc j) (g .nob)) (λ e. block-link F h) (λ e. block-link F (let ne = eqb-false (suc j) (g .nob) e in omega arith))) (pow-pos (g .owner)));
       }

@@ -54,16 +54,16 @@ module _ {g : Layout} where
   -- ---- a change of one field
 
   pub counter-fits : {o : Overflow} {n : ℕ} → Fits (g .overflow .counter) n → OverflowFits g o → OverflowFits g (withCounter n o)
-  counter-fits h w = record { counter = h; link = w .link; slots = w .slots }
+  counter-fits h w = record { counter = h; link = w .link; owner = w .owner; slots = w .slots }
 
   pub link-fits : {o : Overflow} {l : ℕ} → Fits (g .link) l → OverflowFits g o → OverflowFits g (withLink l o)
-  link-fits h w = record { counter = w .counter; link = h; slots = w .slots }
+  link-fits h w = record { counter = w .counter; link = h; owner = w .owner; slots = w .slots }
 
   pub slot-fits : {o : Overflow} (q : ℕ) {x : ℕ} → Fits (g .slot) x → OverflowFits g o → OverflowFits g (withSlot q x o)
-  slot-fits q h w = record { counter = w .counter; link = w .link; slots = each-set (w .slots) q h }
+  slot-fits q h w = record { counter = w .counter; link = w .link; owner = w .owner; slots = each-set (w .slots) q h }
 
-  pub empty-fits : {l : ℕ} → Fits (g .link) l → OverflowFits g (emptyBlock g l)
-  empty-fits h = record { counter = pow-pos (g .overflow .counter); link = h; slots = zeros-each (g .slot) (g .sio) }
+  pub empty-fits : {l i : ℕ} → Fits (g .link) l → Fits (g .owner) i → OverflowFits g (emptyBlock g l i)
+  empty-fits h k = record { counter = pow-pos (g .overflow .counter); link = h; owner = k; slots = zeros-each (g .slot) (g .sio) }
 
   pub front-fits : {b : Basic} {n h : ℕ} → Fits (g .basic .counter) n → Fits (g .link) h → BasicFits g b → BasicFits g (withBasicFront n h b)
   front-fits hn hh w = record { counter = hn; head = hh; rest = w .rest }
@@ -75,6 +75,10 @@ module _ {g : Layout} (F : Proper g) where
 
   pub block-free : {j : ℕ} → j ≤ g .nob → Fits (g .basic .start) j
   block-free h = omega (arith, F .free-holds)
+
+  -- the number of a list fits the owner
+  pub list-owner : {i : ℕ} → i < g .lists → Fits (g .owner) i
+  list-owner h = omega (arith, F .owner-holds)
 
   pub head-fits : {es : List ℕ} → Each (Fits (g .slot)) (g .sib) es → Fits (g .link) (headOf g es)
   unfolding headOf

@@ -80,15 +80,21 @@ module _ (g : Layout) (F : Proper g) where
 
   pub overflow-image : (o : Overflow) → OverflowFits g o → Fits (g .overflow .bits) (packOverflow g o)
   overflow-image o f =
+      let e : g .overflow .counter + (g .link + g .owner) ≡ g .overflow .counter + g .link + g .owner = omega arith in
       rw (F .overflow-is)
-      (join-fits (g .overflow .counter + g .link) (g .sio * g .slot) (join-fits (g .overflow .counter) (g .link) (f .counter) (f .link)) (packed-fits (g .slot) (f .slots)))
+      (join-fits (g .overflow .counter + (g .link + g .owner)) (g .sio * g .slot)
+      (rw e (join-fits (g .overflow .counter + g .link) (g .owner) (join-fits (g .overflow .counter) (g .link) (f .counter) (f .link)) (f .owner)))
+      (packed-fits (g .slot) (f .slots)))
 
   pub overflow-inj : (a b : Overflow) → OverflowFits g a → OverflowFits g b → packOverflow g a ≡ packOverflow g b → a ≡ b
   overflow-inj a b p q e =
-      let two = join-inj (g .sio * g .slot) (a .counter * 2 ^ g .link + a .link) (b .counter * 2 ^ g .link + b .link) (packed-fits (g .slot) (p .slots)) (packed-fits (g .slot) (q .slots)) e in
-      let top = join-inj (g .link) (a .counter) (b .counter) (p .link) (q .link) (two .0) in
+      let two =
+      join-inj (g .sio * g .slot) ((a .counter * 2 ^ g .link + a .link) * 2 ^ g .owner + a .owner)
+      ((b .counter * 2 ^ g .link + b .link) * 2 ^ g .owner + b .owner) (packed-fits (g .slot) (p .slots)) (packed-fits (g .slot) (q .slots)) e in
+      let front = join-inj (g .owner) (a .counter * 2 ^ g .link + a .link) (b .counter * 2 ^ g .link + b .link) (p .owner) (q .owner) (two .0) in
+      let top = join-inj (g .link) (a .counter) (b .counter) (p .link) (q .link) (front .0) in
       let row = packed-inj (g .slot) (p .slots) (q .slots) (two .1) in
-      λ k. record { counter = top .0 k; link = top .1 k; slots = row k }
+      λ k. record { counter = top .0 k; link = top .1 k; owner = front .1 k; slots = row k }
 
   basics : {bs : List Basic} → Each (BasicFits g) (g .lists) bs → Each (Fits (g .basic .bits)) (g .lists) (map (packBasic g) bs)
   basics {bs} e = record { long = length-map bs (packBasic g) ∙ e .long; all = all-map (packBasic g) basic-image (e .all) }

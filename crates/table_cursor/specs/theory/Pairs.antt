@@ -21,7 +21,7 @@ module _ (g : Layout) (t : List ℕ) (s : Settings) (laid : layoutOf s ≡ g) wh
   pairs-on i h =
       let k : i < length (decode (layoutOf s) t .basic) = omega (arith, decode-formed (layoutOf s) t .basic .long, ap (λ (x : Layout). x .lists) laid) in
       ap (λ (bs : List Basic). rebuiltFrom s i bs (decode (layoutOf s) t .overflow)) (drop-cons (decode (layoutOf s) t .basic) i emptyBasic k)
-      ∙ ap (λ (x : Layout). pairsOf s i (slotsOf (contentOf x (basicAt (decode x t .basic) i) (decode x t .overflow)))
+      ∙ ap (λ (x : Layout). pairsOf s i (slotsOf (contentOf x i (basicAt (decode x t .basic) i) (decode x t .overflow)))
       ++ rebuiltFrom s (suc i) (drop (suc i) (decode (layoutOf s) t .basic)) (decode (layoutOf s) t .overflow)) laid
 
   pub pairs-end : (i : ℕ) → g .lists ≤ i → pairsFrom s t i ≡ []

@@ -1,6 +1,7 @@
 -- Laws of a list's overflow blocks: where its places are, and its last one.
-use mathlib.Core.Path.{_≡_, refl, sym, ap, _∙_}
+use mathlib.Core.Path.{_≡_, refl, sym, ap, subst, _∙_}
 use mathlib.Core.Bool.{true, false}
+use Rattle.laws.specs.Folds.{every}
 use mathlib.Core.List.{List, [], _∷_, _++_}
 use mathlib.Core.Option.{Option, none, some}
 use Prim.Native.Nat.{ℕ, suc, _+_, _-_, _≤_, _<_, min}
@@ -12,12 +13,13 @@ use lib.Dec.{ltb}
 use borrow.Author.Tests.{eq-eqb, ne-eqb, lt-ltb, le-ltb}
 use Rattle.settings.specs.declared.layout.Layout.{Layout}
 use Rattle.table.specs.State.{Overflow, State, basicAt, overflowAt, unpack}
-use Rattle.table.specs.Follow.{Content, mkContent, lastOf, cons?, follow, gather, contentOver, content}
+use Rattle.table.specs.Follow.{Content, mkContent, lastOf, cons?, follow, gather, isOwn, content}
 use Rattle.table.specs.Take.{occurs}
-use Rattle.table_read.specs.Steps.{lastFrom, Followed}
-use Rattle.table_read.specs.BlockSlots.{blocksFrom, hasBlock, blockSlot, blockSlotIn, Reaches}
+use Rattle.table_read.specs.Steps.{lastFrom, Followed, OwnFollowed}
+use Rattle.table.specs.Numbers.{overflowNumber}
+use Rattle.table_read.specs.BlockSlots.{blocksFrom, numberFrom, hasBlock, blockSlot, blockSlotIn, Reaches}
 use Rattle.table_read.specs.theory.Reads.{unpack-length}
-use Rattle.table_read.specs.theory.Walks.{follow-here, follow-on, OneStep, Chain, ends, more, Walk, lost, ended, walk, followed, content-high, content-bad, content-over}
+use Rattle.table_read.specs.theory.Walks.{follow-here, follow-on, OneStep, Chain, ends, more, Walk, lost, ended, walk, owns, followed, ended-own, content-high, content-bad, content-over}
 
 module _ (g : Layout) (os : List Overflow) where
   -- the blocks of a list that has an end
@@ -127,6 +129,33 @@ module _ (g : Layout) (os : List Overflow) where
         let k : q - g .sio ≡ length ys - 1 = omega arith in
         rw (le-ltb q (g .sio) (omega arith), k) (last-block-slot c)
 
+-- ---- the blocks from b on, by one step
+
+module _ (g : Layout) (os : List Overflow) (n b : ℕ) (k : OneStep g os n b) where
+  blocks-last : overflowAt os b .counter < g .sio → follow g n os b ≡ some (b ∷ [])
+  blocks-last h = follow-here g os n b (k .fuel) (k .low) h
+
+  blocks-on : (e : overflowAt os b .counter ≡ g .sio) → follow g n os b ≡ some (b ∷ k .on e .blocks)
+  blocks-on e = follow-on g os n (n - 1) b (omega (arith, k .fuel)) (k .low) e ∙ ap (cons? b) (k .on e .are)
+
+  number-as : (bs : List ℕ) (j : ℕ) → follow g n os b ≡ some (b ∷ bs) → j < g .sio → numberFrom g n os b j ≡ overflowNumber g b j
+  unfolding numberFrom
+  number-as bs j e h = rw (e, lt-ltb j (g .sio) h)
+
+  -- the numbers of its slots, and of the places behind them
+  pub number-here : (j : ℕ) → j < g .sio → numberFrom g n os b j ≡ overflowNumber g b j
+  number-here j h = pick (decLe (g .sio) (overflowAt os b .counter))
+    where
+      pick : Dec (g .sio ≤ overflowAt os b .counter) → numberFrom g n os b j ≡ overflowNumber g b j
+      pick (yes l) = let z : overflowAt os b .counter ≡ g .sio = omega (arith, k .count) in number-as (k .on z .blocks) j (blocks-on z) h
+      pick (no l) = number-as [] j (blocks-last (omega arith)) h
+
+  pub number-on : overflowAt os b .counter ≡ g .sio → (p : ℕ) → numberFrom g n os b (g .sio + p) ≡ numberFrom g (n - 1) os (overflowAt os b .link) p
+  unfolding numberFrom
+  number-on e p =
+      let z : g .sio + p - g .sio ≡ p = omega arith in
+      rw (blocks-on e, k .on e .are, le-ltb (g .sio + p) (g .sio) (omega arith), z)
+
 -- ---- whether block f is one of them
 
 module _ (g : Layout) (os : List Overflow) (f : ℕ) where
@@ -135,12 +164,6 @@ module _ (g : Layout) (os : List Overflow) (f : ℕ) where
   has-as n b bs e = rw e
 
   module _ (n b : ℕ) (k : OneStep g os n b) where
-    blocks-last : overflowAt os b .counter < g .sio → follow g n os b ≡ some (b ∷ [])
-    blocks-last h = follow-here g os n b (k .fuel) (k .low) h
-
-    blocks-on : (e : overflowAt os b .counter ≡ g .sio) → follow g n os b ≡ some (b ∷ k .on e .blocks)
-    blocks-on e = follow-on g os n (n - 1) b (omega (arith, k .fuel)) (k .low) e ∙ ap (cons? b) (k .on e .are)
-
     here : (bs : List ℕ) → b ≡ f → true ≡ ltb 0 (occurs f (b ∷ bs))
     here bs e = rw (eq-eqb f b (sym e)) (sym (lt-ltb 0 (1 + occurs f bs) (omega arith)))
 
@@ -148,27 +171,28 @@ module _ (g : Layout) (os : List Overflow) (f : ℕ) where
     has-here e = pick (decLe (g .sio) (overflowAt os b .counter))
       where
         pick : Dec (g .sio ≤ overflowAt os b .counter) → true ≡ hasBlock g n os b f
-        pick (yes l) = let z : overflowAt os b .counter ≡ g .sio = omega (arith, k .count) in here (k .on z .blocks) e ∙ sym (has-as n b (b ∷ k .on z .blocks) (blocks-on z))
-        pick (no l) = here [] e ∙ sym (has-as n b (b ∷ []) (blocks-last (omega arith)))
+        pick (yes l) = let z : overflowAt os b .counter ≡ g .sio = omega (arith, k .count) in here (k .on z .blocks) e ∙ sym (has-as n b (b ∷ k .on z .blocks) (blocks-on g os n b k z))
+        pick (no l) = here [] e ∙ sym (has-as n b (b ∷ []) (blocks-last g os n b k (omega arith)))
 
     pub has-last : (b ≡ f → ⊥) → overflowAt os b .counter < g .sio → false ≡ hasBlock g n os b f
-    has-last ne h = sym (has-as n b (b ∷ []) (blocks-last h) ∙ rw (ne-eqb f b (λ q. ne (sym q))))
+    has-last ne h = sym (has-as n b (b ∷ []) (blocks-last g os n b k h) ∙ rw (ne-eqb f b (λ q. ne (sym q))))
 
     pub has-on : (b ≡ f → ⊥) → overflowAt os b .counter ≡ g .sio → hasBlock g (n - 1) os (overflowAt os b .link) f ≡ hasBlock g n os b f
     has-on ne e =
         has-as (n - 1) (overflowAt os b .link) (k .on e .blocks) (k .on e .are)
-        ∙ sym (has-as n b (b ∷ k .on e .blocks) (blocks-on e) ∙ rw (ne-eqb f b (λ q. ne (sym q)), zero-add (occurs f (k .on e .blocks))))
+        ∙ sym (has-as n b (b ∷ k .on e .blocks) (blocks-on g os n b k e) ∙ rw (ne-eqb f b (λ q. ne (sym q)), zero-add (occurs f (k .on e .blocks))))
 
 -- ---- a list that overflows
 
 module _ (g : Layout) (st : State) (i : ℕ) where
   pub content-chained : basicAt (st .basic) i .counter ≡ suc (g .sib) → (c : Chained g (st .overflow) (basicAt (st .basic) i .head))
+      → every (isOwn i (st .overflow)) (basicAt (st .basic) i .head ∷ c .others) ≡ true
       → content g st i
       ≡ some
       (mkContent (basicAt (st .basic) i .head ∷ c .others)
       (unpack g (overflowAt (st .overflow) (lastOf (basicAt (st .basic) i .head) (c .others)) .link) (basicAt (st .basic) i .rest)
       ++ gather g (st .overflow) (basicAt (st .basic) i .head ∷ c .others)))
-  content-chained h c = content-over g st i h ∙ ap (contentOver g (basicAt (st .basic) i) (st .overflow)) (c .found)
+  content-chained h c o = content-over g st i h ∙ rw (c .found, o)
 
   -- what is known of it where its content is known
   module _ (v : Content) (is : content g st i ≡ some v) (h : g .sib < basicAt (st .basic) i .counter) where
@@ -182,15 +206,25 @@ module _ (g : Layout) (st : State) (i : ℕ) where
         pick (yes l) = omega arith
         pick (no l) = not-damaged (content-high g st i (omega arith))
 
-    pub long-ends : Followed g (g .nob) (st .overflow) (basicAt (st .basic) i .head)
-    long-ends = pick (decLe (g .nob) (lastFrom g (g .nob) (st .overflow) (basicAt (st .basic) i .head)))
+    pub long-owned : OwnFollowed g i (g .nob) (st .overflow) (basicAt (st .basic) i .head)
+    long-owned = pick (decLe (g .nob) (lastFrom g i (g .nob) (st .overflow) (basicAt (st .basic) i .head)))
       where
-        pick : Dec (g .nob ≤ lastFrom g (g .nob) (st .overflow) (basicAt (st .basic) i .head)) → Followed g (g .nob) (st .overflow) (basicAt (st .basic) i .head)
+        pick : Dec (g .nob ≤ lastFrom g i (g .nob) (st .overflow) (basicAt (st .basic) i .head)) → OwnFollowed g i (g .nob) (st .overflow) (basicAt (st .basic) i .head)
         pick (yes l) = not-damaged (content-bad g st i long-full l)
-        pick (no l) = followed g (st .overflow) (g .nob) (basicAt (st .basic) i .head) (omega arith)
+        pick (no l) = followed g (st .overflow) i (g .nob) (basicAt (st .basic) i .head) (omega arith)
+
+    pub long-ends : Followed g (g .nob) (st .overflow) (basicAt (st .basic) i .head)
+    long-ends = ended-own g (st .overflow) i long-owned
 
     pub long-blocks : Chained g (st .overflow) (basicAt (st .basic) i .head)
     long-blocks = chained g (st .overflow) (basicAt (st .basic) i .head) long-ends
+
+    pub long-own : every (isOwn i (st .overflow)) (basicAt (st .basic) i .head ∷ long-blocks .others) ≡ true
+    long-own =
+        let w = owns g (st .overflow) i long-owned in
+        let e = long-blocks .found in
+        let z : long-owned .blocks ≡ basicAt (st .basic) i .head ∷ long-blocks .others = cc in
+        subst (λ (bs : List ℕ). every (isOwn i (st .overflow)) bs ≡ true) z (w .own)
 
     pub long-length : length (v .slots) ≡ g .sib + length (gather g (st .overflow) (basicAt (st .basic) i .head ∷ long-blocks .others))
     long-length =
@@ -198,6 +232,6 @@ module _ (g : Layout) (st : State) (i : ℕ) where
         let last = overflowAt (st .overflow) (lastOf (b .head) (long-blocks .others)) in
         let body = unpack g (last .link) (b .rest) in
         let tail = gather g (st .overflow) (b .head ∷ long-blocks .others) in
-        let e = content-chained long-full long-blocks in
+        let e = content-chained long-full long-blocks long-own in
         let z : v ≡ mkContent (b .head ∷ long-blocks .others) (body ++ tail) = cc in
         ap (λ (x : Content). length (x .slots)) z ∙ length-append body tail ∙ ap (λ (n : ℕ). n + length tail) (unpack-length g (last .link) (b .rest))

@@ -19,7 +19,7 @@ module _ (g : Layout) (F : Proper g) where
   pub basic-fields : (i w : ℕ) → i < g .lists → w ≤ g .sib * g .slot → Fields (g .basic) i w
   basic-fields i w h l = record { near = omega (arith, basic-ends g F i h, start-high g F, bits-high g F); fits = omega (arith, F .basic-is) }
 
-  pub over-fields : (j w : ℕ) → j < g .nob → w ≤ g .link + g .sio * g .slot → Fields (g .overflow) j w
+  pub over-fields : (j w : ℕ) → j < g .nob → w ≤ g .link + g .owner + g .sio * g .slot → Fields (g .overflow) j w
   over-fields j w h l = record { near = omega (arith, over-ends g F j h, bits-high g F); fits = omega (arith, F .overflow-is) }
 
   pub basic-slot-ends : (i : ℕ) → i < g .lists → (p : ℕ) → p < g .sib → basicSlot g i p + g .slot ≤ g .bits
@@ -30,26 +30,26 @@ module _ (g : Layout) (F : Proper g) where
   unfolding overflowSlots overflowSlot
   overflow-slot-ends j h p l = omega (arith, mul-le-mul-right (g .slot) l, over-ends g F j h, F .overflow-is)
 
--- the blocks of a table, with a link of w bits or none
-module _ (g : Layout) (t : List ℕ) (T : Table g t) (w : ℕ) (l : w ≤ g .link) where
-  pub basic-in : (i : ℕ) → i < g .lists → BlockIn t (g .basic) i w
-  basic-in i h =
+-- the blocks of a table, with w bits of link and owner
+module _ (g : Layout) (t : List ℕ) (T : Table g t) (w : ℕ) where
+  pub basic-in : w ≤ g .link → (i : ℕ) → i < g .lists → BlockIn t (g .basic) i w
+  basic-in l i h =
       let F = T .proper in
       record {
         fields = basic-fields g F i w h (omega (arith, F .link-fits));
         room = omega (arith, basic-ends g F i h, start-high g F, T .room);
         some = some-bits (suc (g .sib)) (g .basic .counter) (omega arith) (F .basic-holds);
         short = omega (arith, F .basic-high);
-        link = omega (arith, F .link-high);
+        numbers = omega (arith, F .link-high);
       }
 
-  pub over-in : (j : ℕ) → j < g .nob → BlockIn t (g .overflow) j w
-  over-in j h =
+  pub over-in : w ≤ g .link + g .owner → (j : ℕ) → j < g .nob → BlockIn t (g .overflow) j w
+  over-in l j h =
       let F = T .proper in
       record {
         fields = over-fields g F j w h (omega arith);
         room = omega (arith, over-ends g F j h, T .room);
         some = some-bits (g .sio) (g .overflow .counter) (F .sio-low) (F .overflow-holds);
         short = omega (arith, F .overflow-high);
-        link = omega (arith, F .link-high);
+        numbers = omega (arith, F .link-high, F .owner-high);
       }

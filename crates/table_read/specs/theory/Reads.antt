@@ -22,7 +22,7 @@ use Rattle.keys.specs.declared.Key.{Key}
 use Rattle.settings.specs.declared.layout.Layout.{Layout}
 use Rattle.table.specs.Arrays.{tabulate, unpacked}
 use Rattle.table.specs.State.{Basic, Overflow, basicAt, overflowAt, restBits, unpack, ownSlots, entryOf, labelOf}
-use Rattle.table.specs.Decode.{blockAt, basicSlots, linkAt, overflowSlots, readBasic, readOverflow, decode}
+use Rattle.table.specs.Decode.{blockAt, basicSlots, linkAt, ownerAt, overflowSlots, readBasic, readOverflow, decode}
 use Rattle.table.specs.Table.{Table}
 use Rattle.table_read.specs.Steps.{restoredBytes, FieldWithin, SlotsWithin, slotsIn, basicRun, displacedRun, overflowRun}
 use Rattle.table.specs.theory.Arrays.{length-tab, getD-tab, tab-ext}
@@ -261,6 +261,11 @@ module _ (g : Layout) (t : List ℕ) (T : Table g t) where
   pub link-field : (j : ℕ) → j < g .nob → field t (blockAt (g .overflow) j + g .overflow .counter) (g .link) ≡ overflowAt (decode g t .overflow) j .link
   unfolding linkAt readOverflow
   link-field j h = sym (ap (λ (o : Overflow). o .link) (at-over g (T .proper) t j h))
+
+  pub owner-field : (j : ℕ) → j < g .nob
+      → field t (blockAt (g .overflow) j + (g .overflow .counter + g .link)) (g .owner) ≡ overflowAt (decode g t .overflow) j .owner
+  unfolding ownerAt readOverflow
+  owner-field j h = sym (ap (λ (o : Overflow). o .owner) (at-over g (T .proper) t j h))
 
   -- what stands in a field fits it
   pub head-lt : (i : ℕ) → i < g .lists → basicAt (decode g t .basic) i .head < 2 ^ g .link

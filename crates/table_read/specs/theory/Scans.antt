@@ -61,19 +61,19 @@ module _ (g : Layout) (F : Proper g) (t : List ℕ) (b : Slots) where
       bits : ℕ → ℕ
       bits k = field (restoredBytes t b) (b .start + k * g .slot) (g .bie)
 
-  -- and the label's bits are behind them; m slots were compared
-  pub held-restored : (k m n : ℕ) → k < b .count → m ≡ n + suc k
-      → said word.Held (field (restoredBytes t b) (b .start + k * g .slot + g .bie) (g .val)) m ≡ said word.Held (labelOf g (getD (slotsIn g t b) k 0)) (n + suc k)
-  held-restored k m n h e = ap₂ (said word.Held) (sym (label-in g t b F k h)) e
+  -- and the label's bits are behind them; m slots were compared, and x is the slot's number
+  pub held-restored : (k m n : ℕ) {x : ℕ} → k < b .count → m ≡ n + suc k
+      → said word.Held (field (restoredBytes t b) (b .start + k * g .slot + g .bie) (g .val)) m x ≡ said word.Held (labelOf g (getD (slotsIn g t b) k 0)) (n + suc k) x
+  held-restored k m n {x} h e = ap₂ (λ (y z : ℕ). said word.Held y z x) (sym (label-in g t b F k h)) e
 
   module _ (z : b .displaced ≡ 0) where
     pub plain-position : (e r : ℕ) → First t (b .start) (g .slot) (g .bie) e (b .count) r → r ≡ position g e (slotsIn g t b)
     plain-position e r f = first-position e r (rw (restored-bytes-plain t b z) f)
 
-    pub held-plain : (k m n : ℕ) → k < b .count → m ≡ n + suc k
-        → said word.Held (field t (b .start + k * g .slot + g .bie) (g .val)) m ≡ said word.Held (labelOf g (getD (slotsIn g t b) k 0)) (n + suc k)
-    held-plain k m n h e =
-        ap (λ (s : List ℕ). said word.Held (field s (b .start + k * g .slot + g .bie) (g .val)) m) (sym (restored-bytes-plain t b z)) ∙ held-restored k m n h e
+    pub held-plain : (k m n : ℕ) {x : ℕ} → k < b .count → m ≡ n + suc k
+        → said word.Held (field t (b .start + k * g .slot + g .bie) (g .val)) m x ≡ said word.Held (labelOf g (getD (slotsIn g t b) k 0)) (n + suc k) x
+    held-plain k m n {x} h e =
+        ap (λ (s : List ℕ). said word.Held (field s (b .start + k * g .slot + g .bie) (g .val)) m x) (sym (restored-bytes-plain t b z)) ∙ held-restored k m n h e
 
 -- the whole blocks
 module _ (g : Layout) (t : List ℕ) (T : Table g t) where

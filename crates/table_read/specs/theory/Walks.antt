@@ -1,5 +1,6 @@
 -- Laws of following a list: its turns, its end, and what it finds.
 use mathlib.Core.Path.{_≡_, refl, _∙_}
+use mathlib.Core.Bool.{true}
 use mathlib.Core.List.{List, [], _∷_, _++_, append-nil}
 use mathlib.Core.Option.{Option, none, some}
 use Prim.Native.Nat.{ℕ, zero, suc, _-_, _≤_, _<_}
@@ -7,12 +8,13 @@ use native.Mathlib.Omega.{arith}
 use lib.ListN.{length, take}
 use lib.Dec.{ltb}
 use borrow.Author.Tests.{eq-eqb, ne-eqb, lt-ltb, le-ltb, ltb-true}
+use Rattle.laws.specs.Folds.{every}
 use Rattle.laws.specs.Cases.{cases}
 use Rattle.laws.specs.Options.{nothing}
 use Rattle.settings.specs.declared.layout.Layout.{Layout}
 use Rattle.table.specs.State.{Overflow, State, basicAt, overflowAt, unpack, ownSlots}
-use Rattle.table.specs.Follow.{mkContent, lastOf, cons?, follow, contentOver, content, goOn, stepAt}
-use Rattle.table_read.specs.Steps.{lastIn, lastFrom, Followed, gatherFrom}
+use Rattle.table.specs.Follow.{mkContent, lastOf, cons?, follow, isOwn, ownBlocks, contentOver, content, goOn, stepAt}
+use Rattle.table_read.specs.Steps.{lastIn, lastFrom, Followed, OwnFollowed, gatherFrom}
 use Rattle.table.specs.declared.step.Step.{Step}
 use Rattle.table.specs.declared.step.Step.the-variants.{Last, Further, Damage}
 use Rattle.table.specs.theory.Ways.{Way, way, step-last, step-further, step-damage}
@@ -74,51 +76,93 @@ module _ (g : Layout) (os : List Overflow) where
       (λ p. rw p (walk-step n b (ltb-true b (g .nob) p) (stepAt g os b) (way (g .sio) (overflowAt os b .counter) (overflowAt os b .link)) (walk n)))
       (λ p. rw p lost)
 
-  last-on : (b : ℕ) {n c : ℕ} {o : Option (List ℕ)} → Walk n c o → lastIn g (cons? b o) ≡ lastIn g o
-  last-on b lost = refl
-  last-on b (ended c l) = refl
+  -- ---- the last block of list i
 
-  -- ---- the last block
+  module _ (i : ℕ) where
+    -- the same of the list's own blocks
+    own-as : {n b : ℕ} {o : Option (List ℕ)} → Walk n b o → Walk n b (ownBlocks i os o)
+    own-as lost = lost
+    own-as {n} {b} (ended {cs} c l) = cases (every (isOwn i os) (b ∷ cs)) (λ e. rw e (ended c l)) (λ e. rw e lost)
 
-  pub last-high : (n b : ℕ) → g .nob ≤ b → lastFrom g n os b ≡ g .nob
-  unfolding lastFrom
-  last-high n b h = rw (follow-high n b h)
+    pub own-walk : (n b : ℕ) → Walk n b (ownBlocks i os (follow g n os b))
+    own-walk n b = own-as (walk n b)
 
-  pub last-out : (n b : ℕ) → n ≡ 0 → lastFrom g n os b ≡ g .nob
-  unfolding lastFrom
-  last-out n b h = rw h
+    last-on : (b : ℕ) {n c : ℕ} {o : Option (List ℕ)} → overflowAt os b .owner ≡ i → Walk n c o
+        → lastIn g (ownBlocks i os (cons? b o)) ≡ lastIn g (ownBlocks i os o)
+    last-on b e lost = refl
+    last-on b {c = c} e (ended {cs} w l) =
+        cases (every (isOwn i os) (c ∷ cs)) (λ q. rw (eq-eqb (overflowAt os b .owner) i e, q)) (λ q. rw (eq-eqb (overflowAt os b .owner) i e, q))
 
-  pub last-here : (n b : ℕ) → 0 < n → b < g .nob → overflowAt os b .counter < g .sio → lastFrom g n os b ≡ b
-  unfolding lastFrom
-  last-here n b h l e = rw (follow-here n b h l e)
+    pub last-high : (n b : ℕ) → g .nob ≤ b → lastFrom g i n os b ≡ g .nob
+    unfolding lastFrom
+    last-high n b h = rw (follow-high n b h)
 
-  pub last-bad : (n b : ℕ) → g .sio < overflowAt os b .counter → lastFrom g n os b ≡ g .nob
-  unfolding lastFrom
-  last-bad n b e = rw (follow-bad n b e)
+    pub last-out : (n b : ℕ) → n ≡ 0 → lastFrom g i n os b ≡ g .nob
+    unfolding lastFrom
+    last-out n b h = rw h
 
-  pub last-further : (n m b : ℕ) → n ≡ suc m → b < g .nob → overflowAt os b .counter ≡ g .sio
-      → lastFrom g n os b ≡ lastFrom g m os (overflowAt os b .link)
-  unfolding lastFrom
-  last-further n m b h l e =
-      rw (follow-on n m b h l e)
-      (last-on b (walk m (overflowAt os b .link)))
+    other-as : {n b : ℕ} {o : Option (List ℕ)} → (overflowAt os b .owner ≡ i → ⊥) → Walk n b o → lastIn g (ownBlocks i os o) ≡ g .nob
+    other-as ne lost = refl
+    other-as {b = b} ne (ended c l) = rw (ne-eqb (overflowAt os b .owner) i ne)
 
-  followed-as : (n b : ℕ) {o : Option (List ℕ)} → Walk n b o → follow g n os b ≡ o → lastIn g o < g .nob → Followed g n os b
-  followed-as n b lost e h = absurd (omega arith)
-  followed-as n b (ended {cs} c l) e h = record { blocks = b ∷ cs; are = e }
+    -- a block with another list's number
+    pub last-other : (n b : ℕ) → (overflowAt os b .owner ≡ i → ⊥) → lastFrom g i n os b ≡ g .nob
+    unfolding lastFrom
+    last-other n b ne = other-as ne (walk n b)
 
-  -- a last block below nob is the end of a list without damage
-  pub followed : (n b : ℕ) → lastFrom g n os b < g .nob → Followed g n os b
-  unfolding lastFrom
-  followed n b h = followed-as n b (walk n b) refl h
+    pub last-here : (n b : ℕ) → 0 < n → b < g .nob → overflowAt os b .owner ≡ i → overflowAt os b .counter < g .sio → lastFrom g i n os b ≡ b
+    unfolding lastFrom
+    last-here n b h l o e = rw (follow-here n b h l e, eq-eqb (overflowAt os b .owner) i o)
 
-  damaged-as : {n b : ℕ} {o : Option (List ℕ)} → Walk n b o → g .nob ≤ lastIn g o → o ≡ none
-  damaged-as lost h = refl
-  damaged-as (ended c l) h = absurd (omega (arith, last-low c))
+    pub last-bad : (n b : ℕ) → g .sio < overflowAt os b .counter → lastFrom g i n os b ≡ g .nob
+    unfolding lastFrom
+    last-bad n b e = rw (follow-bad n b e)
 
-  pub damaged : (n b : ℕ) → g .nob ≤ lastFrom g n os b → follow g n os b ≡ none
-  unfolding lastFrom
-  damaged n b h = damaged-as (walk n b) h
+    pub last-further : (n m b : ℕ) → n ≡ suc m → b < g .nob → overflowAt os b .owner ≡ i → overflowAt os b .counter ≡ g .sio
+        → lastFrom g i n os b ≡ lastFrom g i m os (overflowAt os b .link)
+    unfolding lastFrom
+    last-further n m b h l o e =
+        rw (follow-on n m b h l e)
+        (last-on b o (walk m (overflowAt os b .link)))
+
+    followed-as : (n b : ℕ) {o : Option (List ℕ)} → Walk n b o → ownBlocks i os (follow g n os b) ≡ o → lastIn g o < g .nob → OwnFollowed g i n os b
+    followed-as n b lost e h = absurd (omega arith)
+    followed-as n b (ended {cs} c l) e h = record { blocks = b ∷ cs; are = e }
+
+    -- a last block below nob is the end of a list without damage
+    pub followed : (n b : ℕ) → lastFrom g i n os b < g .nob → OwnFollowed g i n os b
+    unfolding lastFrom
+    followed n b h = followed-as n b (own-walk n b) refl h
+
+    damaged-as : {n b : ℕ} {o : Option (List ℕ)} → Walk n b o → g .nob ≤ lastIn g o → o ≡ none
+    damaged-as lost h = refl
+    damaged-as (ended c l) h = absurd (omega (arith, last-low c))
+
+    pub damaged : (n b : ℕ) → g .nob ≤ lastFrom g i n os b → ownBlocks i os (follow g n os b) ≡ none
+    unfolding lastFrom
+    damaged n b h = damaged-as (own-walk n b) h
+
+    -- what a list's own blocks tell
+    pub record Owns (n b : ℕ) (bs : List ℕ) : Type 0 where
+      pub found : follow g n os b ≡ some bs
+      pub own : every (isOwn i os) bs ≡ true
+
+    owns-as : (n b : ℕ) (bs : List ℕ) (o : Option (List ℕ)) → follow g n os b ≡ o → ownBlocks i os o ≡ some bs → Owns n b bs
+    owns-as n b bs none w = λ e. nothing e
+    owns-as n b bs (some cs) w =
+        cases (every (isOwn i os) cs)
+        (λ q. rw q (λ e. let z : cs ≡ bs = cc in record { found = rw (← z) w; own = rw (← z) q }))
+        (λ q. rw q (λ e. nothing e))
+
+    pub owns : {n b : ℕ} (f : OwnFollowed g i n os b) → Owns n b (f .blocks)
+    owns {n} {b} f = owns-as n b (f .blocks) (follow g n os b) refl (f .are)
+
+    -- and back
+    pub owned : {n b : ℕ} {bs : List ℕ} → Owns n b bs → OwnFollowed g i n os b
+    owned {bs = bs} w = record { blocks = bs; are = rw (w .found, w .own) }
+
+    pub ended-own : {n b : ℕ} → OwnFollowed g i n os b → Followed g n os b
+    ended-own f = record { blocks = f .blocks; are = owns f .found }
 
   -- ---- one block of a list without damage
 
@@ -188,7 +232,8 @@ module _ (g : Layout) (st : State) (i : ℕ) where
       )
 
   pub content-over : basicAt (st .basic) i .counter ≡ suc (g .sib)
-      → content g st i ≡ contentOver g (basicAt (st .basic) i) (st .overflow) (follow g (g .nob) (st .overflow) (basicAt (st .basic) i .head))
+      → content g st i
+      ≡ contentOver g (basicAt (st .basic) i) (st .overflow) (ownBlocks i (st .overflow) (follow g (g .nob) (st .overflow) (basicAt (st .basic) i .head)))
   unfolding content
   content-over h =
       rw (
@@ -196,24 +241,25 @@ module _ (g : Layout) (st : State) (i : ℕ) where
         eq-eqb (basicAt (st .basic) i .counter) (suc (g .sib)) h,
       )
 
-  pub content-bad : basicAt (st .basic) i .counter ≡ suc (g .sib) → g .nob ≤ lastFrom g (g .nob) (st .overflow) (basicAt (st .basic) i .head)
+  pub content-bad : basicAt (st .basic) i .counter ≡ suc (g .sib) → g .nob ≤ lastFrom g i (g .nob) (st .overflow) (basicAt (st .basic) i .head)
       → content g st i ≡ none
-  content-bad h l = content-over h ∙ rw (damaged g (st .overflow) (g .nob) (basicAt (st .basic) i .head) l)
+  content-bad h l = content-over h ∙ rw (damaged g (st .overflow) i (g .nob) (basicAt (st .basic) i .head) l)
 
-  long-as : (b : ℕ) {o : Option (List ℕ)} → Walk g (st .overflow) (g .nob) b o → (bs : List ℕ) → follow g (g .nob) (st .overflow) b ≡ o → o ≡ some bs
+  long-as : (b : ℕ) {o : Option (List ℕ)} → Walk g (st .overflow) (g .nob) b o → (bs : List ℕ)
+      → ownBlocks i (st .overflow) (follow g (g .nob) (st .overflow) b) ≡ o → o ≡ some bs → follow g (g .nob) (st .overflow) b ≡ some bs
       → contentOver g (basicAt (st .basic) i) (st .overflow) o
-      ≡ some (mkContent bs (unpack g (overflowAt (st .overflow) (lastFrom g (g .nob) (st .overflow) b) .link) (basicAt (st .basic) i .rest) ++ gatherFrom g (g .nob) (st .overflow) b))
+      ≡ some (mkContent bs (unpack g (overflowAt (st .overflow) (lastFrom g i (g .nob) (st .overflow) b) .link) (basicAt (st .basic) i .rest) ++ gatherFrom g (g .nob) (st .overflow) b))
   unfolding lastFrom gatherFrom
-  long-as b lost bs e w = nothing w
-  long-as b (ended {cs} c l) bs e w = let z : b ∷ cs ≡ bs = cc in rw (e, ← z)
+  long-as b lost bs e w f = nothing w
+  long-as b (ended {cs} c l) bs e w f = let z : b ∷ cs ≡ bs = cc in rw (e, f, ← z)
 
-  pub content-long : basicAt (st .basic) i .counter ≡ suc (g .sib) → (f : Followed g (g .nob) (st .overflow) (basicAt (st .basic) i .head))
+  pub content-long : basicAt (st .basic) i .counter ≡ suc (g .sib) → (f : OwnFollowed g i (g .nob) (st .overflow) (basicAt (st .basic) i .head))
       → content g st i
       ≡ some
       (mkContent (f .blocks)
-      (unpack g (overflowAt (st .overflow) (lastFrom g (g .nob) (st .overflow) (basicAt (st .basic) i .head)) .link) (basicAt (st .basic) i .rest)
+      (unpack g (overflowAt (st .overflow) (lastFrom g i (g .nob) (st .overflow) (basicAt (st .basic) i .head)) .link) (basicAt (st .basic) i .rest)
       ++ gatherFrom g (g .nob) (st .overflow) (basicAt (st .basic) i .head)))
   content-long h f =
       content-over h
       ∙ long-as (basicAt (st .basic) i .head)
-      (walk g (st .overflow) (g .nob) (basicAt (st .basic) i .head)) (f .blocks) refl (f .are)
+      (own-walk g (st .overflow) i (g .nob) (basicAt (st .basic) i .head)) (f .blocks) refl (f .are) (owns g (st .overflow) i f .found)

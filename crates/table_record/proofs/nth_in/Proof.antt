@@ -31,7 +31,7 @@ returns c =
     let n = r .before .before .before in
     let a = n .before .before in (
       c .nth-of .ensures .0
-          ∙ nth-short (a .args .g) (now (a .args .t)) (a .pre .0) (a .args .i .0) (a .args .n) (a .pre .1) (r .basic-run .result) (n .basic-counter .result)
+          ∙ nth-short (a .args .g) (now (a .args .t)) (a .pre .0) (a .args .i .0) (a .pre .1) (a .args .n) (r .basic-run .result) (n .basic-counter .result)
           (n .basic-counter .ensures) (r .before .if1 .taken) (r .basic-run .ensures),
       c .nth-of .ensures .1,
     )
@@ -43,7 +43,7 @@ returns-2 : tie.Need-returns-2
 returns-2 c =
     let n = c .before .before .before .before in
     let a = n .before .before in (
-      nth-damaged (a .args .g) (now (a .args .t)) (a .pre .0) (a .args .i .0) (a .args .n) (a .pre .1)
+      nth-damaged (a .args .g) (now (a .args .t)) (a .pre .0) (a .args .i .0) (a .pre .1) (a .args .n)
           (content-high (a .args .g) (decode (a .args .g) (now (a .args .t))) (a .args .i .0) (omega (arith, n .basic-counter .ensures, c .if2 .taken))),
       bounded-damage (a .args .g),
     )

@@ -7,13 +7,13 @@ use Rattle.table.specs.Decode.{decode}
 use Rattle.table_read.specs.Steps.{lastFrom}
 use Rattle.table_read.specs.theory.Lasts.{EndsAt, ends-at, no-end}
 use Rattle.table_read.specs.theory.Reads.{displaced-run-within, head-lt, link-lt}
-use Rattle.table_record.proofs.Records.{bounded-damage, nth-unended, list-followed, nth-displaced, nth-behind}
+use Rattle.table_record.proofs.Records.{bounded-damage, nth-damaged, list-unended, list-followed, nth-displaced, nth-behind}
 use Rattle.table_record.proofs.nth_long.Statement.{statement}
 use Rattle.table_record.proofs.nth_long.Tie as tie
 
 -- the list's last block
 end : (c : tie.After-last) → let a = c .before .before .before .before .args in
-    EndsAt (a .g) (lastFrom (a .g) (a .g .nob) (decode (a .g) (now (a .t)) .overflow) (a .first .0)) (c .last .given .0 .0)
+    EndsAt (a .g) (lastFrom (a .g) (a .i .0) (a .g .nob) (decode (a .g) (now (a .t)) .overflow) (a .first .0)) (c .last .given .0 .0)
 end c = ends-at _ _ _ (sym (c .before .before .follow .ensures) ∙ c .last .given .1)
 
 follow-requires : tie.Need-follow-requires
@@ -29,8 +29,9 @@ returns : tie.Need-returns
 returns c =
     let f = c .before .before in
     let a = f .before .before in (
-      nth-unended (a .args .g) (now (a .args .t)) (a .pre .0) (a .args .i .0) (a .args .n) (a .pre .1) (a .args .first .0) _ (a .pre .2) refl
-          (no-end (a .args .g) _ (sym (f .follow .ensures) ∙ c .enum-told .given .1)),
+      nth-damaged (a .args .g) (now (a .args .t)) (a .pre .0) (a .args .i .0) (a .pre .1) (a .args .n)
+          (list-unended (a .args .g) (now (a .args .t)) (a .pre .0) (a .args .i .0) (a .pre .1) (a .args .first .0) _ (a .pre .2) refl
+          (no-end (a .args .g) _ (sym (f .follow .ensures) ∙ c .enum-told .given .1))),
       bounded-damage (a .args .g),
     )
 
@@ -59,8 +60,8 @@ returns-2 c =
     let e = r .before .before .before .before in
     let a = e .before .before .before .before in (
       c .nth-of .ensures .0
-          ∙ nth-displaced (a .args .g) (now (a .args .t)) (a .pre .0) (a .args .i .0) (a .args .n) (a .pre .1) (a .args .first .0) (e .last .given .0 .0 .0) (a .pre .2) (end e .is) (end e .low)
-          (r .displaced-run .result) (r .before .overflow-link .result) (r .before .overflow-link .ensures) (r .displaced-run .ensures) (r .before .before .if1 .taken),
+          ∙ nth-displaced (a .args .g) (now (a .args .t)) (a .pre .0) (a .args .i .0) (a .pre .1) (a .args .first .0) (e .last .given .0 .0 .0) (a .pre .2) (end e .is) (end e .low)
+          (a .args .n) (r .displaced-run .result) (r .before .overflow-link .result) (r .before .overflow-link .ensures) (r .displaced-run .ensures) (r .before .before .if1 .taken),
       c .nth-of .ensures .1,
     )
 
@@ -69,7 +70,7 @@ nth-blocks-requires c κs =
     let e = c .before .before in
     let a = e .before .before .before .before in (
       a .pre .0,
-      list-followed (a .args .g) (now (a .args .t)) (a .pre .0) (a .args .i .0) (a .args .n) (a .pre .1) (a .args .first .0) (e .last .given .0 .0 .0) (a .pre .2) (end e .is) (end e .low),
+      list-followed (a .args .g) (now (a .args .t)) (a .pre .0) (a .args .i .0) (a .pre .1) (a .args .first .0) (e .last .given .0 .0 .0) (a .pre .2) (end e .is) (end e .low),
     )
 
 returns-3 : tie.Need-returns-3
@@ -77,7 +78,7 @@ returns-3 c =
     let e = c .before .before .before in
     let a = e .before .before .before .before in (
       c .nth-blocks .ensures .0
-          ∙ nth-behind (a .args .g) (now (a .args .t)) (a .pre .0) (a .args .i .0) (a .args .n) (a .pre .1) (a .args .first .0) (e .last .given .0 .0 .0) (a .pre .2) (end e .is) (end e .low) (c .before .if1 .left),
+          ∙ nth-behind (a .args .g) (now (a .args .t)) (a .pre .0) (a .args .i .0) (a .pre .1) (a .args .first .0) (e .last .given .0 .0 .0) (a .pre .2) (end e .is) (end e .low) (a .args .n) (c .before .if1 .left),
       c .nth-blocks .ensures .1,
     )
 

@@ -9,8 +9,8 @@ use borrow.Author.Needs.{needs}
 use Rattle.table.specs.Decode.{decode}
 use Rattle.table.specs.Record.{recordIn}
 use Rattle.table.specs.theory.Formed.{basics}
-use Rattle.table_record.specs.RecordSteps.{recordsFrom}
-use Rattle.table_record.proofs.Records.{onNth, records-all, records-none, records-step}
+use Rattle.table_record.specs.RecordSteps.{onNth, recordsFrom}
+use Rattle.table_record.proofs.Records.{records-all, records-none, records-step}
 use Rattle.table_record.specs.declared.Nth.{Nth}
 use Rattle.settings.specs.theory.Proper.{lists-are, bie-is}
 use Rattle.table_record.proofs.record_in.Statement.{statement}
@@ -36,6 +36,9 @@ goes c =
 
 loop-holds : tie.Need-loop-holds Inv-loop μ-loop
 loop-holds c = (omega arith, records-all _ _ _)
+
+cast-if1 : tie.Need-cast-if1 Inv-loop μ-loop
+cast-if1 c = search needs
 
 nth-in-requires : tie.Need-nth-in-requires Inv-loop μ-loop
 nth-in-requires c κs = (c .before .before .before .before .pre .table, c .if1 .taken)
@@ -110,6 +113,7 @@ record-in-spec =
     Inv-loop
     μ-loop
     loop-holds
+    cast-if1
     nth-in-requires
     enum-known-entry
     found-requires

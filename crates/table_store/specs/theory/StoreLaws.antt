@@ -19,9 +19,9 @@ use Rattle.bits.specs.theory.Puts.{put-length, put-bytes, put-same, put-own, pu
 use Rattle.settings.specs.Proper.{Proper}
 use Rattle.settings.specs.declared.layout.Layout.{Layout}
 use Rattle.table.specs.Arrays.{tabulate, packed, unpacked, padded}
-use Rattle.table.specs.State.{Basic, Overflow, State, mkState, emptyBasic, absentBlock, basicAt, overflowAt, emptyBlock, restBits, unpack, headOf, restOf, ownSlots, slotOf}
+use Rattle.table.specs.State.{Basic, Overflow, State, mkOverflow, mkState, emptyBasic, absentBlock, basicAt, overflowAt, emptyBlock, restBits, unpack, headOf, restOf, ownSlots, slotOf}
 use Rattle.table.specs.Updates.{withHead, withFree, withRest, withSlot, withLink, withCounter, overBasic, withBasicCounter, overOverflow}
-use Rattle.table.specs.Decode.{blockAt, basicSlots, linkAt, overflowSlots, readBasic, readOverflow, decode, written}
+use Rattle.table.specs.Decode.{blockAt, basicSlots, linkAt, ownerAt, overflowSlots, readBasic, readOverflow, decode, written}
 use Rattle.table.specs.Table.{Table, Only}
 use Rattle.table.specs.Store.{slotIn}
 use Rattle.table.specs.theory.Arrays.{tab-ext, tab-set, fields-packed}
@@ -30,8 +30,8 @@ use Rattle.table_read.specs.Places.{basicSlot, overflowSlot}
 use Rattle.table.specs.theory.Changes.{bits-high, basic-ends, over-ends, start-low, start-high, slot-ends, slot-low, decode-free, decode-basic, decode-over, at-basic, at-over}
 use Rattle.table_read.specs.theory.Places.{basic-slot-ends}
 use Rattle.table_read.specs.theory.Reads.{unpacked-fields}
-use Rattle.table_store.specs.Stores.{Slotted, freePut, basicCounterPut, headPut, overflowCounterPut, linkPut, slotPut, Stored, emptied, StoredOver}
-use Rattle.table.specs.theory.Formed.{basics, overflows}
+use Rattle.table_store.specs.Stores.{Slotted, freePut, basicCounterPut, headPut, overflowCounterPut, linkPut, ownerPut, slotPut, Stored, StoredOver}
+use Rattle.table.specs.theory.Formed.{basics}
 use Rattle.table.specs.theory.Written.{join-fits}
 
 -- a table stays one where the length does
@@ -201,6 +201,9 @@ tab-put t w n at p x l h =
     ∙ ap (set (tabulate n (λ k. field t (at + k * w) w)) p) (put-same t (at + p * w) w x l h)
 
 -- ---- states with one block changed
+
+abbrev pub withOwner : ℕ → Overflow → Overflow
+withOwner i o = mkOverflow (o .counter) (o .link) i (o .slots)
 
 pub basic-twice : (i : ℕ) (f h : Basic → Basic) (st : State) → i < length (st .basic) → overBasic i f (overBasic i h st) ≡ overBasic i (λ b. f (h b)) st
 basic-twice i f h st l =
@@ -375,9 +378,20 @@ module _ (g : Layout) (t : List ℕ) (T : Table g t) where
         only-wide t (putField t a n v) a n (blockAt (g .overflow) j) (g .overflow .bits)
         (put-only t a n v (omega (arith, T .room, over-ends g (T .proper) j h))) l m
 
+    -- the slots stand behind counter, link and owner, and stay where one of these is put
+    numbers-before : (p : ℕ) → blockAt (g .overflow) j + (g .overflow .counter + (g .link + g .owner)) ≤ overflowSlots g j + p * g .slot
+    unfolding overflowSlots
+    numbers-before p = omega arith
+
+    slots-stay : (a n v : ℕ) → a + n ≤ 8 * length t → a + n ≤ blockAt (g .overflow) j + (g .overflow .counter + (g .link + g .owner))
+        → tabulate (g .sio) (λ q. field (putField t a n v) (overflowSlots g j + q * g .slot) (g .slot)) ≡ tabulate (g .sio) (λ q. field t (overflowSlots g j + q * g .slot) (g .slot))
+    slots-stay a n v l m =
+        tab-ext (g .sio) (λ q. field t (overflowSlots g j + q * g .slot) (g .slot)) (λ q. field (putField t a n v) (overflowSlots g j + q * g .slot) (g .slot))
+        (λ q _. put-out t a n v (overflowSlots g j + q * g .slot) (g .slot) l (inr (omega (arith, numbers-before q))))
+
     pub stored-overflow-counter : (u : List ℕ) (n : ℕ) → n < 2 ^ g .overflow .counter → u ≡ overflowCounterPut g t j n
         → Stored g t u (overOverflow j (withCounter n) (decode g t))
-    unfolding overflowCounterPut readOverflow linkAt overflowSlots
+    unfolding overflowCounterPut readOverflow linkAt ownerAt
     stored-overflow-counter u n hn e =
         let F = T .proper in
         let s = F .overflow-is in
@@ -389,84 +403,87 @@ module _ (g : Layout) (t : List ℕ) (T : Table g t) where
         (λ k. record {
           counter = put-same t a (g .overflow .counter) n l hn k;
           link = put-out t a (g .overflow .counter) n (a + g .overflow .counter) (g .link) l (inr (omega arith)) k;
-          slots =
-              tab-ext (g .sio) (λ q. field t (a + (g .overflow .counter + g .link) + q * g .slot) (g .slot)) (λ q. field (putField t a (g .overflow .counter) n) (a + (g .overflow .counter + g .link) + q * g .slot) (g .slot))
-              (λ q _. put-out t a (g .overflow .counter) n (a + (g .overflow .counter + g .link) + q * g .slot) (g .slot) l (inr (omega arith))) k;
+          owner = put-out t a (g .overflow .counter) n (a + (g .overflow .counter + g .link)) (g .owner) l (inr (omega arith)) k;
+          slots = slots-stay a (g .overflow .counter) n l (omega arith) k;
         }))
 
     pub stored-link : (u : List ℕ) (v : ℕ) → v < 2 ^ g .link → u ≡ linkPut g t j v
         → Stored g t u (overOverflow j (withLink v) (decode g t))
-    unfolding linkPut readOverflow linkAt overflowSlots
+    unfolding linkPut readOverflow linkAt ownerAt
     stored-link u v hv e =
         let F = T .proper in
         let s = F .overflow-is in
         let a = blockAt (g .overflow) j + g .overflow .counter in
-        let l : blockAt (g .overflow) j + g .overflow .counter + g .link ≤ 8 * length t = omega (arith, T .room, over-ends g F j h) in
+        let l = fits a (g .link) (omega (arith, over-ends g F j h)) in
         in-overflow u j (withLink v) h
         (rw e (put-overflow a (g .link) v (omega arith) (omega arith)))
         (rw e
         (λ k. record {
           counter = put-out t a (g .link) v (blockAt (g .overflow) j) (g .overflow .counter) l (inl (omega arith)) k;
           link = put-same t a (g .link) v l hv k;
-          slots =
-              tab-ext (g .sio) (λ q. field t (blockAt (g .overflow) j + (g .overflow .counter + g .link) + q * g .slot) (g .slot)) (λ q. field (putField t a (g .link) v) (blockAt (g .overflow) j + (g .overflow .counter + g .link) + q * g .slot) (g .slot))
-              (λ q _. put-out t a (g .link) v (blockAt (g .overflow) j + (g .overflow .counter + g .link) + q * g .slot) (g .slot) l (inr (omega arith))) k;
+          owner = put-out t a (g .link) v (blockAt (g .overflow) j + (g .overflow .counter + g .link)) (g .owner) l (inr (omega arith)) k;
+          slots = slots-stay a (g .link) v l (omega arith) k;
         }))
 
-    link-before : (p : ℕ) → blockAt (g .overflow) j + g .overflow .counter + g .link ≤ overflowSlots g j + p * g .slot
-    unfolding overflowSlots
-    link-before p = omega arith
+    pub stored-owner : (u : List ℕ) (i : ℕ) → i < 2 ^ g .owner → u ≡ ownerPut g t j i
+        → Stored g t u (overOverflow j (withOwner i) (decode g t))
+    unfolding ownerPut readOverflow linkAt ownerAt
+    stored-owner u i hi e =
+        let F = T .proper in
+        let s = F .overflow-is in
+        let a = blockAt (g .overflow) j + (g .overflow .counter + g .link) in
+        let l = fits a (g .owner) (omega (arith, over-ends g F j h)) in
+        in-overflow u j (withOwner i) h
+        (rw e (put-overflow a (g .owner) i (omega arith) (omega arith)))
+        (rw e
+        (λ k. record {
+          counter = put-out t a (g .owner) i (blockAt (g .overflow) j) (g .overflow .counter) l (inl (omega arith)) k;
+          link = put-out t a (g .owner) i (blockAt (g .overflow) j + g .overflow .counter) (g .link) l (inl (omega arith)) k;
+          owner = put-same t a (g .owner) i l hi k;
+          slots = slots-stay a (g .owner) i l (omega arith) k;
+        }))
 
     pub stored-overflow-slot : (p x : ℕ) → p < g .sio → x < 2 ^ g .slot → (u : List ℕ) → u ≡ slotPut g t (overflowSlot g j p) x
         → Stored g t u (overOverflow j (withSlot p x) (decode g t))
-    unfolding slotPut overflowSlot readOverflow linkAt
+    unfolding slotPut overflowSlot readOverflow linkAt ownerAt
     stored-overflow-slot p x hp hx u e =
         let F = T .proper in
         let a = overflowSlots g j + p * g .slot in
         let z = slot-ends g F j p hp in
         let l : overflowSlots g j + p * g .slot + g .slot ≤ 8 * length t = omega (arith, T .room, over-ends g F j h) in
-        let b = link-before p in
+        let b = numbers-before p in
         in-overflow u j (withSlot p x) h
         (rw e (put-overflow a (g .slot) x (slot-low g F j p) (omega arith)))
         (rw e
         (λ k. record {
           counter = put-out t a (g .slot) x (blockAt (g .overflow) j) (g .overflow .counter) l (inl (omega arith)) k;
           link = put-out t a (g .slot) x (blockAt (g .overflow) j + g .overflow .counter) (g .link) l (inl (omega arith)) k;
+          owner = put-out t a (g .slot) x (blockAt (g .overflow) j + (g .overflow .counter + g .link)) (g .owner) l (inl (omega arith)) k;
           slots = tab-put t (g .slot) (g .sio) (overflowSlots g j) p x l hx k;
         }))
 
-    zeroed : Stored g t (putField t (blockAt (g .overflow) j) (g .overflow .bits) 0) (overOverflow j (λ o. emptyBlock g 0) (decode g t))
-    unfolding readOverflow linkAt overflowSlots
-    zeroed =
+    pub stored-zeros : Stored g t (putField t (blockAt (g .overflow) j) (g .overflow .bits) 0) (overOverflow j (λ o. emptyBlock g 0 0) (decode g t))
+    unfolding readOverflow linkAt ownerAt overflowSlots
+    stored-zeros =
         let F = T .proper in
         let s = F .overflow-is in
         let a = blockAt (g .overflow) j in
         let l : blockAt (g .overflow) j + g .overflow .bits ≤ 8 * length t = omega (arith, T .room, over-ends g F j h) in
         let z : a ≡ a + 0 = omega arith in
-        in-overflow (putField t a (g .overflow .bits) 0) j (λ o. emptyBlock g 0) h
+        let m = g .overflow .counter + (g .link + g .owner) in
+        in-overflow (putField t a (g .overflow .bits) 0) j (λ o. emptyBlock g 0 0) h
         (put-overflow a (g .overflow .bits) 0 (omega arith) (omega arith))
         (λ k. record {
           counter = (ap (λ (b : ℕ). field (putField t a (g .overflow .bits) 0) b (g .overflow .counter)) z ∙ zero-part t a (g .overflow .bits) 0 (g .overflow .counter) l (omega arith)) k;
           link = zero-part t a (g .overflow .bits) (g .overflow .counter) (g .link) l (omega arith) k;
+          owner = zero-part t a (g .overflow .bits) (g .overflow .counter + g .link) (g .owner) l (omega arith) k;
           slots =
-              zeros (g .sio) (λ q. field (putField t a (g .overflow .bits) 0) (a + (g .overflow .counter + g .link) + q * g .slot) (g .slot))
+              zeros (g .sio) (λ q. field (putField t a (g .overflow .bits) 0) (a + m + q * g .slot) (g .slot))
               (λ q hq.
-              let e : a + (g .overflow .counter + g .link) + q * g .slot ≡ a + (g .overflow .counter + g .link + q * g .slot) = omega arith in
+              let e : a + m + q * g .slot ≡ a + (m + q * g .slot) = omega arith in
               ap (λ (b : ℕ). field (putField t a (g .overflow .bits) 0) b (g .slot)) e
-              ∙ zero-part t a (g .overflow .bits) (g .overflow .counter + g .link + q * g .slot) (g .slot) l (omega (arith, mul-le-mul-right (g .slot) hq))) k;
+              ∙ zero-part t a (g .overflow .bits) (m + q * g .slot) (g .slot) l (omega (arith, mul-le-mul-right (g .slot) hq))) k;
         })
-
--- ---- stores in a row
-
-pub stored-emptied : (g : Layout) (t : List ℕ) (T : Table g t) (j : ℕ) → j < g .nob → (u : List ℕ) (v : ℕ) → v < 2 ^ g .link → u ≡ emptied g t j v
-    → Stored g t u (overOverflow j (λ o. emptyBlock g v) (decode g t))
-unfolding emptied linkPut
-stored-emptied g t T j h u v hv e =
-    let a = zeroed g t T j h in
-    stored-as (overOverflow j (λ o. emptyBlock g v) (decode g t))
-    (stored-then (overOverflow j (withLink v)) a
-    (stored-link g (putField t (blockAt (g .overflow) j) (g .overflow .bits) 0) (a .table) j h u v hv e))
-    (overflow-twice j (withLink v) (λ o. emptyBlock g 0) (decode g t) (omega (arith, overflows g t, h)))
 
 -- a slot stored where the first L bits of basic block i count as v
 module _ (g : Layout) (t : List ℕ) (T : Table g t) (i : ℕ) (h : i < g .lists) (p v x : ℕ) (hp : p < g .sib) (hv : v < 2 ^ g .link) (hx : x < 2 ^ g .slot) where

@@ -49,7 +49,7 @@ module _ (s : Settings) (right : Legal s) where
   labelled-from : (i : ℕ) (bs : List Basic) (os : List Overflow) → All Labelled (rebuiltFrom s i bs os)
   labelled-from i [] os = all-nil
   labelled-from i (b ∷ bs) os =
-      all-append (labelled-pairs i (slotsOf (contentOf (layoutOf s) b os))) (labelled-from (suc i) bs os)
+      all-append (labelled-pairs i (slotsOf (contentOf (layoutOf s) i b os))) (labelled-from (suc i) bs os)
 
   labelled : (t : List ℕ) → All Labelled (records s t)
   unfolding rebuiltPairs

@@ -6,7 +6,7 @@ use borrow.Author.Needs.{needs}
 use Rattle.settings.proofs.layout.blocks_bits.Statement.{statement}
 use Rattle.settings.proofs.layout.blocks_bits.Tie as tie
 
-most : (c : tie.Start) → c .args .blocks * c .args .block ≤ 65536 * 40832
+most : (c : tie.Start) → c .args .blocks * c .args .block ≤ 65536 * 40836
 most c = mul-le-mul (c .pre .0) (c .pre .1)
 
 mul-result : tie.Need-mul-result

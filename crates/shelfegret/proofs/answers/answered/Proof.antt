@@ -27,7 +27,7 @@ returns c =
     let a = n .before .before in
     let key = a .before .before .args .key in
     c .said .ensures
-    ∙ ap (λ (w : ℕ). saying w key (a .a .given .0 .0) (a .a .given .0 .1 .1 .0)) (n .number-of .ensures)
+    ∙ ap (λ (w : ℕ). saying w key (a .a .given .0 .0) (a .a .given .0 .1 .1 .0) (a .a .given .0 .1 .1 .1 .0)) (n .number-of .ensures)
     ∙ sym (ap (answerReply key) (a .a .given .1))
 
 returns-2 : tie.Need-returns-2

@@ -63,7 +63,7 @@ same-length-2 c = search needs
 
 -- the lists, and then the free chain
 walked : (k : tie.After-chain-sound) (q : Bool) → k .chain-sound .result ≡ q → let s = to-start (to-lists-sound k) in
-    andThen (listsWalk (s .args .g) (decode (s .args .g) (now (s .args .t)) .overflow) (decode (s .args .g) (now (s .args .t)) .basic) (now (s .args .marks)))
+    andThen (listsWalk (s .args .g) (decode (s .args .g) (now (s .args .t))) (s .args .g .lists) (now (s .args .marks)))
     (chainWalk (s .args .g) (decode (s .args .g) (now (s .args .t))))
     ≡ found q (k .chain-sound .last .1 .1 .0)
 walked k q e =

@@ -34,7 +34,7 @@ returns-2 c =
     let f = e .before .before in
     let s = f .before .before .before in
     rw (ne-eqb (decode (s .args .g) (now (s .args .t)) .free) (s .args .g .nob) (λ q. e .if1 .left (f .free-start .ensures ∙ q)))
-    (ap (λ (b : ℕ). walk (s .args .g) (wayOn (s .args .g) (decode (s .args .g) (now (s .args .t)) .overflow) true) (s .args .g .nob) b (now (s .args .marks))) (sym (f .free-start .ensures))
+    (ap (λ (b : ℕ). walk (s .args .g) (wayOn (s .args .g) (decode (s .args .g) (now (s .args .t)) .overflow) true 0) (s .args .g .nob) b (now (s .args .marks))) (sym (f .free-start .ensures))
     ∙ k .mark-from .ensures)
 
 pub chain-sound-spec : {M : Type 1} → statement M

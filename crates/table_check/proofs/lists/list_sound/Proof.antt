@@ -31,7 +31,7 @@ returns : tie.Need-returns
 returns c =
     let k = c .before .before .before in
     let s = k .before .before .before in
-    list-short (s .args .g) (decode (s .args .g) (now (s .args .t)) .overflow) (basicAt (decode (s .args .g) (now (s .args .t)) .basic) (s .args .i .0)) (now (s .args .marks)) (omega (arith, k .basic-counter .ensures))
+    list-short (s .args .g) (decode (s .args .g) (now (s .args .t)) .overflow) (s .args .i .0) (basicAt (decode (s .args .g) (now (s .args .t)) .basic) (s .args .i .0)) (now (s .args .marks)) (omega (arith, k .basic-counter .ensures))
     ∙ ap (λ (q : Bool). found q (now (s .args .marks))) (sym (c .short-sound .ensures))
 
 add-if2 : tie.Need-add-if2
@@ -41,7 +41,7 @@ returns-2 : tie.Need-returns-2
 returns-2 c =
     let k = c .before .before .before .before in
     let s = k .before .before .before in
-    list-high (s .args .g) (decode (s .args .g) (now (s .args .t)) .overflow) (basicAt (decode (s .args .g) (now (s .args .t)) .basic) (s .args .i .0)) (now (s .args .marks))
+    list-high (s .args .g) (decode (s .args .g) (now (s .args .t)) .overflow) (s .args .i .0) (basicAt (decode (s .args .g) (now (s .args .t)) .basic) (s .args .i .0)) (now (s .args .marks))
     (omega (arith, k .basic-counter .ensures)) (λ e. c .if2 .taken (omega (arith, k .basic-counter .ensures)))
 
 basic-head-requires : tie.Need-basic-head-requires
@@ -56,8 +56,8 @@ same-length c = search needs
 -- a list that overflows
 over : (c : tie.After-mark-from) (q : Bool) → c .mark-from .result ≡ q → let s = to-start (to-else1 c) in
     let st = decode (s .args .g) (now (s .args .t)) in
-    listWalk (s .args .g) (st .overflow) (basicAt (st .basic) (s .args .i .0)) (now (s .args .marks))
-    ≡ provided (longApart (s .args .g) (st .overflow) (basicAt (st .basic) (s .args .i .0))) (found q (c .mark-from .last .1 .1 .1 .1 .0))
+    listWalk (s .args .g) (st .overflow) (s .args .i .0) (basicAt (st .basic) (s .args .i .0)) (now (s .args .marks))
+    ≡ provided (longApart (s .args .g) (st .overflow) (s .args .i .0) (basicAt (st .basic) (s .args .i .0))) (found q (c .mark-from .last .1 .1 .1 .1 .1 .0))
 over c q e =
     let h = c .before .before in
     let k = h .before .before .before .before .before in
@@ -65,11 +65,11 @@ over c q e =
     let g = s .args .g in
     let st = decode g (now (s .args .t)) in
     let b = basicAt (st .basic) (s .args .i .0) in
-    list-over g (st .overflow) b (now (s .args .marks)) (omega (arith, k .basic-counter .ensures, h .before .if2 .left))
-    ∙ ap (provided (longApart g (st .overflow) b))
-    (ap (λ (x : ℕ). walk g (wayOn g (st .overflow) false) (g .nob) x (now (s .args .marks))) (sym (h .basic-head .ensures))
+    list-over g (st .overflow) (s .args .i .0) b (now (s .args .marks)) (omega (arith, k .basic-counter .ensures, h .before .if2 .left))
+    ∙ ap (provided (longApart g (st .overflow) (s .args .i .0) b))
+    (ap (λ (x : ℕ). walk g (wayOn g (st .overflow) false (s .args .i .0)) (g .nob) x (now (s .args .marks))) (sym (h .basic-head .ensures))
     ∙ c .mark-from .ensures
-    ∙ ap (λ (r : Bool). found r (c .mark-from .last .1 .1 .1 .1 .0)) e)
+    ∙ ap (λ (r : Bool). found r (c .mark-from .last .1 .1 .1 .1 .1 .0)) e)
 
 returns-3 : tie.Need-returns-3
 returns-3 c = over (c .before .before .before) false (not-true _ (c .if3 .taken))
@@ -83,7 +83,7 @@ same-length-2 c = search needs
 returns-4 : tie.Need-returns-4
 returns-4 c =
     let k = c .before .before .before .before in
-    over k true (not-false _ (c .before .if3 .left)) ∙ ap (λ (q : Bool). found q (k .mark-from .last .1 .1 .1 .1 .0)) (sym (c .long-apart .ensures))
+    over k true (not-false _ (c .before .if3 .left)) ∙ ap (λ (q : Bool). found q (k .mark-from .last .1 .1 .1 .1 .1 .0)) (sym (c .long-apart .ensures))
 
 pub list-sound-spec : {M : Type 1} → statement M
 list-sound-spec =

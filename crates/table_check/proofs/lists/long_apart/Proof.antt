@@ -20,7 +20,7 @@ use Rattle.table_check.proofs.lists.long_apart.Tie as tie
 -- the list's last block
 end : (c : tie.After-last) → let h = c .before .before .before in
     let a = h .before .before .args in
-    EndsAt (a .g) (lastFrom (a .g) (a .g .nob) (decode (a .g) (now (a .t)) .overflow) (h .basic-head .result)) (c .last .given .0 .0)
+    EndsAt (a .g) (lastFrom (a .g) (a .i .0) (a .g .nob) (decode (a .g) (now (a .t)) .overflow) (h .basic-head .result)) (c .last .given .0 .0)
 end c = ends-at _ _ _ (sym (c .before .before .follow .ensures) ∙ c .last .given .1)
 
 basic-head-requires : tie.Need-basic-head-requires
@@ -66,7 +66,7 @@ slots-apart-requires c κs =
 both : (k : tie.After-slots-apart) → let f = k .before .before .before .before .before .before in
     let s = f .before .before .before in
     (k .slots-apart .result && noEntryTwice (s .args .g) (slotsFrom (s .args .g) (s .args .g .nob) (decode (s .args .g) (now (s .args .t)) .overflow) (f .before .basic-head .result)))
-    ≡ longApart (s .args .g) (decode (s .args .g) (now (s .args .t)) .overflow) (basicAt (decode (s .args .g) (now (s .args .t)) .basic) (s .args .i .0))
+    ≡ longApart (s .args .g) (decode (s .args .g) (now (s .args .t)) .overflow) (s .args .i .0) (basicAt (decode (s .args .g) (now (s .args .t)) .basic) (s .args .i .0))
 both k =
     let r = k .before in
     let o = r .before in

@@ -17,12 +17,12 @@ use Rattle.table_check.proofs.walk.mark_from.Statement.{statement}
 use Rattle.table_check.proofs.walk.mark_from.Tie as tie
 
 abbrev Inv-loop : tie.InvT-loop
-Inv-loop t g chain marks₀ first left₀ marks b left =
+Inv-loop t g chain i marks₀ first left₀ marks b left =
     (left ≤ g .nob) × (length marks ≡ length marks₀)
-    × (walk g (wayOn g (decode g t .overflow) chain) left (b .0) marks ≡ walk g (wayOn g (decode g t .overflow) chain) (g .nob) (first .0) marks₀)
+    × (walk g (wayOn g (decode g t .overflow) chain (i .0)) left (b .0) marks ≡ walk g (wayOn g (decode g t .overflow) chain (i .0)) (g .nob) (first .0) marks₀)
 
 abbrev μ-loop : tie.MeasureT-loop
-μ-loop t g chain marks₀ first left₀ marks b left = left
+μ-loop t g chain i marks₀ first left₀ marks b left = left
 
 -- places, each named once
 abbrev to-loop-2 : tie.In-loop Inv-loop μ-loop → tie.At-loop Inv-loop μ-loop
@@ -47,7 +47,7 @@ abbrev head : tie.After-put Inv-loop μ-loop → tie.At-loop Inv-loop μ-loop
 head p = to-loop-2 (to-loop (to-else1 p))
 
 abbrev step : tie.At-loop Inv-loop μ-loop → ℕ → Step
-step m = wayOn (start m .args .g) (decode (start m .args .g) (now (start m .args .t)) .overflow) (start m .args .chain)
+step m = let s = start m .args in wayOn (s .g) (decode (s .g) (now (s .t)) .overflow) (s .chain) (s .i .0)
 
 long : (p : tie.After-put Inv-loop μ-loop) → length (p .put .last .0) ≡ length (now (start (head p) .args .marks))
 long p = ap length (p .put .ensures) ∙ put-length _ _ _ _ ∙ head p .loop .inv .1

@@ -69,7 +69,7 @@ add-t7 c =
       arith,
       a .pre .0 .proper .sib-high,
       a .pre .0 .proper .nob-high,
-      blocks-few (a .args .g) (now (a .args .t)) (a .pre .0) (a .args .g .nob) _ _ (b .blocks-length .result) (b .blocks-length .ensures) (n .n .given .1),
+      blocks-few (a .args .g) (now (a .args .t)) (a .pre .0) (a .args .i .0) (a .args .g .nob) _ _ (b .blocks-length .result) (b .blocks-length .ensures) (n .n .given .1),
     )
 
 returns-4 : tie.Need-returns-4

@@ -27,6 +27,9 @@ abbrev μ-loop : tie.MeasureT-loop
 loop-holds : tie.Need-loop-holds Inv-loop μ-loop
 loop-holds c = let s = c .before in (passed-none (s .args .g) (now (s .args .t)) (s .pre), stands-first (s .args .g) (now (s .args .t)) (s .pre) (s .args .n))
 
+cast-if1 : tie.Need-cast-if1 Inv-loop μ-loop
+cast-if1 c = search needs
+
 list-length-requires : tie.Need-list-length-requires Inv-loop μ-loop
 list-length-requires c κs = search needs
 
@@ -114,6 +117,7 @@ survey-spec =
     Inv-loop
     μ-loop
     loop-holds
+    cast-if1
     list-length-requires
     enum-known-k
     enum-told

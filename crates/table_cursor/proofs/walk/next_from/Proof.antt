@@ -3,6 +3,7 @@ use mathlib.Core.Path.{_≡_, refl, _∙_}
 use Prim.Native.Nat.{_-_, _≤_}
 use native.Mathlib.Omega.{arith}
 use denote.Ref.{now}
+use borrow.Author.Needs.{needs}
 use Rattle.settings.specs.Layout.{layoutOf}
 use Rattle.settings.specs.declared.settings.Settings.{Settings}
 use Rattle.table_cursor.specs.Ahead.{pairsFrom}
@@ -18,6 +19,9 @@ abbrev μ-loop : tie.MeasureT-loop
 
 loop-holds : tie.Need-loop-holds Inv-loop μ-loop
 loop-holds c = (c .before .pre .2, λ s e. refl)
+
+cast-if1 : tie.Need-cast-if1 Inv-loop μ-loop
+cast-if1 c = search needs
 
 enter-requires : tie.Need-enter-requires Inv-loop μ-loop
 enter-requires c κs = let a = c .before .before .before .before in (a .pre .0, a .pre .1, c .if1 .taken)
@@ -66,6 +70,7 @@ next-from-spec =
     Inv-loop
     μ-loop
     loop-holds
+    cast-if1
     enter-requires
     returns
     add-j

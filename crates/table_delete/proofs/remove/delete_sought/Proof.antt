@@ -39,8 +39,8 @@ there c =
     let k = to-found c in
     let s = to-start k in
     let a = s .args in
-    sought-held (sought s) _ _
-    (k .found .given .1 ∙ ap (λ (w : Word). said w (k .found .given .0 .0) (k .found .given .0 .1 .1 .0)) (c .before .before .enum-told .given .1))
+    sought-held (sought s) _ _ _
+    (k .found .given .1 ∙ ap (λ (w : Word). said w (k .found .given .0 .0) (k .found .given .0 .1 .1 .0) (k .found .given .0 .1 .1 .1 .0)) (c .before .before .enum-told .given .1))
 
 enum-known-found : tie.Need-enum-known-found
 enum-known-found c = search needs
@@ -93,7 +93,7 @@ returns-3 c =
     let f = c .before .before .found .given in
     let k = to-start (c .before .before) in
     let a = k .args in
-    other-gives (sought k) _ (f .1) (not-held (f .0 .1 .0) (f .0 .0) (f .0 .1 .1 .0)
+    other-gives (sought k) _ (f .1) (not-held (f .0 .1 .0) (f .0 .0) (f .0 .1 .1 .0) (f .0 .1 .1 .1 .0)
     (λ e. ⊎-elim (λ z. absurd (omega (arith, rw e at z))) (⊎-elim (λ z. absurd (omega (arith, rw e at z))) (⊎-elim (λ z. absurd (omega (arith, rw e at z))) (λ z. absurd (omega (arith, rw e at z))))) (c .match2 .keys2)))
 
 returns-4 : tie.Need-returns-4

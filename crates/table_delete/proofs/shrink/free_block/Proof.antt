@@ -1,4 +1,4 @@
--- The block is zeroed but for its link, and becomes the free start.
+-- The block is zeroed but for its link, with no owner, and becomes the free start.
 use Prim.Native.Nat.{_≤_}
 use native.Mathlib.Omega.{arith}
 use denote.Ref.{now}
@@ -18,8 +18,12 @@ empty-block-requires c κs =
     let s = c .before .before .before .before .before in
     let a = s .args in
     let f = c .before .before .free-start in
-    let h : f .result .0 ≤ a .g .nob = omega (arith, f .ensures, s .pre .2) in
-    (s .pre .0, s .pre .1, rw (c .link-free .ensures) (link-free-fits (a .g) (now (a .t)) (s .pre .0) (f .result .0) (a .j .0) h (s .pre .1)))
+    let h : f .result .0 ≤ a .g .nob = omega (arith, f .ensures, s .pre .2) in (
+      s .pre .0,
+      s .pre .1,
+      rw (c .link-free .ensures) (link-free-fits (a .g) (now (a .t)) (s .pre .0) (f .result .0) (a .j .0) h (s .pre .1)),
+      omega (arith, s .pre .0 .proper .lists-low),
+    )
 
 put-free-start-requires : tie.Need-put-free-start-requires
 put-free-start-requires c κs =

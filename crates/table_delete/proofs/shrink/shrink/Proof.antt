@@ -94,7 +94,8 @@ free-block-requires c κs =
     let st = decode (a .g) (now (a .t)) in
     let m = met (c .before) in
     let f = free-low (a .g) st (a .i .0) (a .last .0) (s .pre .2) (emptied (c .before .before .before .before)) in
-    (m .table, s .pre .2 .low, omega (arith, f, ap (λ (u : State). u .free) (m .state), handed-free (a .g) st (a .i .0) (a .last .0) (a .before)))
+    let h : decode (a .g) (c .before .match .t) .free ≤ a .g .nob = omega (arith, f, ap (λ (u : State). u .free) (m .state), handed-free (a .g) st (a .i .0) (a .last .0) (a .before)) in
+    search needs
 
 same-length-2 : tie.Need-same-length-2
 same-length-2 c = omega (arith, c .before .before .free-block .kept .0, met (c .before .before .before .before) .only .long)

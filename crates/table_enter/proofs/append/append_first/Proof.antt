@@ -1,9 +1,11 @@
 -- The answer of the free chain decides.
-use mathlib.Core.Path.{sym, _∙_}
+use mathlib.Core.Path.{sym, ap, _∙_}
 use native.Mathlib.Omega.{arith}
 use denote.Ref.{now}
 use borrow.Author.Needs.{needs}
 use Rattle.keys.specs.Key.{keyNumber}
+use Rattle.table.specs.Answer.{said}
+use Rattle.table.specs.declared.answers.Word.the-variants as word
 use Rattle.table.specs.Decode.{decode}
 use Rattle.table_read.specs.theory.Reads.{head-lt}
 use Rattle.table_store.specs.theory.StoreLaws.{slot-lt}
@@ -38,7 +40,7 @@ abbrev to-t : tie.After-take-arg → tie.After-t
 to-t c = c .before .before
 
 abbrev to-t-2 : tie.After-added → tie.After-t
-to-t-2 c = c .before .before .before .before .before .before
+to-t-2 c = c .before .before .before .before .before .before .before
 
 abbrev to-number-3 : tie.After-t → tie.After-number
 to-number-3 c = to-number-2 (to-basic-head-2 (to-put-basic-front c))
@@ -69,11 +71,18 @@ take-requires c κs =
     let s = to-start (to-slice-known (to-number-3 (to-t c))) in
     let k = took (to-number-3 (to-t c)) in (
       c .before .before .before .put-basic-front .ensures .table,
+      s .pre .0 .list,
       k .low,
       rw (c .before .before .before .before .before .before .basic-head .ensures) (head-lt (s .args .g) (now (s .args .t)) (s .pre .0 .table) (s .args .i .0) (s .pre .0 .list)),
       k .next-low,
       s .pre .0 .slotted,
     )
+
+overflow-number-requires : tie.Need-overflow-number-requires
+overflow-number-requires c κs =
+    let n = to-number-3 (c .before .before .before .before .before) in
+    let T = to-start (to-slice-known n) .pre .0 .table in
+    (T .proper, took n .low, T .proper .sio-low)
 
 added-requires : tie.Need-added-requires
 added-requires c κs = search needs
@@ -96,8 +105,8 @@ returns c =
     (took (to-number-3 (to-t-2 c)))
     ((to-basic-head-2 (to-put-basic-front (to-t-2 c))) .basic-head .ensures) _ _ _
     ((to-put-basic-front (to-t-2 c)) .put-basic-front .ensures)
-    (c .before .before .before .take .ensures)
-    (c .added .ensures)
+    (c .before .before .before .before .take .ensures)
+    (c .added .ensures ∙ ap (said word.Added _ _) (c .before .overflow-number .ensures))
 
 same-length-2 : tie.Need-same-length-2
 same-length-2 c = search needs
@@ -124,6 +133,7 @@ append-first-spec =
     add-put-basic-front
     put-basic-front-requires
     take-requires
+    overflow-number-requires
     added-requires
     enum-known-why
     same-length

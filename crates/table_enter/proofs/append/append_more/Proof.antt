@@ -1,12 +1,14 @@
 -- The answer of the free chain decides, and whether its block is one of the list's.
-use mathlib.Core.Path.{sym, _∙_}
+use mathlib.Core.Path.{sym, ap, _∙_}
 use native.Mathlib.Omega.{arith}
 use denote.Ref.{now}
 use borrow.Author.Needs.{needs}
 use Rattle.keys.specs.Key.{keyNumber}
+use Rattle.table.specs.Answer.{said}
+use Rattle.table.specs.declared.answers.Word.the-variants as word
 use Rattle.table.specs.Decode.{decode}
 use Rattle.table_read.specs.theory.Reads.{link-lt}
-use Rattle.table_read.specs.theory.Walks.{followed}
+use Rattle.table_read.specs.theory.Walks.{followed, ended-own}
 use Rattle.table_store.specs.theory.StoreLaws.{slot-lt}
 use Rattle.table_enter.proofs.FreeLaws.{Takes, takes}
 use Rattle.table_enter.proofs.AppendLaws.{more-refused, more-met, append-more}
@@ -42,7 +44,7 @@ abbrev to-t : tie.After-take-arg → tie.After-t
 to-t c = c .before .before
 
 abbrev to-t-2 : tie.After-added → tie.After-t
-to-t-2 c = c .before .before .before .before .before .before
+to-t-2 c = c .before .before .before .before .before .before .before
 
 abbrev to-number-3 : tie.After-t → tie.After-number
 to-number-3 c = to-number-2 (to-list-has-block (to-else1 (to-overflow-link (to-put-overflow-front c))))
@@ -60,7 +62,8 @@ list-has-block-requires : tie.Need-list-has-block-requires
 list-has-block-requires c κs =
     let s = to-start (to-slice-known (to-number c)) in (
       s .pre .0 .table,
-      followed (s .args .g) (decode (s .args .g) (now (s .args .t)) .overflow) (s .args .g .nob) (s .args .h .0) (omega (arith, s .pre .1 .last, s .pre .1 .low)),
+      ended-own (s .args .g) (decode (s .args .g) (now (s .args .t)) .overflow) (s .args .i .0)
+          (followed (s .args .g) (decode (s .args .g) (now (s .args .t)) .overflow) (s .args .i .0) (s .args .g .nob) (s .args .h .0) (omega (arith, s .pre .1 .last, s .pre .1 .low))),
     )
 
 same-length : tie.Need-same-length
@@ -92,11 +95,18 @@ take-requires c κs =
     let s = to-start (to-slice-known (to-number-3 (to-t c))) in
     let k = took (to-number-3 (to-t c)) in (
       c .before .before .before .put-overflow-front .ensures .table,
+      s .pre .0 .list,
       k .low,
       rw (c .before .before .before .before .before .overflow-link .ensures) (link-lt (s .args .g) (now (s .args .t)) (s .pre .0 .table) (s .args .j .0) (s .pre .1 .low)),
       k .next-low,
       s .pre .0 .slotted,
     )
+
+overflow-number-requires : tie.Need-overflow-number-requires
+overflow-number-requires c κs =
+    let n = to-number-3 (c .before .before .before .before .before) in
+    let T = to-start (to-slice-known n) .pre .0 .table in
+    (T .proper, took n .low, T .proper .sio-low)
 
 added-requires : tie.Need-added-requires
 added-requires c κs = search needs
@@ -120,8 +130,8 @@ returns-2 c =
     (sym ((to-else1 (to-overflow-link (to-put-overflow-front (to-t-2 c)))) .if1 .left) ∙ (to-list-has-block (to-else1 (to-overflow-link (to-put-overflow-front (to-t-2 c))))) .list-has-block .ensures)
     ((to-overflow-link (to-put-overflow-front (to-t-2 c))) .overflow-link .ensures) _ _ _
     ((to-put-overflow-front (to-t-2 c)) .put-overflow-front .ensures)
-    (c .before .before .before .take .ensures)
-    (c .added .ensures)
+    (c .before .before .before .before .take .ensures)
+    (c .added .ensures ∙ ap (said word.Added _ _) (c .before .overflow-number .ensures))
 
 same-length-3 : tie.Need-same-length-3
 same-length-3 c = search needs
@@ -150,6 +160,7 @@ append-more-spec =
     overflow-link-requires
     put-overflow-front-requires
     take-requires
+    overflow-number-requires
     added-requires
     enum-known-why
     same-length-2

@@ -1,8 +1,11 @@
 -- By the room in the last block.
+use mathlib.Core.Path.{ap, _∙_}
 use native.Mathlib.Omega.{arith}
 use denote.Ref.{now}
 use borrow.Author.Needs.{needs}
 use Rattle.keys.specs.Key.{keyNumber}
+use Rattle.table.specs.Answer.{said}
+use Rattle.table.specs.declared.answers.Word.the-variants as word
 use Rattle.table_read.specs.theory.Places.{overflow-slot-ends}
 use Rattle.table_store.specs.theory.StoreLaws.{table-kept, slot-asks, slot-put, slot-lt}
 use Rattle.table_enter.proofs.AppendLaws.{append-last}
@@ -29,7 +32,7 @@ abbrev to-t : tie.After-put-overflow-counter-arg → tie.After-t
 to-t c = c .before .before
 
 abbrev to-t-2 : tie.After-added → tie.After-t
-to-t-2 c = c .before .before .before .before .before .before
+to-t-2 c = c .before .before .before .before .before .before .before
 
 overflow-slot-requires : tie.Need-overflow-slot-requires
 overflow-slot-requires c κs = let s = c .before .before .before .before .before in (s .pre .0 .table .proper, s .pre .1 .low, c .before .before .if1 .taken)
@@ -46,6 +49,12 @@ put-overflow-counter-requires : tie.Need-put-overflow-counter-requires
 put-overflow-counter-requires c κs =
     let s = to-start (to-slice-known (to-then1 (to-overflow-slot (to-put-slot (to-t c))))) in
     (table-kept _ (c .before .before .before .put-slot .kept .0) (s .pre .0 .table), s .pre .1 .low, omega (arith, (to-then1 (to-overflow-slot (to-put-slot (to-t c)))) .if1 .taken, s .pre .0 .table .proper .overflow-holds))
+
+overflow-number-requires : tie.Need-overflow-number-requires
+overflow-number-requires c κs =
+    let k = to-then1 (to-overflow-slot (to-put-slot (c .before .before .before .before .before))) in
+    let s = to-start (to-slice-known k) in
+    (s .pre .0 .table .proper, s .pre .1 .low, k .if1 .taken)
 
 added-requires : tie.Need-added-requires
 added-requires c κs = search needs
@@ -66,8 +75,8 @@ returns c =
     (s .pre .2) ((to-then1 (to-overflow-slot (to-put-slot (to-t-2 c)))) .if1 .taken) _ _ _ _
     ((to-overflow-slot (to-put-slot (to-t-2 c))) .overflow-slot .ensures)
     (slot-put g (T .proper) _ _ _ _ ((to-put-slot (to-t-2 c)) .put-slot .ensures))
-    (c .before .before .before .put-overflow-counter .ensures)
-    (c .added .ensures)
+    (c .before .before .before .before .put-overflow-counter .ensures)
+    (c .added .ensures ∙ ap (said word.Added _ _) (c .before .overflow-number .ensures))
 
 append-more-requires : tie.Need-append-more-requires
 append-more-requires c κs =
@@ -87,6 +96,7 @@ append-overflow-spec =
     overflow-slot-requires
     put-slot-requires
     put-overflow-counter-requires
+    overflow-number-requires
     added-requires
     same-length
     returns

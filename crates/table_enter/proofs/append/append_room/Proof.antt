@@ -1,8 +1,11 @@
 -- The slot and the counter, in a row.
+use mathlib.Core.Path.{ap, _∙_}
 use native.Mathlib.Omega.{arith}
 use denote.Ref.{now}
 use borrow.Author.Needs.{needs}
 use Rattle.keys.specs.Key.{keyNumber}
+use Rattle.table.specs.Answer.{said}
+use Rattle.table.specs.declared.answers.Word.the-variants as word
 use Rattle.table_read.specs.theory.Places.{basic-slot-ends}
 use Rattle.table_store.specs.theory.StoreLaws.{table-kept, slot-asks, slot-put, slot-lt}
 use Rattle.table_enter.proofs.AppendLaws.{append-room}
@@ -26,7 +29,7 @@ abbrev to-t : tie.After-put-basic-counter-arg → tie.After-t
 to-t c = c .before .before
 
 abbrev to-t-2 : tie.After-added → tie.After-t
-to-t-2 c = c .before .before .before .before .before .before
+to-t-2 c = c .before .before .before .before .before .before .before
 
 basic-slot-requires : tie.Need-basic-slot-requires
 basic-slot-requires c κs =
@@ -53,6 +56,11 @@ put-basic-counter-requires c κs =
     let s = to-start (to-slice-known (to-basic-slot (to-put-slot (to-t c)))) in
     (table-kept _ (c .before .before .before .put-slot .kept .0) (s .pre .0 .table), s .pre .0 .list, omega (arith, s .pre .1, s .pre .0 .table .proper .basic-holds))
 
+basic-number-requires : tie.Need-basic-number-requires
+basic-number-requires c κs =
+    let s = to-start (to-slice-known (to-basic-slot (to-put-slot (c .before .before .before .before .before)))) in
+    (s .pre .0 .table .proper, s .pre .0 .list, s .pre .1)
+
 added-requires : tie.Need-added-requires
 added-requires c κs = search needs
 
@@ -71,8 +79,8 @@ returns c =
     (slot-lt g (T .proper) (keyNumber (v .entry)) (v .label) (s .pre .0 .slotted)) (s .args .c) (s .pre .1) (s .pre .2) _ _ _ _
     ((to-basic-slot (to-put-slot (to-t-2 c))) .basic-slot .ensures)
     (slot-put g (T .proper) _ _ _ _ ((to-put-slot (to-t-2 c)) .put-slot .ensures))
-    (c .before .before .before .put-basic-counter .ensures)
-    (c .added .ensures)
+    (c .before .before .before .before .put-basic-counter .ensures)
+    (c .added .ensures ∙ ap (said word.Added _ _) (c .before .basic-number .ensures))
 
 pub append-room-spec : {M : Type 1} → statement M
 append-room-spec =
@@ -82,6 +90,7 @@ append-room-spec =
     put-slot-requires
     add-put-basic-counter
     put-basic-counter-requires
+    basic-number-requires
     added-requires
     same-length
     returns)

@@ -17,7 +17,9 @@ abbrev to-overflow-slot : tie.After-put-free-start-arg → tie.After-overflow-sl
 to-overflow-slot c = c .before .before .before .before
 
 empty-block-requires : tie.Need-empty-block-requires
-empty-block-requires c κs = search needs
+empty-block-requires c κs =
+    let s = c .before .before .before in
+    (s .pre .0, s .pre .2, s .pre .3, omega (arith, s .pre .1, s .pre .0 .proper .lists-low))
 
 overflow-slot-requires : tie.Need-overflow-slot-requires
 overflow-slot-requires c κs = search needs
@@ -30,14 +32,14 @@ put-slot-requires c κs =
     let F = s .pre .0 .proper in
     let p = c .overflow-slot in
     slot-asks (s .args .g) (e .empty-block .last .0) (e .empty-block .ensures .table) (p .result) _ _
-    (omega (arith, p .ensures, overflow-slot-ends (s .args .g) F (s .args .f .0) (s .pre .1) 0 (F .sio-low)))
-    (s .pre .4)
+    (omega (arith, p .ensures, overflow-slot-ends (s .args .g) F (s .args .f .0) (s .pre .2) 0 (F .sio-low)))
+    (s .pre .5)
 
 put-free-start-requires : tie.Need-put-free-start-requires
 put-free-start-requires c κs =
     let e = to-empty-block (to-overflow-slot c) in
     let s = e .before .before .before .before in
-    (table-kept _ (c .before .before .before .put-slot .kept .0) (e .empty-block .ensures .table), omega (arith, s .pre .3, s .pre .0 .proper .free-holds))
+    (table-kept _ (c .before .before .before .put-slot .kept .0) (e .empty-block .ensures .table), omega (arith, s .pre .4, s .pre .0 .proper .free-holds))
 
 same-length : tie.Need-same-length
 same-length c = search needs
@@ -51,8 +53,8 @@ returns c =
     let g = s .args .g in
     let v = s .args .v in
     let p = k .before .overflow-slot in
-    stored-take g (now (s .args .t)) (s .pre .0) (s .args .f .0) (s .args .displaced) (s .args .next .0) _ (s .pre .1) (s .pre .3)
-    (slot-lt g (s .pre .0 .proper) (keyNumber (v .entry)) (v .label) (s .pre .4)) _ _ _ _
+    stored-take g (now (s .args .t)) (s .pre .0) (s .args .i .0) (s .args .f .0) (s .args .displaced) (s .args .next .0) _ (s .pre .2) (s .pre .4)
+    (slot-lt g (s .pre .0 .proper) (keyNumber (v .entry)) (v .label) (s .pre .5)) _ _ _ _
     (e .empty-block .ensures)
     (p .ensures)
     (slot-put g (s .pre .0 .proper) _ _ _ _ (k .put-slot .ensures))

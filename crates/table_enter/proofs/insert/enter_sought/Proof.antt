@@ -38,8 +38,8 @@ absent : (c : tie.After-append-arg) →
 absent c =
     let f = to-known-told c .before .found .given in
     let s = to-start (to-place (to-known-told c)) in
-    sought-missing (sought s) (s .pre .2) (f .0 .0) _
-    (f .1 ∙ ap (λ (w : Word). said w (f .0 .0) (f .0 .1 .1 .0)) (c .before .before .before .enum-told .given .1))
+    sought-missing (sought s) (s .pre .2) (f .0 .0) _ _
+    (f .1 ∙ ap (λ (w : Word). said w (f .0 .0) (f .0 .1 .1 .0) (f .0 .1 .1 .1 .0)) (c .before .before .before .enum-told .given .1))
 
 enum-known-found : tie.Need-enum-known-found
 enum-known-found c = search needs
@@ -76,7 +76,7 @@ returns-2 : tie.Need-returns-2
 returns-2 c =
     let s = to-start (to-place (c .before)) in
     let f = c .before .before .found .given in
-    known-gives (sought s) (s .pre .2) (f .0 .1 .0) _ _ (λ e. miss (0 ∷ 1 ∷ 2 ∷ 4 ∷ []) 3 tt (rw e at (c .match2 .keys2))) (f .1)
+    known-gives (sought s) (s .pre .2) (f .0 .1 .0) _ _ _ (λ e. miss (0 ∷ 1 ∷ 2 ∷ 4 ∷ []) 3 tt (rw e at (c .match2 .keys2))) (f .1)
 
 returns-3 : tie.Need-returns-3
 returns-3 c =

@@ -1,15 +1,22 @@
 -- What is found from here on, with the slots passed, is what is found from the first block on.
 use mathlib.Core.Path.{_≡_, sym, ap, _∙_}
-use Prim.Native.Nat.{_+_, _-_, _*_, _≤_, _<_}
+use mathlib.Core.List.{List}
+use Prim.Native.Nat.{ℕ, _+_, _-_, _*_, _≤_, _<_}
 use native.Mathlib.Omega.{arith}
 use denote.Ref.{now}
 use borrow.Author.Needs.{needs}
 use lib.ListN.{length}
 use Rattle.settings.specs.Legal.{mostBits}
 use Rattle.keys.specs.Key.{keyNumber}
+use Rattle.settings.specs.declared.layout.Layout.{Layout}
+use Rattle.table.specs.State.{Overflow}
 use Rattle.table.specs.Decode.{decode}
 use Rattle.table.specs.Find.{position}
 use Rattle.table_read.specs.Steps.{slotsIn, overflowRun, Followed, gatherFrom, findFrom}
+use Rattle.table_read.specs.BlockSlots.{numberFrom}
+use Rattle.table.specs.Answer.{said}
+use Rattle.table.specs.declared.answers.Answer.{Answer}
+use Rattle.table.specs.declared.answers.Word.the-variants as word
 use Rattle.table_read.specs.theory.Reads.{overflow-run-within}
 use Rattle.table.specs.theory.Ways.{told-further, told-other}
 use Rattle.table_read.specs.theory.Walks.{OneStep, one-step}
@@ -19,10 +26,14 @@ use Rattle.table_read.specs.declared.slots.Slots.{Slots}
 use Rattle.table_find.proofs.search.find_blocks.Statement.{statement}
 use Rattle.table_find.proofs.search.find_blocks.Tie as tie
 
+-- what find answers of the blocks from b on, where n slots stand before them
+abbrev from : Layout → ℕ → ℕ → List Overflow → ℕ → ℕ → Answer
+from g e m os b n = findFrom g (numberFrom g m os b) e (gatherFrom g m os b) n
+
 abbrev Inv-loop : tie.InvT-loop
 Inv-loop t g entry k first n₀ q₀ b n q =
     (q ≤ g .nob) × (n ≤ k + 15 * q) × Followed g (g .nob - q) (decode g t .overflow) (b .0)
-    × (findFrom g (keyNumber entry) (gatherFrom g (g .nob - q) (decode g t .overflow) (b .0)) n ≡ findFrom g (keyNumber entry) (gatherFrom g (g .nob) (decode g t .overflow) (first .0)) k)
+    × (from g (keyNumber entry) (g .nob - q) (decode g t .overflow) (b .0) n ≡ from g (keyNumber entry) (g .nob) (decode g t .overflow) (first .0) k)
 
 abbrev μ-loop : tie.MeasureT-loop
 μ-loop t g entry k first n₀ q₀ b n q = g .nob - q
@@ -133,9 +144,18 @@ add-held-4 c =
     let s = m .before .before in
     omega (arith, k .if2 .taken, few (d .before), m .loop .inv .0, m .loop .inv .1, s .pre .0 .proper .nob-high, s .pre .3)
 
+overflow-number-requires : tie.Need-overflow-number-requires Inv-loop μ-loop
+overflow-number-requires c κs =
+    let k = c .before .before .before .before .before in
+    let d = k .before .before .before in
+    let m = d .before .before .before .before .before in
+    let s = m .before .before in
+    let head = one-step (s .args .g) (decode (s .args .g) (now (s .args .t)) .overflow) (s .args .g .nob) (s .args .first .0) (s .pre .1) in
+    (s .pre .0 .proper, omega (arith, here m .low, head .low), omega (arith, k .if2 .taken, few (d .before)))
+
 held-requires : tie.Need-held-requires Inv-loop μ-loop
 held-requires c κs =
-    let k = c .before .before .before .before .before in
+    let k = c .before .before .before .before .before .before in
     let d = k .before .before .before in
     let m = d .before .before .before .before .before in
     let s = m .before .before in (
@@ -146,12 +166,13 @@ held-requires c κs =
 
 returns : tie.Need-returns Inv-loop μ-loop
 returns c =
-    let k = c .before .before .before .before .before .before in
+    let k = c .before .before .before .before .before .before .before in
     let d = k .before .before .before in
     let f = d .before .before in
     let m = f .before .before .before in
     let s = m .before .before in
     c .held .ensures
+    ∙ ap (said word.Held _ _) (c .before .overflow-number .ensures)
     ∙ held-plain (s .args .g) (s .pre .0 .proper) (now (s .args .t)) (d .before .overflow-run .result) (plain (d .before))
     (d .scan .result .0) _ (m .loop .n) (k .if2 .taken) (omega arith)
     ∙ block-held (s .args .g) (now (s .args .t)) (s .pre .0) (keyNumber (s .args .entry)) (m .loop .n) (s .args .g .nob - m .loop .q) (m .loop .b .0)
@@ -248,6 +269,7 @@ find-blocks-spec =
     add-held-2
     add-held-3
     add-held-4
+    overflow-number-requires
     held-requires
     returns
     add-n

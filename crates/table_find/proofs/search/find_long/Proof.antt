@@ -1,5 +1,5 @@
 -- The list has an end, whose link is the basic block's first bits; the entry is in that block's slots, or in those that follow.
-use mathlib.Core.Path.{_≡_, refl, sym, ap, _∙_}
+use mathlib.Core.Path.{_≡_, refl, sym, ap, ap₂, _∙_}
 use Prim.Native.Nat.{ℕ, _+_, _*_, _≤_}
 use native.Mathlib.Omega.{arith}
 use denote.Ref.{now}
@@ -9,7 +9,7 @@ use Rattle.table.specs.Decode.{decode}
 use Rattle.table.specs.Find.{position}
 use Rattle.table_read.specs.Steps.{restoredBytes, SlotsWithin, slotsIn, displacedRun, lastFrom}
 use Rattle.table_read.specs.theory.Reads.{displaced-run-within, head-lt, link-lt}
-use Rattle.table_read.specs.theory.Walks.{followed}
+use Rattle.table_read.specs.theory.Walks.{followed, ended-own}
 use Rattle.table_read.specs.theory.Lasts.{EndsAt, ends-at, no-end}
 use Rattle.table_read.specs.theory.Finds.{find-bad, find-first, find-rest}
 use Rattle.table_read.specs.theory.Scans.{run-row, label-inside, first-position, held-restored}
@@ -39,7 +39,7 @@ to-overflow-link-3 c = c .before .before .before .before .before
 
 -- the list's last block
 end : (c : tie.After-last) → let a = c .before .before .before .before .args in
-    EndsAt (a .g) (lastFrom (a .g) (a .g .nob) (decode (a .g) (now (a .t)) .overflow) (a .first .0)) (c .last .given .0 .0)
+    EndsAt (a .g) (lastFrom (a .g) (a .i .0) (a .g .nob) (decode (a .g) (now (a .t)) .overflow) (a .first .0)) (c .last .given .0 .0)
 end c = ends-at _ _ _ (sym (c .before .before .follow .ensures) ∙ c .last .given .1)
 
 -- the basic block's slots
@@ -142,15 +142,21 @@ cast-t21 c =
     let s = to-start (to-last (to-overflow-link-2 k)) in
     omega (arith, k .if1 .taken, s .pre .0 .proper .sib-high)
 
+basic-number-requires : tie.Need-basic-number-requires
+basic-number-requires c κs =
+    let k = c .before .before .before .before .before .before in
+    let s = to-start (to-last (to-overflow-link-2 k)) in
+    (s .pre .0 .proper, s .pre .1, k .if1 .taken)
+
 returns-2 : tie.Need-returns-2
 returns-2 c =
-    let h = c .before .before .before .before .before .before in
+    let h = c .before .before .before .before .before .before .before in
     let d = h .before .before .before in
     let k = d .before .before in
     let e = k .before .before in
     let s = e .before .before .before .before in
     let j = d .scan-displaced .result .0 in
-    ap (λ (x : ℕ). said word.Held x (j + 1)) (c .before .label-at .ensures)
+    ap₂ (λ (x y : ℕ). said word.Held x (j + 1) y) (c .before .before .label-at .ensures) (c .basic-number .ensures)
     ∙ held-restored (s .args .g) (s .pre .0 .proper) (now (s .args .t)) (d .before .displaced-run .result) j (j + 1) 0 (omega (arith, h .if1 .taken, all (d .before))) (omega arith)
     ∙ find-first (s .args .g) (now (s .args .t)) (s .pre .0) (s .args .i .0) (keyNumber (s .args .entry)) (s .pre .1)
     (s .args .first .0) (e .last .given .0 .0 .0) (s .pre .2) (end e .is)
@@ -162,7 +168,8 @@ find-blocks-requires c κs =
     let e = to-last (to-overflow-link-3 c) in
     let s = e .before .before .before .before in (
       s .pre .0,
-      followed (s .args .g) (decode (s .args .g) (now (s .args .t)) .overflow) (s .args .g .nob) (s .args .first .0) (omega (arith, end e .is, end e .low)),
+      ended-own (s .args .g) (decode (s .args .g) (now (s .args .t)) .overflow) (s .args .i .0)
+          (followed (s .args .g) (decode (s .args .g) (now (s .args .t)) .overflow) (s .args .i .0) (s .args .g .nob) (s .args .first .0) (omega (arith, end e .is, end e .low))),
       s .pre .3,
       s .pre .0 .proper .sib-high,
     )
@@ -196,6 +203,7 @@ find-long-spec =
     label-at-requires
     add-t20
     cast-t21
+    basic-number-requires
     returns-2
     find-blocks-requires
     returns-3)

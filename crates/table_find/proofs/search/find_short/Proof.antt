@@ -9,6 +9,7 @@ use Rattle.table_read.specs.Rows.{Row}
 use Rattle.keys.specs.Key.{keyNumber}
 use Rattle.settings.specs.declared.layout.Layout.{Layout}
 use Rattle.table.specs.Find.{position}
+use Rattle.table.specs.Numbers.{basicNumber}
 use Rattle.table_read.specs.Steps.{First, slotsIn, basicRun, findFrom}
 use Rattle.table_read.specs.theory.Reads.{slots-length, basic-run-within}
 use Rattle.table_read.specs.theory.Rows.{fewer, none-first}
@@ -62,19 +63,23 @@ module _ (s : tie.Start) (b : Slots) (is : b ≡ basicRun (s .args .g) (s .args 
   row : (n : ℕ) → n ≤ g .sib → Row t (b .start) (g .slot) (g .bie) n
   row n h = fewer t (b .start) (g .slot) (g .bie) (g .sib) room n h
 
-  answer : findFrom g e (slotsIn g t b) 0 ≡ findFrom g e (slotsIn g t (basicRun g (s .args .i .0) (s .args .count))) 0
-  answer = ap (λ (x : Slots). findFrom g e (slotsIn g t x) 0) is
+  -- the numbers of its slots
+  abbrev numbers : ℕ → ℕ
+  numbers = basicNumber g (s .args .i .0)
+
+  answer : findFrom g numbers e (slotsIn g t b) 0 ≡ findFrom g numbers e (slotsIn g t (basicRun g (s .args .i .0) (s .args .count))) 0
+  answer = ap (λ (x : Slots). findFrom g numbers e (slotsIn g t x) 0) is
 
   -- r is the first slot that holds the entry
   module _ (r : ℕ) (f : First t (b .start) (g .slot) (g .bie) e (b .count) r) where
     place : r ≡ position g e (slotsIn g t b)
     place = plain-position g (s .pre .0 .proper) t b plain e r f
 
-    none : b .count ≤ r → said word.None 0 r ≡ findFrom g e (slotsIn g t (basicRun g (s .args .i .0) (s .args .count))) 0
+    none : b .count ≤ r → said word.None 0 r 0 ≡ findFrom g numbers e (slotsIn g t (basicRun g (s .args .i .0) (s .args .count))) 0
     none h =
         let n = slots-length g t b in
         let l : r ≡ 0 + length (slotsIn g t b) = omega (arith, f .high) in
-        ap (said word.None 0) l ∙ sym (find-none g e (slotsIn g t b) 0 r place (omega arith)) ∙ answer
+        ap (λ (x : ℕ). said word.None 0 x 0) l ∙ sym (find-none g e numbers (slotsIn g t b) 0 r place (omega arith)) ∙ answer
 
   -- the label of a slot
   inside : (r : ℕ) → r < b .count → let end = b .start + r * g .slot + g .bie + g .val in (end ≤ 8 * length t) × (end ≤ mostBits)
@@ -108,7 +113,7 @@ returns c =
     let a = s .args in
     let b = d .basic-run .result in
     let n = all s b (d .basic-run .ensures) in
-    c .not-held .ensures ∙ ap (said word.None 0) (sym n)
+    c .not-held .ensures ∙ ap (λ (x : ℕ). said word.None 0 x 0) (sym n)
     ∙ none s b (d .basic-run .ensures) (b .count)
     (none-first (now (a .t)) (b .start) (a .g .slot) (a .g .bie) _ (b .count) (k .candidate .result) (k .candidate .ensures .before) (omega (arith, c .before .if1 .taken)))
     (omega arith)
@@ -154,16 +159,22 @@ add-held-3 c =
     let s = to-start (to-basic-run f) in
     omega (arith, few f, s .pre .2, s .pre .0 .proper .sib-high)
 
+basic-number-requires : tie.Need-basic-number-requires
+basic-number-requires c κs =
+    let k = to-then2 c in
+    let s = to-start (to-basic-run (to-confirm k)) in
+    (s .pre .0 .proper, s .pre .1, omega (arith, k .if2 .taken, s .pre .2))
+
 held-requires : tie.Need-held-requires
 held-requires c κs =
-    let k = c .before .before .before .before .before in
+    let k = to-then2 (c .before) in
     let d = to-basic-run (to-confirm k) in
     let s = d .before .before in
     (label-in k .0, s .pre .0 .proper .val-high, omega (arith, few (k .before .before), s .pre .2, s .pre .0 .proper .sib-high))
 
 returns-2 : tie.Need-returns-2
 returns-2 c =
-    let k = c .before .before .before .before .before .before in
+    let k = to-then2 (c .before .before) in
     let d = to-basic-run (to-confirm k) in
     let s = d .before .before in
     let g = s .args .g in
@@ -173,8 +184,9 @@ returns-2 c =
     let j = k .before .before .confirm .result .0 in
     let h : j < b .count = omega (arith, k .if2 .taken, few (k .before .before), all s b is) in
     c .held .ensures
+    ∙ ap (said word.Held _ _) (c .before .basic-number .ensures)
     ∙ held-plain g (s .pre .0 .proper) t b (plain s b is) j _ 0 h (omega arith)
-    ∙ sym (find-held g (keyNumber (s .args .entry)) (slotsIn g t b) 0 j (place s b is j (k .before .before .confirm .ensures)) (omega (arith, slots-length g t b)))
+    ∙ sym (find-held g (keyNumber (s .args .entry)) (numbers s b is) (slotsIn g t b) 0 j (place s b is j (k .before .before .confirm .ensures)) (omega (arith, slots-length g t b)))
     ∙ answer s b is
 
 not-held-requires-2 : tie.Need-not-held-requires-2
@@ -204,6 +216,7 @@ find-short-spec =
     add-held
     add-held-2
     add-held-3
+    basic-number-requires
     held-requires
     returns-2
     not-held-requires-2

@@ -12,16 +12,16 @@ use Rattle.table_find.proofs.search.held.Tie as tie
 get-requires : tie.Need-get-requires
 get-requires c κs = search needs
 
-cast-t7 : tie.Need-cast-t7
-cast-t7 c =
+cast-t8 : tie.Need-cast-t8
+cast-t8 c =
     let s = c .before .before in
     record { fits = rw (c .get .ensures) (field-fits (now (s .args .t)) (s .args .at) (s .args .val) 32 (s .pre .1)) }
 
-cast-t8 : tie.Need-cast-t8
-cast-t8 c = search needs
+cast-t9 : tie.Need-cast-t9
+cast-t9 c = search needs
 
 returns : tie.Need-returns
-returns c = ap (λ (x : ℕ). said word.Held x (c .before .before .args .n)) (c .get .ensures)
+returns c = ap (λ (x : ℕ). said word.Held x (c .before .before .args .n) (c .before .before .args .slot)) (c .get .ensures)
 
 pub held-spec : {M : Type 1} → statement M
-held-spec = tie.close (tie.spec get-requires cast-t7 cast-t8 returns)
+held-spec = tie.close (tie.spec get-requires cast-t8 cast-t9 returns)

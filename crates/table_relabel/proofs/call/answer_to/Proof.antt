@@ -22,14 +22,14 @@ enum-known-found-2 c = search needs
 returns : tie.Need-returns
 returns c =
     let f = c .before .before .before .found .given in
-    sym (ap answerTo (f .1) ∙ ap (λ (w : Word). said (wordTo w) (f .0 .0) (f .0 .1 .1 .0)) (c .enum-told .given .1))
+    sym (ap answerTo (f .1) ∙ ap (λ (w : Word). said (wordTo w) (f .0 .0) (f .0 .1 .1 .0) (f .0 .1 .1 .1 .0)) (c .enum-told .given .1))
 
 returns-2 : tie.Need-returns-2
 returns-2 c =
     let f = c .before .before .found .given in
     sym
     (ap answerTo (f .1)
-    ∙ ap (λ (w : Word). said w (f .0 .0) (f .0 .1 .1 .0))
+    ∙ ap (λ (w : Word). said w (f .0 .0) (f .0 .1 .1 .0) (f .0 .1 .1 .1 .0))
     (word-kept (f .0 .1 .0)
     (λ e. ⊎-elim (λ z. absurd (omega (arith, rw e at z))) (⊎-elim (λ z. absurd (omega (arith, rw e at z))) (⊎-elim (λ z. absurd (omega (arith, rw e at z))) (λ z. absurd (omega (arith, rw e at z))))) (c .match2 .keys2))))
 

@@ -3,7 +3,8 @@ use mathlib.Core.Path.{sym, ap, _∙_}
 use mathlib.Core.Logic.{⊎-elim}
 use native.Mathlib.Omega.{arith}
 use borrow.Author.Needs.{needs}
-use Rattle.table_relabel.specs.FromFind.{placeFound}
+use Rattle.table.specs.declared.answers.Word.{Word}
+use Rattle.table_relabel.specs.FromFind.{ifHeld, placeFound}
 use Rattle.table_relabel.proofs.KeyLaws.{not-at}
 use Rattle.table_relabel.proofs.call.place_found.Statement.{statement}
 use Rattle.table_relabel.proofs.call.place_found.Tie as tie
@@ -21,7 +22,9 @@ enum-told-2 : tie.Need-enum-told-2
 enum-told-2 c = search needs
 
 returns : tie.Need-returns
-returns c = search needs
+returns c =
+    let f = c .before .before .before .found .given in
+    sym (ap placeFound (f .1) ∙ ap (λ (w : Word). ifHeld w (f .0 .1 .1 .0)) (c .enum-told .given .1))
 
 returns-2 : tie.Need-returns-2
 returns-2 c =

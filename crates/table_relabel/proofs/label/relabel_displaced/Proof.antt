@@ -34,7 +34,7 @@ args-at c = to-start (to-follow (to-last c))
 ends-as : (c : tie.After-follow) →
     let s = to-start c in
     let a = s .args in
-    lastFrom (a .g) (a .g .nob) (decode (a .g) (now (a .t)) .overflow) (a .first .0) < a .g .nob
+    lastFrom (a .g) (a .i .0) (a .g .nob) (decode (a .g) (now (a .t)) .overflow) (a .first .0) < a .g .nob
 ends-as c =
     let s = to-start c in
     let e = ends-there (s .pre .0) (s .pre .3) _ (s .pre .4) in
@@ -42,7 +42,7 @@ ends-as c =
 
 end : (c : tie.After-last) →
     let a = to-start (to-follow c) .args in
-    EndsAt (a .g) (lastFrom (a .g) (a .g .nob) (decode (a .g) (now (a .t)) .overflow) (a .first .0)) (c .last .given .0 .0)
+    EndsAt (a .g) (lastFrom (a .g) (a .i .0) (a .g .nob) (decode (a .g) (now (a .t)) .overflow) (a .first .0)) (c .last .given .0 .0)
 end c = ends-at _ _ _ (sym (to-follow c .follow .ensures) ∙ c .last .given .1)
 
 follow-requires : tie.Need-follow-requires

@@ -16,7 +16,7 @@ join-requires c κs =
     let s = c .before in
     let a = s .args in
     let f = s .pre .0 in
-    (omega (arith, f .link), front-small (a .n) (a .l) (a .b .counter) (a .link) (s .pre .1) (s .pre .2) (f .short) (f .link))
+    (omega (arith, f .numbers), front-small (a .n) (a .l) (a .b .counter) (a .link) (s .pre .1) (s .pre .2) (f .short) (f .numbers))
 
 counter-at-requires : tie.Need-counter-at-requires
 counter-at-requires c κs = search needs

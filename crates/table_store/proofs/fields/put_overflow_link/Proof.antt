@@ -23,7 +23,7 @@ put-requires : tie.Need-put-requires
 put-requires c κs =
     let s = c .before .before .before in
     let b = block s in
-    (omega (arith, b .room, b .fields .fits, b .link, c .link-at .ensures), s .pre .2)
+    (omega (arith, b .room, b .fields .fits, b .numbers, c .link-at .ensures), s .pre .2)
 
 same-length : tie.Need-same-length
 same-length c = search needs

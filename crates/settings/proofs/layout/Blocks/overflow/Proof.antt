@@ -20,11 +20,11 @@ ceil-log2-requires c κs = search needs
 abbrev start : tie.After-ceil-log2 → tie.Start
 start c = c .before .before
 
-small-head : (c : tie.After-ceil-log2) → c .ceil-log2 .result + start c .args .link ≤ 20
+small-head : (c : tie.After-ceil-log2) → c .ceil-log2 .result + start c .args .numbers ≤ 36
 unfolding overflowCounterBits
 small-head c =
     let w = widths-small (start c .args .s) (start c .pre .0) in
-    omega (arith, c .ceil-log2 .ensures, start c .pre .2, w .0, w .3)
+    omega (arith, c .ceil-log2 .ensures, start c .pre .2, w .0, w .3, start c .pre .0 .bii-high)
 
 add-block-bits : tie.Need-add-block-bits
 add-block-bits c = omega (arith, small-head c)
@@ -35,8 +35,8 @@ wide-requires c κs = search needs
 block-bits-requires : tie.Need-block-bits-requires
 block-bits-requires c κs = (omega (arith, small-head (c .before)), omega (arith, c .wide .ensures), omega (arith, start (c .before) .pre .1))
 
-made : (s : Settings) {slot link start : ℕ} (c b x : ℕ) → slot ≡ slotBits s → link ≡ linkBits s → start ≡ overflowStart s
-    → c ≡ ceilLog2 (1 + s .sio) → x ≡ s .sio → b ≡ c + link + x * slot
+made : (s : Settings) {slot numbers start : ℕ} (c b x : ℕ) → slot ≡ slotBits s → numbers ≡ linkBits s + s .bii → start ≡ overflowStart s
+    → c ≡ ceilLog2 (1 + s .sio) → x ≡ s .sio → b ≡ c + numbers + x * slot
     → record { start = start; counter = c; bits = b } ≡ overflowBlocks s
 unfolding overflowCounterBits overflowBlockBits
 made s c b x es el et ec ex eb = rw (eb, ex, ec, et, el, es)

@@ -7,6 +7,7 @@ use borrow.Author.Needs.{needs}
 use Rattle.settings.specs.Log.{ceilLog2}
 use Rattle.settings.specs.Sizes.{linkBits, lists, overflowStart, tableBits, tableBytes}
 use Rattle.settings.specs.Layout.{basicBlocks, overflowBlocks, layoutOf}
+use Rattle.settings.specs.theory.Proper.{widths-small}
 use Rattle.settings.specs.declared.settings.Settings.{Settings}
 use Rattle.settings.specs.declared.layout.Blocks.{Blocks}
 use Rattle.settings.proofs.layout.Layout.of.Statement.{statement}
@@ -59,31 +60,50 @@ behind-is c =
     let p = c .before .before in
     behind _ _ _ _ (p .basic .ensures .0) (numbers p .lists-of .ensures .0) (c .before .blocks-bits .ensures .0)
 
+wide-requires-4 : tie.Need-wide-requires-4
+wide-requires-4 c κs = search needs
+
+add-overflow : tie.Need-add-overflow
+unfolding linkBits
+add-overflow c =
+    let p = c .before .before .before in
+    omega (arith, p .before .ceil-log2 .ensures, c .wide4 .ensures, start p .pre .bii-high, widths-small (start p .args .s) (start p .pre) .0)
+
 overflow-requires : tie.Need-overflow-requires
 unfolding linkBits
 overflow-requires c κs =
-    let p = c .before .before in
-    let w = numbers p .before .before in
-    (start p .pre, omega (arith, w .before .wide .ensures, w .wide2 .ensures), p .before .ceil-log2 .ensures, behind-is c)
+    let p = c .before .before .before in
+    let w = numbers p .before .before in (
+      start p .pre,
+      omega (arith, w .before .wide .ensures, w .wide2 .ensures),
+      omega (arith, p .before .ceil-log2 .ensures, c .wide4 .ensures),
+      behind-is (c .before),
+    )
 
 blocks-bits-requires-2 : tie.Need-blocks-bits-requires-2
 blocks-bits-requires-2 c κs = search needs
 
 -- the start that the overflow blocks were given
-given : (c : tie.After-struct-known3) → c .before .before .overflow .result .start ≤ 2675965968
+given : (c : tie.After-struct-known3) → c .before .before .overflow .result .start ≤ 2676228112
 given c =
     let p = c .before .before in
-    let q = p .before .before in
-    omega (arith, ap (λ (b : Blocks). b .start) (p .overflow .ensures .0), behind-is (p .before), q .before .basic .ensures .1, q .blocks-bits .ensures .1)
+    let k = p .before .before in
+    let q = k .before in
+    omega (arith, ap (λ (b : Blocks). b .start) (p .overflow .ensures .0), behind-is k, q .before .basic .ensures .1, q .blocks-bits .ensures .1)
 
 add-bits : tie.Need-add-bits
 add-bits c = omega (arith, given c, c .before .blocks-bits2 .ensures .1)
 
-wide-requires-4 : tie.Need-wide-requires-4
-wide-requires-4 c κs = search needs
-
 wide-requires-5 : tie.Need-wide-requires-5
 wide-requires-5 c κs = search needs
+
+wide-requires-6 : tie.Need-wide-requires-6
+wide-requires-6 c κs = search needs
+
+cast-t12 : tie.Need-cast-t12
+cast-t12 c =
+    let k = c .before .before .before .before .before .before .before .before in
+    omega (arith, numbers k .lists-of .ensures .0, pow-mono (start k .pre .bii-high))
 
 add-t16 : tie.Need-add-t16
 add-t16 c = omega (arith, given (c .before .before), c .before .before .before .blocks-bits2 .ensures .1)
@@ -101,6 +121,7 @@ laid : (s : Settings) (e v b n o p l m : ℕ) (basic overflow : Blocks)
       sio = o;
       lists = p;
       link = l;
+      owner = s .bii;
       basic = basic;
       overflow = overflow;
       bits = overflow .start + m;
@@ -112,14 +133,14 @@ laid s e v b n o p l m basic overflow ee ev eb en eo ep el eB eO em = rw (em, eO
 returns : tie.Need-returns
 returns c =
     let z = c .before .before .before in
-    let k = z .before .before .before .before in
+    let k = z .before .before .before .before .before in
     let w = numbers k .before in
     laid _ _ _ _ _ _ _ _ _ _ _
     (w .before .before .wide .ensures)
     (w .before .wide2 .ensures)
-    (c .before .wide4 .ensures)
+    (c .before .wide5 .ensures)
     (w .wide3 .ensures)
-    (c .wide5 .ensures)
+    (c .wide6 .ensures)
     (numbers k .lists-of .ensures .0)
     (k .before .ceil-log2 .ensures)
     (k .basic .ensures .0)
@@ -140,10 +161,13 @@ of-spec =
     basic-requires
     blocks-bits-requires
     add-behind
+    wide-requires-4
+    add-overflow
     overflow-requires
     blocks-bits-requires-2
     add-bits
-    wide-requires-4
     wide-requires-5
+    wide-requires-6
+    cast-t12
     add-t16
     returns)
