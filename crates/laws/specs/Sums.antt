@@ -14,6 +14,11 @@ pub sum-ext : (n : ℕ) (f g : ℕ → ℕ) → ((i : ℕ) → i < n → f i ≡
 sum-ext zero f g h = refl
 sum-ext (suc n) f g h = omega (arith, h 0 (omega arith), sum-ext n (λ i. f (suc i)) (λ i. g (suc i)) (λ i l. h (suc i) (omega arith)))
 
+-- a sum, by its last summand
+pub sum-last : (n : ℕ) (f : ℕ → ℕ) → sumBelow (suc n) f ≡ sumBelow n f + f n
+sum-last zero f = omega arith
+sum-last (suc n) f = omega (arith, sum-last n (λ i. f (suc i)))
+
 -- two sums in one
 pub sum-add : (n : ℕ) (f g : ℕ → ℕ) → sumBelow n (λ i. f i + g i) ≡ sumBelow n f + sumBelow n g
 sum-add zero f g = omega arith

@@ -13,7 +13,6 @@ use lib.Dec.{eqb, leb, ltb, lit<}
 use borrow.Author.Tests.{lt-ltb, ltb-true, ltb-false, le-leb, lt-leb, leb-true, eq-eqb, ne-eqb, eqb-true}
 use Rattle.laws.specs.Cases.{cases, both-true}
 use Rattle.laws.specs.Lists.{drop-next}
-use Rattle.laws.specs.Options.{when-some}
 use Rattle.text_read.specs.Class.{classOf}
 use Rattle.text_read.specs.Numerals.{digits, number, noLeadingZero}
 use Rattle.text_read.specs.Grammar.{decimalDigit}
@@ -21,25 +20,11 @@ use Rattle.text_read.specs.theory.Bytes.{digit-class, class-decimal}
 use Rattle.text_read.specs.theory.Numerals.{digits-first}
 use Rattle.program_commands.specs.Command.{labelOf}
 use Rattle.program_commands.specs.Steps.{isDigit, labelNumber}
+use Rattle.program_commands.specs.theory.Labels.{label-means}
 
 -- What a label is ------------------------------------------------------------------------------------------------------
 
--- what it tells that y is read as v
-pub record Label (y : List ℕ) (v : ℕ) : Type 0 where
-  pub ten : digits 10 y ≡ true
-  pub high : length y ≤ 3
-  pub value : number 10 0 y ≡ v
-
 module _ (y : List ℕ) where
-  pub label-means : (v : ℕ) → labelOf y ≡ some v → Label y v
-  unfolding labelOf
-  label-means v e =
-      let p = when-some (digits 10 y && leb 1 (length y) && leb (length y) 3 && noLeadingZero y) (number 10 0 y) v e in
-      let q = both-true (digits 10 y && leb 1 (length y) && leb (length y) 3) (noLeadingZero y) (p .0) in
-      let r = both-true (digits 10 y && leb 1 (length y)) (leb (length y) 3) (q .0) in
-      let t = both-true (digits 10 y) (leb 1 (length y)) (r .0) in
-      record { ten = t .0; high = leb-true (length y) 3 (r .1); value = p .1 }
-
   label-is : digits 10 y ≡ true → 1 ≤ length y → length y ≤ 3 → noLeadingZero y ≡ true → labelOf y ≡ some (number 10 0 y)
   unfolding labelOf
   label-is d l h z = rw (d, le-leb 1 (length y) l, le-leb (length y) 3 h, z)

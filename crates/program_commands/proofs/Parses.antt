@@ -13,7 +13,7 @@ use Rattle.laws.specs.Cases.{cases, cond-same}
 use Rattle.program_lines.specs.Ends.{before, firstFrom}
 use Rattle.program_lines.specs.theory.Ends.{first-after, first-le}
 use Rattle.program_commands.specs.Fields.{space, fields}
-use Rattle.program_commands.specs.Command.{Command, mkCommand, opOf, labelOf, addressed, takesLabel, withLabel, asked, spelled, longestLine, commandOf}
+use Rattle.program_commands.specs.Command.{mkCommand, opOf, labelOf, addressed, takesLabel, withLabel, asked, spelled, longestLine, commandOf}
 use Rattle.program_commands.specs.Steps.{labelNumber, labelRoom, Begins, Labelled, spaceless, addressIn, requested, Asks}
 use Rattle.program_commands.specs.declared.command.Op.{Op}
 use Rattle.program_commands.specs.declared.command.Op.the-variants as op
@@ -21,9 +21,9 @@ use Rattle.program_commands.specs.declared.command.Request.{Request}
 use Rattle.program_commands.specs.declared.command.Asked.the-variants as answer
 use Rattle.program_commands.specs.theory.Fields.{Some, fields-some, fields-one, fields-join, cut-first, has-space, Several, fields-more}
 use Rattle.program_commands.proofs.Places.{first-at, first-same, address-length, parted, Room, room}
-use Rattle.program_commands.proofs.Labels.{label-means, label-long, number-none, number-some}
+use Rattle.program_commands.proofs.Labels.{label-long, number-none, number-some}
 use Rattle.program_commands.specs.theory.Long.{long-none}
-use Rattle.program_commands.specs.theory.Spaces.{digits-spaceless}
+use Rattle.program_commands.specs.theory.Asked.{asked-alone, asked-labelled}
 
 -- one of two tests holds
 either : {A : Type 0} (t u : Bool) → (t || u) ≡ true → (t ≡ true → A) → (u ≡ true → A) → A
@@ -39,10 +39,6 @@ neither false u e = (refl, e)
 addressed-none : (x : List ℕ) → addressed x none ≡ none
 addressed-none [] = refl
 addressed-none (b ∷ x) = refl
-
-addressed-some : (x : List ℕ) (c : Option Command) → 1 ≤ length x → addressed x c ≡ c
-addressed-some [] c h = absurd (omega arith)
-addressed-some (b ∷ x) c h = refl
 
 module _ (c : ℕ) where
   -- with three fields or more there is none
@@ -63,8 +59,7 @@ module _ (c : ℕ) where
   alone : (o : Op) (s : List ℕ) → opOf c ≡ some o → 1 ≤ length s → (spaceless s ≡ false → asked c (fields s) ≡ none)
       → asked c (fields s) ≡ cond (spaceless s) (some (mkCommand o s 0)) none
   alone o s p h f =
-      cases (spaceless s) (λ t. rw (t, fields-one s t) (unfold asked in rw p (addressed-some s (some (mkCommand o s 0)) h)))
-      (λ t. rw (t, f t))
+      cases (spaceless s) (λ t. rw t (asked-alone c o s p t h)) (λ t. rw (t, f t))
 
   -- a byte that stands for nothing, or for an op without a label, has no second field
   no-second : ((x : List ℕ) (m : Option ℕ) → withLabel (opOf c) x m ≡ none) → (fs : List (List ℕ)) → Several fs → asked c fs ≡ none
@@ -98,10 +93,8 @@ module _ (c : ℕ) (o : Op) (p : opOf c ≡ some o) (x y : List ℕ) where
   labelled : (v : ℕ) → takesLabel o ≡ true → labelOf y ≡ some v → 1 ≤ length x
       → asked c (fields (x ++ space ∷ y)) ≡ cond (spaceless x) (some (mkCommand o x v)) none
   labelled v q e h =
-      rw (fields-join x y)
-      (cases (spaceless x)
-      (λ t. rw (t, fields-one x t, fields-one y (digits-spaceless y (label-means y v e .ten))) (unfold asked in rw (e, p, q) (addressed-some x (some (mkCommand o x v)) h)))
-      (λ t. rw t (many c (fields x) (fields y) (fields-more x t) (fields-some y))))
+      cases (spaceless x) (λ t. rw t (asked-labelled c o x y v p q e t h))
+      (λ t. rw (t, fields-join x y) (many c (fields x) (fields y) (fields-more x t) (fields-some y)))
 
 -- The lines that are no command, by their first bytes ------------------------------------------------------------------
 

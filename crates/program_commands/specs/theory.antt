@@ -1,4 +1,6 @@
 -- Laws of the definitions.
 pub mod Fields
 pub mod Spaces
+pub mod Labels
+pub mod Asked
 pub mod Long

@@ -108,12 +108,17 @@ abbrev pub ofTables : List Claim
 ofTables =
     makes new
     ∷ enters new (1 ∷ 2 ∷ 4 ∷ []) three
+    ∷ answers new (enter 0) 1 (said word.Added 0 0 0)
+    ∷ answers (enterAll new (1 ∷ [])) (enter 0) 2 (said word.Added 0 1 1)
+    ∷ answers (enterAll new (1 ∷ 2 ∷ [])) (enter 0) 4 (said word.Added 0 2 4)
     ∷ enters three (5 ∷ []) four
+    ∷ answers three (enter 0) 5 (said word.Added 0 3 5)
     ∷ answers four (enter 0) 32 (answer.Refused refusal.NoBlock)
     ∷ answers four (enter 0) 0 (said word.Added 0 0 2)
     ∷ enters four (0 ∷ []) five
     ∷ deletes four 1 afterDelete
     ∷ answers afterDelete find 4 (said word.Held 0 3 4)
+    ∷ answers afterDelete find 5 (said word.Held 0 1 0)
     -- a key that is held: refusal 12 comes before 8, and before the free chain is looked at
     ∷ answers four (enter 0) 4 (answer.Refused refusal.Known)
     ∷ answers broken (enter 0) 4 (answer.Refused refusal.Known)
@@ -182,7 +187,7 @@ all-append (x ∷ xs) ys a b = (a .0, all-append xs ys (a .1) b)
 
 tables-hold : All ofTables
 unfolding tables.computing
-tables-hold = (refl, (refl, (refl, (refl, (refl, (refl, (refl, (refl, (refl, (refl, (refl, tt)))))))))))
+tables-hold = (refl, (refl, (refl, (refl, (refl, (refl, (refl, (refl, (refl, (refl, (refl, (refl, (refl, (refl, (refl, (refl, tt))))))))))))))))
 
 slots-hold : All ofSlots
 unfolding tables.computing

@@ -11,7 +11,7 @@ use Rattle.settings.specs.declared.layout.Layout.{Layout}
 use Rattle.table.specs.Arrays.{cleared}
 use Rattle.table.specs.State.{Basic, Overflow, State, basicAt, overflowAt, ownSlots, entryOf}
 use Rattle.table.specs.Decode.{decode}
-use Rattle.table.specs.Follow.{Content, cons?, isOwn, content}
+use Rattle.table.specs.Follow.{Content, cons?, content}
 use Rattle.table.specs.Take.{occurs}
 
 -- the overflow blocks of a list that was followed
@@ -30,7 +30,7 @@ module _ (g : Layout) where
 
   -- clause 4.12: counters, owners and slots of free blocks are zero
   abbrev pub freeZero : List Overflow → ℕ → Bool
-  freeZero os f = eqb (overflowAt os f .counter) 0 && (isOwn 0 os f && allZero (overflowAt os f .slots))
+  freeZero os f = eqb (overflowAt os f .counter) 0 && (eqb (overflowAt os f .owner) 0 && allZero (overflowAt os f .slots))
 
   -- no entry stands twice in a list
   abbrev pub hasEntry : ℕ → List ℕ → Bool

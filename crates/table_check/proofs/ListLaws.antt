@@ -13,6 +13,7 @@ use lib.Dec.{eqb, ltb}
 use borrow.Author.Count.{below-more}
 use borrow.Author.Tests.{eq-eqb, ne-eqb, lt-ltb, le-ltb, ltb-false}
 use Rattle.laws.specs.Folds.{every, sumBelow}
+use Rattle.laws.specs.Sums.{sum-last}
 use Rattle.laws.specs.Cases.{cases, both-true, never, true-both}
 use Rattle.laws.specs.Options.{nothing}
 use Rattle.settings.specs.declared.layout.Layout.{Layout}
@@ -116,11 +117,6 @@ module _ (g : Layout) (os : List Overflow) (full : (b : ℕ) → b < g .nob → 
       (λ q. rw (p, q) (λ few h. never h)))
 
 -- ---- the first n lists
-
--- a sum, by its last summand
-sum-last : (n : ℕ) (f : ℕ → ℕ) → sumBelow (suc n) f ≡ sumBelow n f + f n
-sum-last zero f = omega arith
-sum-last (suc n) f = omega (arith, sum-last n (λ i. f (suc i)))
 
 module _ (g : Layout) (st : State) where
   -- list i is sound

@@ -239,60 +239,64 @@ module _ (g : Layout) (t : List ℕ) (T : Table g t) (i : ListNumber) (l : i .0 
     unfolding basicRun basicSlot
     short-slot at e h = in-row g t (T .proper) (basicRun g (i .0) c) (basic-run-within g t T (i .0) c l low) i l p _ short-row h at e (omega arith)
 
-  -- of a list whose overflow blocks start at h and end with z
-  module _ (h z : ℕ) (over : Overflows g (decode g t) (i .0) h) (last-is : z ≡ lastFrom g (i .0) (g .nob) (decode g t .overflow) h) (sound : z < g .nob)
-      (low : p .0 < g .sib) (d : ℕ) (ed : d ≡ overflowAt (decode g t .overflow) z .link) (run : Slots) (er : run ≡ displacedRun g (i .0) d) where
-    long-row : (s : Settings) → layoutOf s ≡ g
-        → onNth s (i .0) (nthOf g (slotsIn g t run) (p .0)) (λ m. answer.None) ≡ retrieveBasic s (decode g t) (i .0) (p .0)
-    long-row s laid =
-        basic-answer s g laid (decode g t) (i .0) (p .0) _ (nth-displaced g t T (i .0) l h z over last-is sound (p .0) run d ed er low)
+  -- of a list with overflow blocks: its basic block's slots, as run has them
+  module _ (run : Slots) where
+    pub record LongRow : Type 0 where
+      pub holds : p .0 < run .count
+      pub start : run .start ≡ basicSlots g (i .0)
+      pub displaced : run .displaced ≡ g .link
+      pub within : SlotsWithin g t run
+      pub are : (s : Settings) → layoutOf s ≡ g
+          → onNth s (i .0) (nthOf g (slotsIn g t run) (p .0)) (λ m. answer.None) ≡ retrieveBasic s (decode g t) (i .0) (p .0)
 
-    pub long-within : SlotsWithin g t run
-    long-within = rw er (displaced-run-within g t T (i .0) d l (rw ed (link-lt g t T z sound)))
-
-    long-count : run .count ≡ g .sib
+    -- the blocks start at h and end with z
+    pub long-row : (h z : ℕ) (over : Overflows g (decode g t) (i .0) h) (last-is : z ≡ lastFrom g (i .0) (g .nob) (decode g t .overflow) h) (sound : z < g .nob)
+        → p .0 < g .sib → (d : ℕ) → d ≡ overflowAt (decode g t .overflow) z .link → run ≡ displacedRun g (i .0) d → LongRow
     unfolding displacedRun
-    long-count = ap (λ (b : Slots). b .count) er
+    long-row h z over last-is sound low d ed er =
+        record {
+          holds = omega (arith, ap (λ (b : Slots). b .count) er);
+          start = ap (λ (b : Slots). b .start) er;
+          displaced = ap (λ (b : Slots). b .displaced) er;
+          within = rw er (displaced-run-within g t T (i .0) d l (rw ed (link-lt g t T z sound)));
+          are = λ s laid. basic-answer s g laid (decode g t) (i .0) (p .0) _ (nth-displaced g t T (i .0) l h z over last-is sound (p .0) run d ed er low);
+        }
 
-    long-start : run .start ≡ basicSlots g (i .0)
-    unfolding displacedRun
-    long-start = ap (λ (b : Slots). b .start) er
+    pub long-under : LongRow → Stands g t (λ s. retrieveBasic s (decode g t) (i .0) (p .0)) (spot.Under i run p)
+    long-under r = under-row g t (T .proper) run (r .within) i l p _ (r .are) (r .holds)
 
-    long-displaced : run .displaced ≡ g .link
-    unfolding displacedRun
-    long-displaced = ap (λ (b : Slots). b .displaced) er
-
-    pub long-under : Stands g t (λ s. retrieveBasic s (decode g t) (i .0) (p .0)) (spot.Under i run p)
-    long-under = under-row g t (T .proper) run long-within i l p _ long-row (omega (arith, long-count))
-
-    pub long-slot : (at : ℕ) → at ≡ basicSlot g (i .0) (p .0) → run .start + g .link ≤ at → Stands g t (λ s. retrieveBasic s (decode g t) (i .0) (p .0)) (spot.Slot i at)
+    pub long-slot : LongRow → (at : ℕ) → at ≡ basicSlot g (i .0) (p .0) → run .start + g .link ≤ at → Stands g t (λ s. retrieveBasic s (decode g t) (i .0) (p .0)) (spot.Slot i at)
     unfolding basicSlot
-    long-slot at e o =
-        in-row g t (T .proper) run long-within i l p _ long-row (omega (arith, long-count)) at (omega (arith, long-start)) (omega (arith, long-displaced))
+    long-slot r at e o =
+        in-row g t (T .proper) run (r .within) i l p _ (r .are) (r .holds) at (omega (arith, r .start)) (omega (arith, r .displaced))
 
 -- ---- a slot of overflow block j, which names list i
+
+-- whether the list, which has an end, has the block
+pub record Listed (g : Layout) (t : List ℕ) (i j : ℕ) (x : Bool) : Type 0 where
+  pub list : Content
+  pub is : content g (decode g t) i ≡ some list
+  pub has : ltb 0 (occurs j (list .blocks)) ≡ x
 
 module _ (g : Layout) (t : List ℕ) (i : ListNumber) (j : ℕ) (k : SlotNumber) (owner-is : i .0 ≡ overflowAt (decode g t .overflow) j .owner) where
   pub list-damaged : content g (decode g t) (i .0) ≡ none → Stands g t (λ s. retrieveOverflow s (decode g t) j (k .0)) spot.Damage
   list-damaged e = record { are = λ s laid. overflow-as s g laid (decode g t) (i .0) j (k .0) owner-is none e; readable = tt }
 
   -- the list does not have the block
-  pub not-listed : (v : Content) → content g (decode g t) (i .0) ≡ some v → ltb 0 (occurs j (v .blocks)) ≡ false
-      → Stands g t (λ s. retrieveOverflow s (decode g t) j (k .0)) spot.Empty
-  not-listed v e n = record { are = λ s laid. unlisted s g laid (decode g t) (i .0) j (k .0) owner-is v e n; readable = tt }
+  pub not-listed : Listed g t (i .0) j false → Stands g t (λ s. retrieveOverflow s (decode g t) j (k .0)) spot.Empty
+  not-listed v = record { are = λ s laid. unlisted s g laid (decode g t) (i .0) j (k .0) owner-is (v .list) (v .is) (v .has); readable = tt }
 
   pub no-blocks : basicAt (decode g t .basic) (i .0) .counter ≤ g .sib → Stands g t (λ s. retrieveOverflow s (decode g t) j (k .0)) spot.Empty
-  no-blocks h = not-listed _ (content-short g (decode g t) (i .0) h) refl
+  no-blocks h = not-listed (record { list = _; is = content-short g (decode g t) (i .0) h; has = refl })
 
   -- it has the block: the counter decides
-  module _ (T : Table g t) (l : i .0 < g .lists) (jl : j < g .nob) (kl : k .0 < g .sio) (v : Content) (list-is : content g (decode g t) (i .0) ≡ some v)
-      (has : ltb 0 (occurs j (v .blocks)) ≡ true) (c : ℕ) (ec : c ≡ overflowAt (decode g t .overflow) j .counter) where
+  module _ (T : Table g t) (l : i .0 < g .lists) (jl : j < g .nob) (kl : k .0 < g .sio) (v : Listed g t (i .0) j true) (c : ℕ) (ec : c ≡ overflowAt (decode g t .overflow) j .counter) where
     block-row : (s : Settings) → layoutOf s ≡ g
         → onNth s (i .0) (nthOf g (slotsIn g t (overflowRun g j c)) (k .0)) (λ m. answer.None) ≡ retrieveOverflow s (decode g t) j (k .0)
     block-row s laid =
         ap (λ (xs : List ℕ). onNth s (i .0) (nthOf g xs (k .0)) (λ m. answer.None))
         (ap (λ (n : ℕ). slotsIn g t (overflowRun g j n)) ec ∙ overflow-slots-in g t T j (overflowAt (decode g t .overflow) j .counter) jl)
-        ∙ slot-answer s g laid (decode g t) (i .0) j (k .0) owner-is v list-is has (sized g t T j jl) kl
+        ∙ slot-answer s g laid (decode g t) (i .0) j (k .0) owner-is (v .list) (v .is) (v .has) (sized g t T j jl) kl
 
     pub block-empty : c < k .0 → Stands g t (λ s. retrieveOverflow s (decode g t) j (k .0)) spot.Empty
     unfolding overflowRun

@@ -8,3 +8,4 @@ pub mod Cuts
 pub mod Dotted
 pub mod Grammar
 pub mod Spaces
+pub mod Lengths

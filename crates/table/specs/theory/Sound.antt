@@ -17,7 +17,7 @@ use Rattle.bits.specs.Field.{field}
 use Rattle.settings.specs.declared.layout.Layout.{Layout}
 use Rattle.table.specs.State.{Basic, Overflow, State, basicAt, overflowAt, ownSlots, entryOf}
 use Rattle.table.specs.Decode.{decode}
-use Rattle.table.specs.Follow.{Content, mkContent, follow, isOwn, ownBlocks, contentOver, contentOf, content}
+use Rattle.table.specs.Follow.{Content, mkContent, follow, ownBlocks, contentOver, contentOf, content}
 use Rattle.table.specs.Take.{occurs}
 use Rattle.table.specs.Check.{blocksOf, basicUnused, overflowUnused, freeZero, noEntryTwice, listSound, listsSound, freeChain, occursInLists, chainSound, stateSound, fillZero, tableSound}
 use Rattle.table.specs.Sound.{SoundState, Sound}
@@ -139,10 +139,10 @@ module _ (g : Layout) where
             (below-at (g .lists) (λ i. listSound g (basicAt (st .basic) i) (st .overflow) (content g st i)) e i h)
 
         free : (j : ℕ) → every (freeZero g (st .overflow)) fs ≡ true → 0 < occurs j fs
-            → (eqb (overflowAt (st .overflow) j .counter) 0 ≡ true) × (isOwn 0 (st .overflow) j ≡ true) × (allZero (overflowAt (st .overflow) j .slots) ≡ true)
+            → (eqb (overflowAt (st .overflow) j .counter) 0 ≡ true) × (eqb (overflowAt (st .overflow) j .owner) 0 ≡ true) × (allZero (overflowAt (st .overflow) j .slots) ≡ true)
         free j z h =
             let a = both-true (eqb (overflowAt (st .overflow) j .counter) 0) _ (every-at (freeZero g (st .overflow)) fs j z h) in
-            let b = both-true (isOwn 0 (st .overflow) j) (allZero (overflowAt (st .overflow) j .slots)) (a .1) in
+            let b = both-true (eqb (overflowAt (st .overflow) j .owner) 0) (allZero (overflowAt (st .overflow) j .slots)) (a .1) in
             (a .0, b .0, b .1)
 
     -- the test of a state, and what clause 6.10 says of it

@@ -9,10 +9,13 @@ use lib.ListN.{length, replicate}
 use lib.Dec.{ltb, eqb}
 use borrow.Author.Tests.{lt-ltb, ltb-true, eq-eqb, eqb-true}
 use Rattle.laws.specs.Options.{nothing, when-some}
+use Rattle.keys.specs.declared.Key.{Key}
 use Rattle.text_read.specs.Class.{classOf, colon}
 use Rattle.text_read.specs.Numerals.{group}
 use Rattle.text_read.specs.Reading.{split, push, dotted, orElse, groups, part, Cut, whole, parted, behind, begins, cut, eight, filled, groupsOfCut, groupsOfColons, mapped, firstOf, groupsOf}
 use Rattle.text_read.specs.Grammar.{Dotted, four, Groups, one, two, more, Side, empty, full, Spells, plain, gap, bare}
+use Rattle.text_read.specs.Answers.{keyed, readingOf}
+use Rattle.text_read.specs.declared.Parsed.the-variants as parsed
 use Rattle.text_read.specs.theory.Bytes.{aColon}
 use Rattle.text_read.specs.theory.Options.{push-some}
 use Rattle.text_read.specs.theory.Numerals.{group-numeral, group-read, read-group}
@@ -175,3 +178,16 @@ read-spells s l e = go (groupsOfColons s) refl (dotted s) refl e
     go (some m) g d f e = unfold firstOf in (let q : m ≡ l = cc in colons-spell s l (g ∙ ap some q))
     go none g (some m) f e = unfold firstOf mapped in (let q : replicate 5 0 ++ 65535 ∷ m ≡ l = cc in rw q at (bare (read-dotted s m f)))
     go none g none f e = unfold firstOf mapped in nothing e
+
+-- so a text that is read as a key is spelled by the grammar
+pub record Legal (s : List ℕ) : Type 0 where
+  pub read : List ℕ
+  pub spells : Spells s read
+
+pub read-legal : (s : List ℕ) (k : Key) → readingOf s ≡ parsed.Key k → Legal s
+unfolding readingOf
+read-legal s k e = go (groupsOf s) refl e
+  where
+    go : (o : Option (List ℕ)) → groupsOf s ≡ o → keyed o ≡ parsed.Key k → Legal s
+    go none g e = unfold keyed in (let z : _≡_ {A = ℕ} 0 1 = cc in absurd (omega arith))
+    go (some l) g e = record { read = l; spells = read-spells s l g }

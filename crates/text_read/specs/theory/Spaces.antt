@@ -2,7 +2,6 @@
 use mathlib.Core.Path.{_≡_, refl}
 use mathlib.Core.Bool.{Bool, false}
 use mathlib.Core.List.{List, _∷_, _++_}
-use mathlib.Core.Option.{Option, none, some}
 use Prim.Native.Nat.{ℕ, _+_, _<_}
 use native.Mathlib.Omega.{arith}
 use lib.Dec.{eqb}
@@ -10,12 +9,11 @@ use borrow.Author.Tests.{ne-eqb}
 use Rattle.keys.specs.declared.Key.{Key}
 use Rattle.text_read.specs.Class.{classOf, other}
 use Rattle.text_read.specs.Grammar.{HexDigit, decimalDigit, Group, hex1, hex2, hex3, hex4, Decimal, dec1, dec2, dec3, Dotted, four, Groups, one, two, more, Side, empty, full, Spells, plain, gap, bare}
-use Rattle.text_read.specs.Reading.{groupsOf}
-use Rattle.text_read.specs.Answers.{keyed, readingOf}
+use Rattle.text_read.specs.Answers.{readingOf}
 use Rattle.text_read.specs.declared.Parsed.the-variants as parsed
 use Rattle.text_read.specs.theory.Bytes.{Separator, aColon, aDot, digit-class, digit-below}
 use Rattle.text_read.specs.theory.Splits.{Without, without-append}
-use Rattle.text_read.specs.theory.Grammar.{read-spells}
+use Rattle.text_read.specs.theory.Grammar.{read-legal}
 
 digit-known : {x a : ℕ} → HexDigit x a → eqb (classOf x) other ≡ false
 digit-known {x} d = ne-eqb (classOf x) other (λ e. omega (arith, digit-class d, digit-below d))
@@ -64,9 +62,4 @@ spells-known (bare r) = dotted-known r
 
 -- a text that is read as a key has no byte but these
 pub read-classes : (x : List ℕ) (k : Key) → readingOf x ≡ parsed.Key k → Without other x
-unfolding readingOf
-read-classes x k e = go (groupsOf x) refl e
-  where
-    go : (o : Option (List ℕ)) → groupsOf x ≡ o → keyed o ≡ parsed.Key k → Without other x
-    go none g e = unfold keyed in (let z : _≡_ {A = ℕ} 0 1 = cc in absurd (omega arith))
-    go (some l) g e = spells-known (read-spells x l g)
+read-classes x k e = spells-known (read-legal x k e .spells)

@@ -4,11 +4,11 @@ use native.Mathlib.Omega.{arith}
 use denote.Ref.{now}
 use borrow.Author.Needs.{needs}
 use Rattle.table.specs.Decode.{decode}
-use Rattle.table_read.specs.Steps.{SlotsWithin, lastFrom, Overflows}
+use Rattle.table_read.specs.Steps.{lastFrom, Overflows}
 use Rattle.table_read.specs.theory.Lasts.{EndsAt, ends-at, no-end}
 use Rattle.table_read.specs.theory.Walks.{content-high}
 use Rattle.table_record.proofs.Records.{list-unended}
-use Rattle.table_record.proofs.Retrievals.{basic-damaged, long-within, long-under, long-slot}
+use Rattle.table_record.proofs.Retrievals.{LongRow, basic-damaged, long-row, long-under, long-slot}
 use Rattle.table_record.proofs.slot.in_long.Statement.{statement}
 use Rattle.table_record.proofs.slot.in_long.Tie as tie
 
@@ -75,39 +75,35 @@ overflow-link-requires c κs =
 displaced-run-requires : tie.Need-displaced-run-requires
 displaced-run-requires c κs = search needs
 
-returns-3 : tie.Need-returns-3
-returns-3 c =
-    let r = c .before .before .before in
+-- the basic block's slots, behind the displaced bits
+row : (r : tie.After-displaced-run) → let a = start (head (ended r)) in
+    LongRow (a .args .g) (now (a .args .t)) (a .pre .0) (a .args .i) (a .pre .1) (a .args .p) (r .displaced-run .result)
+row r =
     let e = ended r in
     let h = head e in
     let a = start h in
-    long-under (a .args .g) (now (a .args .t)) (a .pre .0) (a .args .i) (a .pre .1) (a .args .p) (h .basic-head .result) (e .last .given .0 .0 .0) (over h)
-    (end e .is) (end e .low) (a .pre .2) (r .before .overflow-link .result) (r .before .overflow-link .ensures) (r .displaced-run .result) (r .displaced-run .ensures)
-
-returns-4 : tie.Need-returns-4
-returns-4 c =
-    let r = c .before .before .before in
-    let e = ended r in
-    let h = head e in
-    let a = start h in
-    let s = r .before .before in
-    long-slot (a .args .g) (now (a .args .t)) (a .pre .0) (a .args .i) (a .pre .1) (a .args .p) (h .basic-head .result) (e .last .given .0 .0 .0) (over h)
-    (end e .is) (end e .low) (a .pre .2) (r .before .overflow-link .result) (r .before .overflow-link .ensures) (r .displaced-run .result) (r .displaced-run .ensures)
-    (s .basic-slot .result) (s .basic-slot .ensures) (omega (arith, c .if2 .left))
-
-within : (r : tie.After-displaced-run) → let a = start (head (ended r)) .args in SlotsWithin (a .g) (now (a .t)) (r .displaced-run .result)
-within r =
-    let e = ended r in
-    let h = head e in
-    let a = start h in
-    long-within (a .args .g) (now (a .args .t)) (a .pre .0) (a .args .i) (a .pre .1) (a .args .p) (h .basic-head .result) (e .last .given .0 .0 .0) (over h)
-    (end e .is) (end e .low) (a .pre .2) (r .before .overflow-link .result) (r .before .overflow-link .ensures) (r .displaced-run .result) (r .displaced-run .ensures)
+    long-row (a .args .g) (now (a .args .t)) (a .pre .0) (a .args .i) (a .pre .1) (a .args .p) (r .displaced-run .result) (h .basic-head .result)
+    (e .last .given .0 .0 .0) (over h) (end e .is) (end e .low) (a .pre .2) (r .before .overflow-link .result) (r .before .overflow-link .ensures) (r .displaced-run .ensures)
 
 add-if2 : tie.Need-add-if2
 add-if2 c =
     let r = c .before .before in
     let a = start (head (ended r)) in
-    omega (arith, within r .near, a .pre .0 .proper .link-high)
+    omega (arith, row r .within .near, a .pre .0 .proper .link-high)
+
+returns-3 : tie.Need-returns-3
+returns-3 c =
+    let r = c .before .before .before in
+    let a = start (head (ended r)) in
+    long-under (a .args .g) (now (a .args .t)) (a .pre .0) (a .args .i) (a .pre .1) (a .args .p) (r .displaced-run .result) (row r)
+
+returns-4 : tie.Need-returns-4
+returns-4 c =
+    let r = c .before .before .before in
+    let a = start (head (ended r)) in
+    let s = r .before .before in
+    long-slot (a .args .g) (now (a .args .t)) (a .pre .0) (a .args .i) (a .pre .1) (a .args .p) (r .displaced-run .result) (row r)
+    (s .basic-slot .result) (s .basic-slot .ensures) (omega (arith, c .if2 .left))
 
 pub in-long-spec : {M : Type 1} → statement M
 in-long-spec =

@@ -8,11 +8,10 @@ use borrow.Author.Needs.{needs}
 use borrow.Author.Tests.{not-true, not-false}
 use Rattle.table.specs.Decode.{decode}
 use Rattle.table_read.specs.Steps.{lastFrom, OwnFollowed, Overflows}
-use Rattle.table_read.specs.BlockSlots.{hasBlock}
 use Rattle.table_read.specs.theory.Lasts.{ends-at, no-end}
 use Rattle.table_read.specs.theory.Walks.{ended-own, content-high}
 use Rattle.table_record.proofs.Records.{list-unended, list-own, list-content}
-use Rattle.table_record.proofs.Retrievals.{owner-below, has-own, no-blocks, list-damaged, not-listed, block-empty, block-slot}
+use Rattle.table_record.proofs.Retrievals.{Listed, owner-below, has-own, no-blocks, list-damaged, not-listed, block-empty, block-slot}
 use Rattle.table_record.proofs.slot.in_overflow.Statement.{statement}
 use Rattle.table_record.proofs.slot.in_overflow.Tie as tie
 
@@ -61,9 +60,18 @@ own c =
     let a = start f in
     list-own (a .args .g) (now (a .args .t)) (a .pre .0) (fields f .owned-front .result .owner .0) (list f) (f .basic-front .result .link) _ (over (long c)) refl (end c)
 
-has : (c : tie.After-list-has-block) (x : Bool) → c .list-has-block .result ≡ x → let f = front (long (c .before)) in let a = start f .args in
-    hasBlock (a .g) (a .g .nob) (decode (a .g) (now (a .t)) .overflow) (f .basic-front .result .link) (a .j .0) ≡ x
-has c x e = sym (c .list-has-block .ensures) ∙ e
+listed : (c : tie.After-list-has-block) (x : Bool) → c .list-has-block .result ≡ x → let f = front (long (c .before)) in let a = start f .args in
+    Listed (a .g) (now (a .t)) (fields f .owned-front .result .owner .0) (a .j .0) x
+listed c x e =
+    let f = front (long (c .before)) in
+    let a = start f in
+    let g = a .args .g in
+    let t = now (a .args .t) in
+    record {
+      list = _;
+      is = list-content g t (a .pre .0) (fields f .owned-front .result .owner .0) (list f) (f .basic-front .result .link) _ (over (long (c .before))) refl (end (c .before));
+      has = has-own g (decode g t .overflow) (a .args .j .0) (own (c .before)) x (sym (c .list-has-block .ensures) ∙ e);
+    }
 
 owned-front-requires : tie.Need-owned-front-requires
 owned-front-requires c κs = search needs
@@ -119,29 +127,19 @@ list-has-block-requires c κs =
 
 returns-4 : tie.Need-returns-4
 returns-4 c =
-    let h = c .before in
-    let e = h .before in
-    let f = front (long e) in
+    let f = front (long (c .before .before)) in
     let a = start f in
-    let g = a .args .g in
-    let t = now (a .args .t) in
-    not-listed g t (fields f .owned-front .result .owner) (a .args .j .0) (a .args .k) (fields f .owned-front .ensures .2) _
-    (list-content g t (a .pre .0) (fields f .owned-front .result .owner .0) (list f) (f .basic-front .result .link) _ (over (long e)) refl (end e))
-    (has-own g (decode g t .overflow) (a .args .j .0) (own e) false (has h false (not-true _ (c .if3 .taken))))
+    not-listed (a .args .g) (now (a .args .t)) (fields f .owned-front .result .owner) (a .args .j .0) (a .args .k) (fields f .owned-front .ensures .2)
+    (listed (c .before) false (not-true _ (c .if3 .taken)))
 
 returns-5 : tie.Need-returns-5
 returns-5 c =
     let x = c .before .before .before in
-    let h = x .before in
-    let e = h .before in
-    let f = front (long e) in
+    let f = front (long (x .before .before)) in
     let a = start f in
-    let g = a .args .g in
-    let t = now (a .args .t) in
-    block-empty g t (fields f .owned-front .result .owner) (a .args .j .0) (a .args .k) (fields f .owned-front .ensures .2) (a .pre .0) (list f) (a .pre .1) (a .pre .2) _
-    (list-content g t (a .pre .0) (fields f .owned-front .result .owner .0) (list f) (f .basic-front .result .link) _ (over (long e)) refl (end e))
-    (has-own g (decode g t .overflow) (a .args .j .0) (own e) true (has h true (not-false _ (x .if3 .left))))
-    (fields f .owned-front .result .front .counter) (fields f .owned-front .ensures .0) (omega (arith, c .if4 .taken))
+    block-empty (a .args .g) (now (a .args .t)) (fields f .owned-front .result .owner) (a .args .j .0) (a .args .k) (fields f .owned-front .ensures .2) (a .pre .0) (list f)
+    (a .pre .1) (a .pre .2) (listed (x .before) true (not-false _ (x .if3 .left))) (fields f .owned-front .result .front .counter) (fields f .owned-front .ensures .0)
+    (omega (arith, c .if4 .taken))
 
 overflow-slot-requires : tie.Need-overflow-slot-requires
 overflow-slot-requires c κs =
@@ -151,16 +149,11 @@ overflow-slot-requires c κs =
 returns-6 : tie.Need-returns-6
 returns-6 c =
     let x = c .before .before .before .before in
-    let h = x .before in
-    let e = h .before in
-    let f = front (long e) in
+    let f = front (long (x .before .before)) in
     let a = start f in
-    let g = a .args .g in
-    let t = now (a .args .t) in
-    block-slot g t (fields f .owned-front .result .owner) (a .args .j .0) (a .args .k) (fields f .owned-front .ensures .2) (a .pre .0) (list f) (a .pre .1) (a .pre .2) _
-    (list-content g t (a .pre .0) (fields f .owned-front .result .owner .0) (list f) (f .basic-front .result .link) _ (over (long e)) refl (end e))
-    (has-own g (decode g t .overflow) (a .args .j .0) (own e) true (has h true (not-false _ (x .if3 .left))))
-    (fields f .owned-front .result .front .counter) (fields f .owned-front .ensures .0) (c .overflow-slot .result) (c .overflow-slot .ensures) (omega (arith, c .before .if4 .left))
+    block-slot (a .args .g) (now (a .args .t)) (fields f .owned-front .result .owner) (a .args .j .0) (a .args .k) (fields f .owned-front .ensures .2) (a .pre .0) (list f)
+    (a .pre .1) (a .pre .2) (listed (x .before) true (not-false _ (x .if3 .left))) (fields f .owned-front .result .front .counter) (fields f .owned-front .ensures .0)
+    (c .overflow-slot .result) (c .overflow-slot .ensures) (omega (arith, c .before .if4 .left))
 
 pub in-overflow-spec : {M : Type 1} → statement M
 in-overflow-spec =

@@ -1,0 +1,29 @@
+-- What an address without a space asks for, alone and with a label behind it.
+use mathlib.Core.Path.{_≡_, refl}
+use mathlib.Core.Bool.{true}
+use mathlib.Core.List.{List, [], _∷_, _++_}
+use mathlib.Core.Option.{Option, some}
+use Prim.Native.Nat.{ℕ, _≤_}
+use native.Mathlib.Omega.{arith}
+use lib.ListN.{length}
+use Rattle.program_commands.specs.Fields.{space, fields}
+use Rattle.program_commands.specs.Command.{Command, mkCommand, opOf, labelOf, addressed, takesLabel, asked}
+use Rattle.program_commands.specs.Steps.{spaceless}
+use Rattle.program_commands.specs.declared.command.Op.{Op}
+use Rattle.program_commands.specs.theory.Fields.{fields-one, fields-join}
+use Rattle.program_commands.specs.theory.Labels.{label-means}
+use Rattle.program_commands.specs.theory.Spaces.{digits-spaceless}
+
+addressed-some : (x : List ℕ) (c : Option Command) → 1 ≤ length x → addressed x c ≡ c
+addressed-some [] c h = absurd (omega arith)
+addressed-some (b ∷ x) c h = refl
+
+pub asked-alone : (c : ℕ) (o : Op) (x : List ℕ) → opOf c ≡ some o → spaceless x ≡ true → 1 ≤ length x → asked c (fields x) ≡ some (mkCommand o x 0)
+unfolding asked
+asked-alone c o x p t h = rw (fields-one x t, p) (addressed-some x (some (mkCommand o x 0)) h)
+
+pub asked-labelled : (c : ℕ) (o : Op) (x y : List ℕ) (v : ℕ) → opOf c ≡ some o → takesLabel o ≡ true → labelOf y ≡ some v → spaceless x ≡ true → 1 ≤ length x
+    → asked c (fields (x ++ space ∷ y)) ≡ some (mkCommand o x v)
+unfolding asked
+asked-labelled c o x y v p q e t h =
+    rw (fields-join x y, fields-one x t, fields-one y (digits-spaceless y (label-means y v e .ten)), e, p, q) (addressed-some x (some (mkCommand o x v)) h)
