@@ -1,6 +1,6 @@
 """lines.py N SEED [rough]: N lines for the program: 20 % enter, 15 % delete, 65 % find, over 900 addresses in several
-spellings. With "rough", one address in eight is of IPv4, one find in five is a relabel, and one line in ten is broken
-in some way."""
+spellings. With "rough", one address in eight is of IPv4, one find in five is a relabel, one label in four is left out,
+and one line in ten is broken in some way."""
 import ipaddress
 import random
 import sys
@@ -33,6 +33,8 @@ def spelling(key):
 
 
 def labelled(command, key):
+    if rough and random.random() < 0.25:
+        return "%s %s" % (command, spelling(key))
     return "%s %s %d" % (command, spelling(key), random.randrange(256))
 
 

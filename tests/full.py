@@ -19,7 +19,7 @@ def addresses(number, n, first=0):
 
 def enters(lengths):
     """Lines that fill list 0, 1, .. so far."""
-    return ["+ " + a for number, n in enumerate(lengths) for a in addresses(number, n)]
+    return [f"+ {a} 0" for number, n in enumerate(lengths) for a in addresses(number, n)]
 
 
 def blocks(n):
@@ -40,7 +40,7 @@ def expect(given, due, what):
 fewest = NOB * SIO + SIB
 expect(fewest, 196, "the fewest")
 one = addresses(5, fewest + 1)
-expect([a.split(" ", 1)[1] for a in answers(["+ " + a for a in one] + ["? " + one[-1]])],
+expect([a.split(" ", 1)[1] for a in answers([f"+ {a} 0" for a in one] + ["? " + one[-1]])],
        [f"added 0 {n}" for n in range(fewest)] + ["8", f"none 0 {fewest}"], "one list")
 
 # An address that is held is refused with 12, not 8, and keeps its label; it can be relabelled, each in its place. One
@@ -58,7 +58,7 @@ most = enters([fewest] + [SIB] * (LISTS - 1))
 expect(len(most), 1216, "the most")
 words = [a.split()[1] for a in answers(most + ["+ " + address(number, 1000) for number in range(LISTS)])]
 expect(words, ["added"] * len(most) + ["8"] * LISTS, "every slot")
-again = answers(most + most + [line.replace("+", "=") + " 255" for line in most])[len(most):]
+again = answers(most + most + [line.replace("+", "=")[:-1] + "255" for line in most])[len(most):]
 expect(again[:len(most)], ["refused 12"] * len(most), "every address again")
 expect([a.split()[1:3] for a in again[len(most):]], [["relabelled", "0"]] * len(most), "every label")
 
@@ -90,5 +90,5 @@ for full in (SIB, SIB + SIO, SIB + 5 * SIO):
 
 # Addresses whose entries differ by multiples of p and whose first bytes are equal are in one list, for all a, b.
 same = [str(ipaddress.IPv6Address(0x20 << 120 | 0xdb8 + P * k)) for k in range(fewest + 1)]
-expect([a.split(" ", 1)[1] for a in answers(["+ " + a for a in same])], [f"added 0 {n}" for n in range(fewest)] + ["8"],
+expect([a.split(" ", 1)[1] for a in answers([f"+ {a} 0" for a in same])], [f"added 0 {n}" for n in range(fewest)] + ["8"],
        "entries that are equal modulo p")

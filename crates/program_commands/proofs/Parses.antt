@@ -8,12 +8,12 @@ use native.Mathlib.Omega.{arith}
 use lib.ListN.{length, getD, take, drop, length-drop}
 use lib.Seq.{take-all}
 use lib.Dec.{eqb, leb, ltb}
-use borrow.Author.Tests.{ltb-true, ltb-false, le-leb, eq-eqb, ne-eqb, eqb-true, eqb-false}
+use borrow.Author.Tests.{ltb-true, ltb-false, ne-eqb, eqb-true, eqb-false}
 use Rattle.laws.specs.Cases.{cases, cond-same}
 use Rattle.program_lines.specs.Ends.{before, firstFrom}
 use Rattle.program_lines.specs.theory.Ends.{first-after, first-le}
 use Rattle.program_commands.specs.Fields.{space, fields}
-use Rattle.program_commands.specs.Command.{mkCommand, opOf, labelOf, addressed, takesLabel, withLabel, asked, spelled, longestLine, commandOf}
+use Rattle.program_commands.specs.Command.{mkCommand, opOf, labelOf, addressed, takesLabel, missingLabel, withLabel, asked, spelled, longestLine, commandOf}
 use Rattle.program_commands.specs.Steps.{labelNumber, labelRoom, Begins, Labelled, spaceless, addressIn, requested, Asks}
 use Rattle.program_commands.specs.declared.command.Op.{Op}
 use Rattle.program_commands.specs.declared.command.Op.the-variants as op
@@ -23,7 +23,7 @@ use Rattle.program_commands.specs.theory.Fields.{Some, fields-some, fiel
 use Rattle.program_commands.proofs.Places.{first-at, first-same, address-length, parted, Room, room}
 use Rattle.program_commands.proofs.Labels.{label-long, number-none, number-some}
 use Rattle.program_commands.specs.theory.Long.{long-none}
-use Rattle.program_commands.specs.theory.Asked.{asked-alone, asked-labelled}
+use Rattle.program_commands.specs.theory.Asked.{fielded, asked-alone, asked-labelled}
 
 -- one of two tests holds
 either : {A : Type 0} (t u : Bool) → (t || u) ≡ true → (t ≡ true → A) → (u ≡ true → A) → A
@@ -57,7 +57,7 @@ module _ (c : ℕ) where
 
   -- with one field there is a command, with more there is not
   alone : (o : Op) (s : List ℕ) → opOf c ≡ some o → 1 ≤ length s → (spaceless s ≡ false → asked c (fields s) ≡ none)
-      → asked c (fields s) ≡ cond (spaceless s) (some (mkCommand o s 0)) none
+      → asked c (fields s) ≡ cond (spaceless s) (some (mkCommand o s (missingLabel o))) none
   alone o s p h f =
       cases (spaceless s) (λ t. rw t (asked-alone c o s p t h)) (λ t. rw (t, f t))
 
@@ -142,8 +142,7 @@ begun l c b = go l (b .low) (b .high) (b .first) (b .second)
     go : (l : List ℕ) → 3 ≤ length l → length l ≤ longestLine → getD l 0 0 ≡ c → getD l 1 0 ≡ space → commandOf l ≡ asked c (fields (drop 2 l))
     go [] low high first second = absurd (omega arith)
     go (x ∷ []) low high first second = absurd (omega arith)
-    go (x ∷ y ∷ s) low high first second =
-        unfold commandOf spelled in rw (le-leb (length (x ∷ y ∷ s)) longestLine high, first, eq-eqb y space second)
+    go (x ∷ y ∷ s) low high first second = rw (first, second) (fielded c s high)
 
 -- the address that goes to the end of the line
 whole : (l : List ℕ) (e : ℕ) → e ≡ length l → addressIn l e ≡ drop 2 l
@@ -161,17 +160,18 @@ module _ (l : List ℕ) (c : ℕ) (b : Begins l c) where
 
   -- an address that goes to the end of the line
   alone-asks : (o : Op) (e : ℕ) → opOf c ≡ some o → e ≡ length l → (spaceless (drop 2 l) ≡ false → asked c (fields (drop 2 l)) ≡ none)
-      → Asks l (answer.Request (asks-for o e 0))
+      → Asks l (answer.Request (asks-for o e (missingLabel o)))
   alone-asks o e p h f = record {
     is = begun l c b ∙ alone c o (drop 2 l) p (omega (arith, length-drop 2 l, b .low)) f ∙ (unfold requested in rw (whole l e h));
     bounded = (omega (arith, b .low), omega arith);
   }
 
-  -- without a label
+  -- of an op that takes no label
   address-asks : (o : Op) → opOf c ≡ some o → takesLabel o ≡ false → Asks l (answer.Request (asks-for o (length l) 0))
   address-asks o p n =
-      alone-asks o (length l) p refl
-      (λ t. no-second c (λ x m. rw p (no-label-taken o n x m)) (fields (drop 2 l)) (fields-more (drop 2 l) t))
+      rw n at
+      (alone-asks o (length l) p refl
+      (λ t. no-second c (λ x m. rw p (no-label-taken o n x m)) (fields (drop 2 l)) (fields-more (drop 2 l) t)))
 
 module _ (l : List ℕ) where
   pub delete-asks : Begins l 45 → Asks l (answer.Request (asks-for op.Delete (length l) 0))
@@ -207,8 +207,8 @@ module _ (l : List ℕ) (o : Op) (a : Labelled l o) (k e : ℕ) (r : k ≡ label
       ap (asked (a .byte)) (ap fields (cut-first s p .is))
       ∙ second (a .byte) o (a .stands) (take j s) (drop (suc j) s) (label-long (drop (suc j) s) (omega (arith, length-drop (suc j) s, length-drop 2 l)))
 
-  pub labelled-alone : e ≡ length l → Asks l (answer.Request (asks-for o e 0))
-  labelled-alone h = alone-asks l (a .byte) (a .begins) o e (a .stands) h (too-long h)
+  pub labelled-alone : e ≡ length l → Asks l (answer.Request (asks-for o e 1))
+  labelled-alone h = rw (a .takes) at (alone-asks l (a .byte) (a .begins) o e (a .stands) h (too-long h))
 
   module _ (n : e ≡ length l → ⊥) where
     below : e < length l

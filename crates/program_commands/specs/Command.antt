@@ -32,25 +32,29 @@ abbrev pub addressed : List ℕ → Option Command → Option Command
 addressed [] c = none
 addressed (b ∷ x) c = c
 
-abbrev pub withOp : Option Op → List ℕ → ℕ → Option Command
-withOp none x n = none
-withOp (some o) x n = some (mkCommand o x n)
-
 abbrev pub takesLabel : Op → Bool
 takesLabel op.Enter = true
 takesLabel op.Relabel = true
 takesLabel op.Delete = false
 takesLabel op.Find = false
 
+-- a missing label means 1; an op that takes no label has 0
+abbrev pub missingLabel : Op → ℕ
+missingLabel o = cond (takesLabel o) 1 0
+
+abbrev pub withoutLabel : Option Op → List ℕ → Option Command
+withoutLabel none x = none
+withoutLabel (some o) x = some (mkCommand o x (missingLabel o))
+
 abbrev pub withLabel : Option Op → List ℕ → Option ℕ → Option Command
 withLabel none x m = none
 withLabel (some o) x none = none
 withLabel (some o) x (some n) = cond (takesLabel o) (some (mkCommand o x n)) none
 
--- the command of the byte c and the fields behind it; without a label and its space the label is 0
+-- the command of the byte c and the fields behind it: an address, with a label or without
 unfoldable pub asked : ℕ → List (List ℕ) → Option Command
 asked c [] = none
-asked c (x ∷ []) = addressed x (withOp (opOf c) x 0)
+asked c (x ∷ []) = addressed x (withoutLabel (opOf c) x)
 asked c (x ∷ y ∷ []) = addressed x (withLabel (opOf c) x (labelOf y))
 asked c (x ∷ y ∷ z ∷ f) = none
 

@@ -32,6 +32,9 @@ pub const LINE_MAX: usize = 64;
 // More than any label of three digits: what stands there is no label.
 pub const NO_LABEL: u32 = 1000;
 
+// The label of a "+" or "=" line without one. It is not 0, which providers use for "watch only".
+pub const MISSING_LABEL: u32 = 1;
+
 fn is_digit(b: u8) -> bool
     ensures { λ r. ⌜ r ≡ isDigit b ⌝ }
 {
@@ -81,7 +84,11 @@ fn parse_labelled(line: &[u8], op: Op) -> Asked
     let n = line.len();
     let end = find_byte(line, b' ', label_room(n));
     if end == n {
-        return Asked::Request(Request { op, end, label: 0 });
+        return Asked::Request(Request {
+            op,
+            end,
+            label: MISSING_LABEL,
+        });
     }
     let label = label_from(line, end + 1);
     if (label == NO_LABEL) | (end == 2) {
