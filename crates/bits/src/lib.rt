@@ -1,5 +1,7 @@
 // Fields in lent bytes (clause 4.1). A
 // field is 0 to 64 bits wide and starts at any bit.
+#![tactic(auto)]
+
 mod byte;
 mod near_end;
 mod number;

@@ -1,1 +1,3 @@
 // Demand 3, stated and proved: theorems only.
+#![tactic(auto)]
+

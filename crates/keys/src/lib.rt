@@ -1,4 +1,6 @@
 // From a key to its list, and back.
+#![tactic(auto)]
+
 ghost use Rattle.std.specs.Prelude.{◌≡◌, ◌+◌, ◌-◌, ◌*◌, ◌/◌, ◌%◌, ◌^◌, ◌<◌, ◌≤◌, ltb};
 ghost use Rattle.settings.specs.Prime.{prime_above};
 ghost use Rattle.settings.specs.Sizes.{bie};
@@ -9,28 +11,28 @@ use settings::Settings;
 
 // A key of up to 128 bits: the number high * 2^64 + low. Laid out as C lays it out, for C callers.
 #[repr(C)]
-#[derive(Drop)]
+#[derive(Clone, Copy)]
 pub struct Key {
     pub high: u64,
     pub low: u64,
 }
 
 // Lists, overflow blocks and slots are numbered separately, each from 0: a type for each.
-#[derive(Drop)]
+#[derive(Clone, Copy)]
 pub struct ListNumber(pub usize);
 
-#[derive(Drop)]
+#[derive(Clone, Copy)]
 pub struct BlockNumber(pub usize);
 
-#[derive(Drop)]
+#[derive(Clone, Copy)]
 pub struct SlotNumber(pub usize);
 
 // The free start: the first free overflow block, or nob. It is a block's number only where it is not nob.
-#[derive(Drop)]
+#[derive(Clone, Copy)]
 pub struct FreeStart(pub usize);
 
 // Where a key belongs: its list, and what a slot of the list stores of it.
-#[derive(Drop)]
+#[derive(Clone, Copy)]
 pub struct Place {
     pub list: ListNumber,
     pub entry: Key,

@@ -1,4 +1,6 @@
 // The answer to a line of the program's input: what its command comes to, and the line that is written.
+#![tactic(auto)]
+
 mod answer;
 mod outcome;
 mod text;

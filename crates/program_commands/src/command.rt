@@ -6,7 +6,7 @@ ghost use Rattle.program_commands.specs.Steps.{is_digit, label_number, label_roo
 use program_lines::find_byte;
 use settings::Refusal;
 
-#[derive(Drop)]
+#[derive(Clone, Copy)]
 pub enum Op {
     Enter,
     Relabel,
@@ -15,7 +15,7 @@ pub enum Op {
 }
 
 // A command: its address is the line's bytes from 2 to `end`.
-#[derive(Drop)]
+#[derive(Clone, Copy)]
 pub struct Request {
     pub op: Op,
     pub end: usize,
@@ -23,7 +23,7 @@ pub struct Request {
 }
 
 // What a line is, as long as its address has no space.
-#[derive(Drop)]
+#[derive(Clone, Copy)]
 pub enum Asked {
     Request(Request),
     Malformed,

@@ -1,9 +1,11 @@
 // The command reader: lines of lent input, and how far it has come.
+#![tactic(auto)]
+
 ghost use Rattle.std.specs.Prelude.{◌≡◌, true, ◌+◌, ◌≤◌, length};
 ghost use Rattle.program_lines.specs.Ends.{first_from, span_at};
 
 // What stands at a position: a line that ends at the line feed at that place, or bytes with no line feed.
-#[derive(Drop)]
+#[derive(Clone, Copy)]
 pub enum Span {
     Line(usize),
     Rest,
@@ -74,7 +76,7 @@ fn span_at(s: &[u8], at: usize) -> Span
 }
 
 // The command reader: the lent input, and how far it has come.
-#[derive(Drop)]
+#[derive(Clone, Copy)]
 pub struct Lines<'a> {
     pub src: &'a [u8],
     pub at: usize,

@@ -1,1 +1,3 @@
 // The program is the plain set of demand 3, stated and proved: theorems only.
+#![tactic(auto)]
+

@@ -1,4 +1,6 @@
 // From input bytes to output bytes: whole lines of a lent buffer are answered into a lent buffer.
+#![tactic(auto)]
+
 ghost use Rattle.std.specs.Prelude.{◌≡◌, List, ◌++◌, ℕ, ◌+◌, ◌-◌, ◌≤◌, length, take, drop};
 ghost use Rattle.text_read.specs.ReaderSteps.{Classes};
 ghost use Rattle.program_lines.specs.Ends.{span_at};
@@ -15,7 +17,7 @@ use settings::Refusal;
 
 // How far a turn has come in the input and in the output, whether the input begins inside a line that has
 // been answered, and whether there may be more lines.
-#[derive(Drop)]
+#[derive(Clone, Copy)]
 pub struct Turn {
     pub at: usize,
     pub made: usize,
@@ -134,7 +136,7 @@ fn one_turn(
 }
 
 // How far a run of turns has come, and whether it stopped because the output is full.
-#[derive(Drop)]
+#[derive(Clone, Copy)]
 pub struct Step {
     pub at: usize,
     pub made: usize,

@@ -1,5 +1,7 @@
 // Reads each line of standard input as an address and writes it again, or the number of the refusal.
 // Its input is examples of the RFCs and of our own; docs/DECISIONS.md says where what it must write comes from.
+#![tactic(auto)]
+
 ghost use Rattle.std.specs.Prelude.{◌≤◌, length};
 
 use libc::{STDIN_FILENO, STDOUT_FILENO};

@@ -10,7 +10,7 @@ use crate::settings::{Settings, lists_of};
 
 // Blocks of one kind, one after the other: where block 0 begins, and the bits of a counter and of a
 // whole block.
-#[derive(Drop)]
+#[derive(Clone, Copy)]
 pub struct Blocks {
     pub start: usize,
     pub counter: usize,
@@ -20,7 +20,7 @@ pub struct Blocks {
 // The widths of the fields, the numbers of slots and blocks, and the size of it all. The free start
 // is the bits before the basic blocks; the owner of an overflow block is the list that it belongs to.
 // Two numbers have 32 bits, so that the whole has 128 bytes: what is larger is copied by a call of memcpy.
-#[derive(Drop)]
+#[derive(Clone, Copy)]
 pub struct Layout {
     pub bie: usize,
     pub val: usize,
@@ -37,7 +37,7 @@ pub struct Layout {
     pub bytes: usize,
 }
 
-#[derive(Drop)]
+#[derive(Clone, Copy)]
 pub enum Laid {
     Layout(Layout),
     Refused(Refusal),

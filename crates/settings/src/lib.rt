@@ -1,5 +1,7 @@
 // What every call on a table starts from: the settings and their rules, the layout of the table's bits, and the numbers
 // of the refusals.
+#![tactic(auto)]
+
 mod layout;
 mod log;
 mod refusal;

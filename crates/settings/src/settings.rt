@@ -9,7 +9,7 @@ use crate::layout::{Laid, Layout};
 use crate::refusal::Refusal;
 
 // The number of lists, 2^bii, and p, the smallest prime above it.
-#[derive(Drop)]
+#[derive(Clone, Copy)]
 pub struct Lists(pub usize, pub u32);
 
 // A match is compiled to a table that is there once, where a constant array would be built anew at each use. No bii has
@@ -56,7 +56,7 @@ fn between(low: u32, x: u32, high: u32) -> bool
 
 // Laid out as C lays it out, since C callers hand it over as it is.
 #[repr(C)]
-#[derive(Drop)]
+#[derive(Clone, Copy)]
 pub struct Settings {
     pub w: u32,
     pub bii: u32,
@@ -68,13 +68,13 @@ pub struct Settings {
     pub b: u32,
 }
 
-#[derive(Drop)]
+#[derive(Clone, Copy)]
 pub enum Made {
     Settings(Settings),
     Refused(Refusal),
 }
 
-#[derive(Drop)]
+#[derive(Clone, Copy)]
 pub enum Size {
     Bytes(usize),
     Refused(Refusal),

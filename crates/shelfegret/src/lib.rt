@@ -1,5 +1,7 @@
 // The library for C: every call, exported. Structs go by value, a slice is a pointer and a length, and C has no enums that
 // hold values, so one struct answers for all calls.
+#![tactic(auto)]
+
 mod answers;
 mod calls;
 mod texts;
@@ -8,7 +10,7 @@ use keys::Key;
 
 // Code 0 and what the call tells, or the number of its refusal and zeros.
 #[repr(C)]
-#[derive(Drop)]
+#[derive(Clone, Copy)]
 pub struct Answer {
     pub code: u32,
     pub word: u32,

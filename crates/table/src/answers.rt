@@ -2,14 +2,14 @@
 use keys::Key;
 use settings::Refusal;
 
-#[derive(Drop)]
+#[derive(Clone, Copy)]
 pub enum MakeAnswer {
     Made,
     Refused(Refusal),
 }
 
 // The five words.
-#[derive(Drop)]
+#[derive(Clone, Copy)]
 pub enum Word {
     Added,
     Held,
@@ -20,7 +20,7 @@ pub enum Word {
 
 // What find, enter, relabel and delete answer; slot is the number of the entry's slot, 0 with "none" and "gone". The word stands
 // between two numbers, so that nobody copies both at once: such a load would wait until both have reached the cache.
-#[derive(Drop)]
+#[derive(Clone, Copy)]
 pub enum Answer {
     Said {
         label: u32,
@@ -32,14 +32,14 @@ pub enum Answer {
 }
 
 // What record and retrieve answer.
-#[derive(Drop)]
+#[derive(Clone, Copy)]
 pub enum RecordAnswer {
     Record { key: Key, label: u32 },
     None,
     Refused(Refusal),
 }
 
-#[derive(Drop)]
+#[derive(Clone, Copy)]
 pub enum CheckAnswer {
     Sound,
     Unsound,

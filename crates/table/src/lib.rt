@@ -1,4 +1,6 @@
 // The table in lent bytes: what its calls answer. The definitions stand in specs/; the code of each call in a crate of its own.
+#![tactic(auto)]
+
 mod answers;
 mod step;
 

@@ -2,7 +2,7 @@
 use keys::BlockNumber;
 
 // One step along a list.
-#[derive(Drop)]
+#[derive(Clone, Copy)]
 pub enum Step {
     Last,
     Further(BlockNumber),
@@ -10,7 +10,7 @@ pub enum Step {
 }
 
 // What stands before the last overflow block of a list: its basic block, or another overflow block.
-#[derive(Drop)]
+#[derive(Clone, Copy)]
 pub enum Before {
     Basic,
     Block(BlockNumber),

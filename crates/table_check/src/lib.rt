@@ -1,4 +1,6 @@
 // Check: whether a table in lent bytes is sound.
+#![tactic(auto)]
+
 mod bytes;
 mod call;
 mod entries;

@@ -13,7 +13,7 @@ use table::Step;
 use table_read::blocks::{basic_counter, basic_head, owned_front, step_of};
 
 // How many entries a list has; a damaged one has no end.
-#[derive(Drop)]
+#[derive(Clone, Copy)]
 pub enum Length {
     Entries(usize),
     Damage,

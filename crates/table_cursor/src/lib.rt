@@ -1,4 +1,6 @@
 // A cursor over a table's records: all of them in their order, and no list walked twice.
+#![tactic(auto)]
+
 mod count;
 mod places;
 mod walk;

@@ -5,7 +5,7 @@ use table_read::slots::Slots;
 
 // A place in list `list`: in its slots `run`, of which the first `passed` are behind it. `behind` is the step from the run's
 // block to the next.
-#[derive(Drop)]
+#[derive(Clone, Copy)]
 pub struct Cursor {
     pub list: ListNumber,
     pub passed: usize,
@@ -14,14 +14,14 @@ pub struct Cursor {
 }
 
 // What a slot holds.
-#[derive(Drop)]
+#[derive(Clone, Copy)]
 pub(crate) struct Held {
     pub entry: Key,
     pub label: u32,
 }
 
 // The record at a cursor, and the cursor behind it; or the end of the table.
-#[derive(Drop)]
+#[derive(Clone, Copy)]
 pub enum Next {
     Record {
         list: ListNumber,
@@ -33,7 +33,7 @@ pub enum Next {
 }
 
 // How many records a table has, and the cursor before one of them; or a list is damaged.
-#[derive(Drop)]
+#[derive(Clone, Copy)]
 pub enum Survey {
     Counted { count: u64, cursor: Cursor },
     Damage,

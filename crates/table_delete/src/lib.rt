@@ -1,4 +1,6 @@
 // Delete: a key out of its list.
+#![tactic(auto)]
+
 mod remove;
 mod shrink;
 

@@ -22,7 +22,7 @@ use table_store::{
 };
 
 // The last block of a list, and what stands before it.
-#[derive(Drop)]
+#[derive(Clone, Copy)]
 pub struct End {
     pub last: BlockNumber,
     pub before: Before,

@@ -23,7 +23,7 @@ use table_store::{
 };
 
 // What is to be appended, once `compared` entries were found not to be it.
-#[derive(Drop)]
+#[derive(Clone, Copy)]
 pub struct Item {
     pub entry: Key,
     pub label: u32,
@@ -45,7 +45,7 @@ impl Item {
 }
 
 // The first free block, and the free start once it is taken.
-#[derive(Drop)]
+#[derive(Clone, Copy)]
 pub enum Free {
     Block {
         number: BlockNumber,

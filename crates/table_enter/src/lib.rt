@@ -1,4 +1,6 @@
 // Enter: a key that is not held and its label, at the end of the key's list.
+#![tactic(auto)]
+
 mod append;
 mod insert;
 

@@ -1,4 +1,6 @@
 // Find: the label of a key, if the table holds it. Enter, relabel and delete seek their key by the same way.
+#![tactic(auto)]
+
 mod search;
 
 ghost use Rattle.std.specs.Prelude.{◌≡◌, ◌^◌, ◌≤◌, ltb, length};
@@ -13,14 +15,14 @@ use settings::{Laid, Layout, Refusal, Settings};
 use table::Answer;
 
 // A key in its list: where it belongs, and what find answers.
-#[derive(Drop)]
+#[derive(Clone, Copy)]
 pub struct Sought {
     pub place: Place,
     pub found: Answer,
 }
 
 // Whether a call goes on to the table.
-#[derive(Drop)]
+#[derive(Clone, Copy)]
 pub enum Admission {
     Granted,
     Refused(Refusal),

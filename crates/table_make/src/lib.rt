@@ -1,4 +1,6 @@
 // A new table in lent bytes: zeros, and the free blocks in one chain.
+#![tactic(auto)]
+
 ghost use Rattle.std.specs.Prelude.{◌≡◌, ◌<◌};
 ghost use Rattle.table.specs.Table.{Table};
 ghost use Rattle.table.specs.New.{new_overflow};

@@ -15,14 +15,14 @@ use table::Step;
 
 // The first bits of a block: its counter, and the L bits behind it. Those are a block's number if the list goes on there;
 // elsewhere they are bits of slots.
-#[derive(Drop)]
+#[derive(Clone, Copy)]
 pub struct Front {
     pub counter: usize,
     pub link: usize,
 }
 
 // The first fields of an overflow block: its front, and the list that it belongs to.
-#[derive(Drop)]
+#[derive(Clone, Copy)]
 pub struct Owned {
     pub front: Front,
     pub owner: ListNumber,

@@ -1,4 +1,6 @@
 // Reading a table: blocks, slots and lists, and slots' numbers.
+#![tactic(auto)]
+
 pub mod blocks;
 pub mod lists;
 pub mod numbers;

@@ -14,7 +14,7 @@ use settings::Layout;
 use table::Step;
 
 // Where a list ends: in its last overflow block, or nowhere, if there is damage.
-#[derive(Drop)]
+#[derive(Clone, Copy)]
 pub enum Last {
     Block(BlockNumber),
     Damage,
@@ -86,7 +86,7 @@ pub fn overflow_run(g: Layout, j: BlockNumber, c: usize) -> Slots
 }
 
 // A slot of an overflow block.
-#[derive(Drop)]
+#[derive(Clone, Copy)]
 pub struct BlockSlot {
     pub block: BlockNumber,
     pub slot: SlotNumber,

@@ -16,7 +16,7 @@ use settings::Layout;
 // Slots of a block: where the first begins, how many they are, how many of their first bits are displaced,
 // and the value that these count as. In a basic block that overflows it stands in the list's last link;
 // elsewhere `displaced` is 0.
-#[derive(Drop)]
+#[derive(Clone, Copy)]
 pub struct Slots {
     pub start: usize,
     pub count: usize,

@@ -1,4 +1,6 @@
 // Record: the nth record of the table. Retrieve: the record in the slot of a number.
+#![tactic(auto)]
+
 mod slot;
 
 ghost use Rattle.std.specs.Prelude.{◌≡◌, ◌^◌, ◌<◌};
@@ -25,7 +27,7 @@ use table_read::slots::{Slots, entry_in, label_in};
 
 // What stands at a number in a row of slots: an entry with its label, or nothing, with the number that
 // is left behind the row. A damaged list has no row.
-#[derive(Drop)]
+#[derive(Clone, Copy)]
 pub enum Nth {
     Slot { entry: Key, label: u32 },
     Past(u64),

@@ -24,7 +24,7 @@ use table_read::slots::{Slots, entry_in, label_in};
 
 // Where the slot of a number stands: at a bit, as it stands; among slots whose first bits are displaced; or it is not in use.
 // The slots of a damaged list stand nowhere.
-#[derive(Drop)]
+#[derive(Clone, Copy)]
 pub enum Spot {
     Slot {
         list: ListNumber,

@@ -1,4 +1,6 @@
 // Relabel: another label for a key that is held.
+#![tactic(auto)]
+
 mod call;
 mod label;
 

@@ -1,4 +1,6 @@
 // Stores into a table: the free start, a counter, a link, a slot, zeros.
+#![tactic(auto)]
+
 mod fields;
 mod places;
 mod slots;

@@ -10,7 +10,7 @@ use keys::Key;
 use table_read::slots::Slots;
 
 // What a slot holds.
-#[derive(Drop)]
+#[derive(Clone, Copy)]
 pub struct Slot {
     pub entry: Key,
     pub label: u32,

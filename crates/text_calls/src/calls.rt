@@ -21,7 +21,7 @@ use table_relabel::relabel_sought;
 use text_read::{Parsed, read};
 
 // The answer to a call with a text, and the key that the text spells; key 0 if a refusal comes before it is read.
-#[derive(Drop)]
+#[derive(Clone, Copy)]
 pub struct TextAnswer {
     pub key: Key,
     pub answer: Answer,

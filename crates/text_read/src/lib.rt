@@ -1,4 +1,6 @@
 // Reading IPv6 text: every legal spelling.
+#![tactic(auto)]
+
 mod class;
 mod reader;
 
@@ -8,7 +10,7 @@ pub use reader::{read, read_by};
 use settings::Refusal;
 
 // What reading a text finds.
-#[derive(Drop)]
+#[derive(Clone, Copy)]
 pub enum Parsed {
     Key(Key),
     Refused(Refusal),

@@ -15,14 +15,14 @@ use keys::Key;
 use settings::Refusal;
 
 // A number in a field, and where the field ends.
-#[derive(Drop)]
+#[derive(Clone, Copy)]
 enum Numeral {
     Value { value: u64, next: usize },
     Bad,
 }
 
 // Groups that are read: the number high * 2^64 + low that they stand for, and how many they are.
-#[derive(Drop)]
+#[derive(Clone, Copy)]
 struct Groups {
     high: u64,
     low: u64,
@@ -44,7 +44,7 @@ const PREFIX: Groups = Groups {
 };
 
 // Groups parted by single colons.
-#[derive(Drop)]
+#[derive(Clone, Copy)]
 enum Part {
     // They go to the end of the text.
     Whole(Groups),

@@ -1,4 +1,6 @@
 // Reading the address that a text begins with, such as a part of a log line.
+#![tactic(auto)]
+
 mod run;
 
 use keys::Key;
@@ -6,7 +8,7 @@ pub use run::read;
 use settings::Refusal;
 
 // What reading the run that a text begins with finds: the key, and how many bytes were taken.
-#[derive(Drop)]
+#[derive(Clone, Copy)]
 pub enum Taken {
     Key { key: Key, bytes: usize },
     Refused(Refusal),

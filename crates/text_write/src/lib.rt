@@ -1,4 +1,6 @@
 // Writing IPv6 text: one spelling of each address.
+#![tactic(auto)]
+
 mod four;
 mod mapped;
 mod writer;
@@ -7,7 +9,7 @@ use settings::Refusal;
 pub use writer::{put_text, write};
 
 // How a text was written: its length, or not at all.
-#[derive(Drop)]
+#[derive(Clone, Copy)]
 pub enum Written {
     Length(usize),
     Refused(Refusal),

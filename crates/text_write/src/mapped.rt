@@ -21,7 +21,7 @@ pub(crate) fn is_mapped(key: Key) -> bool
 }
 
 // Where the four decimals of a text end.
-#[derive(Drop)]
+#[derive(Clone, Copy)]
 pub(crate) struct Ends {
     first: usize,
     second: usize,

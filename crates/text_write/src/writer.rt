@@ -14,7 +14,7 @@ use keys::Key;
 use settings::Refusal;
 
 // A run of zero groups.
-#[derive(Drop)]
+#[derive(Clone, Copy)]
 struct Run {
     start: usize,
     count: usize,

@@ -1,0 +1,10 @@
+-- `1 << k` is 2 to the k, since no bit of it is shifted out.
+use mathlib.Core.Path.{◌∙◌}
+use native.Mathlib.Nat.{one-mul}
+use native.Mathlib.Omega.{arith}
+use lib.Pow.{shl_exact}
+use borrow.Author.Rules.{rules}
+use Rattle.bits.proofs.number.pow.Goals as goal
+
+pub returns : goal.returns
+returns c = shl_exact 1 c.args.k 64 (omega arith) (omega arith) ∙ one-mul _
