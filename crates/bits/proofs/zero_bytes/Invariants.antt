@@ -11,8 +11,10 @@ use Rattle.bits.proofs.zero_bytes.Given as goal
 
 abbrev pub invariant-loop-i : goal.invariant-loop-i
 invariant-loop-i l = (l.i ≤ length l.initial.s) × (length l.s ≡ length l.initial.s) × (l.s ≡ replicate l.i 0 ++ drop l.i l.initial.s)
+
 -- was: invariant s₀ i₀ s i
 
 abbrev pub decreases-loop-i : goal.decreases-loop-i
 decreases-loop-i l = length l.initial.s - l.i
+
 -- was: decreases s₀ i₀ s i

@@ -154,7 +154,11 @@ put_out s off n v o m l d =
 pub put_cat : (s : List ℕ) (off m n v : ℕ) → put_field s off (m + n) v ≡ put_field (put_field s off m (v / 2 ^ n)) (off + m) n (v % 2 ^ n)
 unfolding put_field
 put_cat s off m zero v = rw (add-zero m, div-one v)
-put_cat s off m (suc n) v = rw (add-suc m n) (cc (put_cat s off m n (v / 2), above v n, low_half v n, low_bit v n, add_assoc off m n))
+put_cat s off m (suc n) v =
+    let e : off + (m + n) ≡ off + m + n = sym (add_assoc off m n) in
+    let t : put_field s off (m + n) (v / 2) ≡ put_field (put_field s off m (v / 2 ^ suc n)) (off + m) n (v % 2 ^ suc n / 2) =
+    put_cat s off m n (v / 2) ∙ cc (above v n, low_half v n) in
+    ap (λ (k : ℕ). put_field s off k v) (add-suc m n) ∙ cc (e, t, low_bit v n)
 
 -- the part between the first a bits and the last b of a field of w bits, replaced in the number that the field reads as
 pub put_sub : (s : List ℕ) (off w a n b v : ℕ) → a + n + b ≡ w → v < 2 ^ n → off + a + n ≤ 8 * length s

@@ -12,4 +12,4 @@ same r x p small fits e =
     (λ f. let l = leb-false 1 x f in rw f (le-ltb r (p - 1) (omega arith)))
 
 pub returns : goal.returns
-returns c = same c.wrapping_sub_u32.result _ _ (omega arith) (omega arith) c.wrapping_sub_u32.ensures
+returns c = same c.wrapping_sub_u32.result _ _ (omega arith) (omega arith) c.wrapping_sub_u32.ensures.value

@@ -22,9 +22,8 @@ made s f c b x es ef ec ex eb = rw (eb, ex, ec, ef, es)
 
 pub returns : goal.returns
 unfolding free_start_bits
-returns c =
-    (
-      made _ _ _ _ _ c.requires.1 c.ceil_log2.ensures c.ceil_log2-counter.ensures c.wide.ensures c.block_bits.ensures.0,
-      omega (arith, c.ceil_log2.ensures, (widths_small c.args.s c.requires.0).1),
-      c.block_bits.ensures.1,
-    )
+returns c = (
+  made _ _ _ _ _ c.requires.1 c.ceil_log2.ensures c.ceil_log2-counter.ensures c.wide.ensures c.block_bits.ensures.0,
+  omega (arith, c.ceil_log2.ensures, (widths_small c.args.s c.requires.0).1),
+  c.block_bits.ensures.1,
+)

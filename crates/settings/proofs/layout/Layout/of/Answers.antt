@@ -29,18 +29,23 @@ overflow_add-link c =
 
 pub overflow-overflow-requires : goal.overflow-overflow-requires
 unfolding link_bits
-overflow-overflow-requires c =
-    (
-      c.requires,
-      omega (arith, c.wide-bie.ensures, c.wide-val.ensures),
-      omega (arith, c.ceil_log2-link.ensures, c.wide.ensures),
-      behind_is (goal.at.overflow-overflow-requires c).After-struct_known-2-1,
-    )
+overflow-overflow-requires c = (
+  c.requires,
+  omega (arith, c.wide-bie.ensures, c.wide-val.ensures),
+  omega (arith, c.ceil_log2-link.ensures, c.wide.ensures),
+  behind_is (goal.at.overflow-overflow-requires c).After-struct_known-2-1,
+)
 
 -- the start that the overflow blocks were given
 given : (c : After-struct_known-3-1) → c.overflow-overflow.result.start ≤ 2676228112
 given c =
-    omega (arith, ap (λ (b : Blocks). b.start) c.overflow-overflow.ensures.0, behind_is ⟪After-struct_known-2-1⟫, c.basic-basic.ensures.1, c.blocks_bits.ensures.1)
+    omega (
+      arith,
+      ap (λ (b : Blocks). b.start) c.overflow-overflow.ensures.0,
+      behind _ _ _ _ c.basic-basic.ensures.0 c.lists_of-lists.ensures.0 c.blocks_bits.ensures.0,
+      c.basic-basic.ensures.1,
+      c.blocks_bits.ensures.1,
+    )
 
 pub overflow_add-bits : goal.overflow_add-bits
 overflow_add-bits c = omega (arith, given (goal.at.overflow_add-bits c).After-struct_known-3-1, c.blocks_bits-2.ensures.1)

@@ -1,0 +1,10 @@
+-- The shift loses no bit.
+use mathlib.Core.Path.{◌∙◌}
+use native.Mathlib.Nat.{one-mul}
+use native.Mathlib.Omega.{arith}
+use lib.Pow.{shl_exact}
+use borrow.Author.Rules.{rules}
+use Rattle.keys.proofs.pow.Goals as goal
+
+pub returns : goal.returns
+returns c = shl_exact 1 c.args.k 64 (omega arith) (omega arith) ∙ one-mul _
