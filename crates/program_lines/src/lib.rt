@@ -47,6 +47,7 @@ fn skip_sixteens(s: &[u8], b: u8, at: usize) -> usize
 
 // The place of the first byte b at `at` or after it, or the slice's length where there is none; `at` where
 // that is past the end.
+#[tactic(auto, using(crate::specs::theory::Ends::hit, crate::specs::theory::Ends::miss, crate::specs::theory::Ends::over))]
 pub fn find_byte(s: &[u8], b: u8, at: usize) -> usize
     ensures { result ≡ first_from b s.now at }
 {
@@ -63,7 +64,8 @@ pub fn find_byte(s: &[u8], b: u8, at: usize) -> usize
     i
 }
 
-// The covered function that the thin ones call.
+// What stands at a position of the bytes.
+#[tactic(auto, using(crate::specs::theory::Ends::line_span, crate::specs::theory::Ends::rest_span))]
 fn span_at(s: &[u8], at: usize) -> Span
     ensures { result ≡ span_at s.now at }
 {
