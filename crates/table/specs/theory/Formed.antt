@@ -35,12 +35,12 @@ module _ {A : Type 0} {P : A → Type 0} where
   pub all_take : {xs : List A} (n : ℕ) → All P xs → All P (take n xs)
   all_take zero ps = all_nil
   all_take (suc n) all_nil = all_nil
-  all_take (suc n) (all_cons p ps) = all_cons p (all_take n ps)
+  all_take (suc n) (all_cons {x = x} {xs = xs} p ps) = all_cons p (all_take {xs = xs} n ps)
 
   pub all_drop : {xs : List A} (n : ℕ) → All P xs → All P (drop n xs)
   all_drop zero ps = ps
   all_drop (suc n) all_nil = all_nil
-  all_drop (suc n) (all_cons p ps) = all_drop n ps
+  all_drop (suc n) (all_cons {x = x} {xs = xs} p ps) = all_drop {xs = xs} n ps
 
   pub all_append : {xs ys : List A} → All P xs → All P ys → All P (xs ++ ys)
   all_append all_nil qs = qs

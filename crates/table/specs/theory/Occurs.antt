@@ -27,9 +27,9 @@ below_occurs n (all_cons {x = x} p ps) j h =
     cases (eqb j x) (λ e. rw (eqb-true j x e) p) (λ e. below_occurs n ps j (let l = rw e at h in omega arith))
 
 -- the numbers of a list, each counted
-pub sum_below : (n : ℕ) {xs : List ℕ} → All (Below n) xs → sum_below n (λ j. occurs j xs) ≡ length xs
-sum_below n {xs} b = sum_occurs n xs (below_occurs n b)
+pub sum_below_lem : (n : ℕ) {xs : List ℕ} → All (Below n) xs → sum_below n (λ j. occurs j xs) ≡ length xs
+sum_below_lem n {xs} b = sum_occurs n xs (below_occurs n b)
 
 -- n numbers below n at most, where none stands twice
 pub few_below : (n : ℕ) {xs : List ℕ} → All (Below n) xs → ((j : ℕ) → j < n → occurs j xs ≤ 1) → length xs ≤ n
-few_below n {xs} b h = omega (arith, sum_below n b, sum_few n (λ j. occurs j xs) h)
+few_below n {xs} b h = omega (arith, sum_below_lem n b, sum_few n (λ j. occurs j xs) h)

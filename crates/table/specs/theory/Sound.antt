@@ -22,7 +22,7 @@ use Rattle.table.specs.Sound.{SoundState, Sound}
 use Rattle.table.specs.theory.Formed.{Formed}
 use Rattle.table.specs.theory.FormedCalls.{either, Holds, holds_none, holds_some, holds_of, content_fits}
 use Rattle.table.specs.theory.Every.{every_at, every_all, zeros_at, zeros_all, single_at, single_all}
-use Rattle.table.specs.theory.Occurs.{sum_swap, sum_below}
+use Rattle.table.specs.theory.Occurs.{sum_swap, sum_below_lem}
 use Rattle.table.specs.theory.Chain.{FreeChain, free_chain_lem, chain_below, chain_free}
 
 module _ (g : Layout) where
@@ -201,6 +201,6 @@ module _ (g : Layout) where
         sum_add g.nob (λ j. sum_below g.lists (λ i. occurs j (s.lists i).blocks)) (λ j. occurs j s.chain),
         sum_swap g.nob g.lists (λ i j. occurs j (s.lists i).blocks),
         sum_ext g.lists (λ i. sum_below g.nob (λ j. occurs j (s.lists i).blocks)) (λ i. length (s.lists i).blocks) (λ i h.
-            sum_below g.nob (content_fits g i f (s.undamaged i h)).blocks.below),
-        sum_below g.nob (chain_below g st.overflow st.free s.chain s.linked),
+            sum_below_lem g.nob (content_fits g i f (s.undamaged i h)).blocks.below),
+        sum_below_lem g.nob (chain_below g st.overflow st.free s.chain s.linked),
       )
