@@ -1,7 +1,7 @@
 -- What each change of the last block does to a list's overflow part. The blocks after it, us, are known by what stands at each block number.
 use Rattle.std.specs.Prelude.{◌≡◌, ◌≢◌, ℕ, suc, ◌+◌, ◌-◌, ◌≤◌, ◌<◌, length, set, take, drop, eqb, ltb}
 use Rattle.std.proofs.Math.Path.{refl, ap}
-use Rattle.std.proofs.Common.{sym, ◌∙◌, arith, drop_of_length-le, length-take-le, drop-set-lt}
+use Rattle.std.proofs.Common.{sym, subst, ◌∙◌, arith, drop_of_length-le, length-take-le, drop-set-lt}
 use mathlib.Core.List.{List, [], ◌∷◌, ◌++◌}
 use Rattle.std.proofs.Math.ListN.{length-drop, length-set}
 use Rattle.std.proofs.lemmas.List.{drop-append-le}
@@ -219,11 +219,13 @@ module _ (g : Layout) where
       cases (ltb q g.sio)
       (λ e.
       let v : Overflow = with_slot q x (overflow_at os b) in
+      let there : store_overflow g os (b ∷ c ∷ cs) q x ≡ set os b v = rw e refl in
       rw e (
         omega (arith, length-set es q x),
         set_here os b v (low b (occurs_head b (c ∷ cs))) ∙ rw (h.1, padded_set g.sio es q x l (ltb-true q g.sio e)),
         rw (drop-set-lt g.sio es q x (ltb-true q g.sio e))
-            (tail_frame g i os (set os b v) c cs (drop g.sio es) d (λ j m. set_there os b v j (not_in b j (c ∷ cs) dis m)) h.2),
+            (subst (λ (o : List Overflow). Tail g i o c cs (drop g.sio es) d) (sym there)
+            (tail_frame g i os (set os b v) c cs (drop g.sio es) d (λ j m. set_there os b v j (not_in b j (c ∷ cs) dis m)) h.2)),
       ))
       (λ e.
       let m : g.sio ≤ q = ltb-false q g.sio e in

@@ -1,0 +1,8 @@
+-- The free start stands first.
+use borrow.Author.Rules.{rules}
+use Rattle.table.specs.Decode.{decode}
+use Rattle.table_read.proofs.blocks.free_start.Goals as goal
+
+pub returns : goal.returns
+unfolding decode
+returns c = c.short_field.ensures

@@ -1,0 +1,13 @@
+-- The fields are those of the decoded state.
+use mathlib.Core.Path.{◌∙◌}
+use native.Mathlib.Omega.{arith}
+use Rattle.table_read.specs.theory.Places.{over_in}
+use Rattle.table_read.specs.theory.Reads.{overflow_counter_field, link_field}
+use Rattle.table_read.proofs.blocks.overflow_front.Goals as goal
+
+pub front_of-requires : goal.front_of-requires
+front_of-requires c = over_in c.args.g c.args.t.now c.requires.0 c.args.g.link (omega arith) c.args.j.0 c.requires.1
+
+pub returns : goal.returns
+returns c =
+    (c.front_of.ensures.0 ∙ overflow_counter_field c.args.g c.args.t.now c.requires.0 c.args.j.0 c.requires.1, c.front_of.ensures.1 ∙ link_field c.args.g c.args.t.now c.requires.0 c.args.j.0 c.requires.1)

@@ -1,0 +1,21 @@
+-- The invariant: the list goes on at block b, and the answer is the same from there. The measure is the turns left.
+use mathlib.Core.Path.{◌≡◌, sym, ap, ◌∙◌}
+use Prim.Native.Nat.{ℕ, ◌+◌, ◌-◌, ◌≤◌}
+use native.Mathlib.Omega.{arith}
+use borrow.Author.Rules.{rules}
+use Rattle.table.specs.Decode.{decode}
+use Rattle.table_read.specs.Steps.{Followed}
+use Rattle.table.specs.theory.Ways.{told_further, told_other}
+use Rattle.table_read.specs.theory.Walks.{OneStep, one_step}
+use Rattle.table_read.specs.BlockSlots.{has_block}
+use Rattle.table_read.specs.theory.BlockSlots.{has_here, has_last, has_on}
+use Rattle.table_read.proofs.lists.list_has_block.Given as goal
+
+abbrev pub invariant-loop-q : goal.invariant-loop-q
+invariant-loop-q l =
+    (l.q ≤ l.g.nob)
+    × Followed l.g (l.g.nob - l.q) (decode l.g l.t).overflow l.b.0
+    × (has_block l.g (l.g.nob - l.q) (decode l.g l.t).overflow l.b.0 l.f.0 ≡ has_block l.g l.g.nob (decode l.g l.t).overflow l.fn.first.0 l.f.0)
+
+abbrev pub decreases-loop-q : goal.decreases-loop-q
+decreases-loop-q l = l.g.nob - l.q

@@ -1,0 +1,34 @@
+-- From the last slot back, no slot from j up to r has the bits (`Past`).
+use mathlib.Core.Path.{◌≡◌, ◌∙◌}
+use Prim.Native.Nat.{◌+◌, ◌-◌, ◌*◌, ◌≤◌}
+use native.Mathlib.Omega.{arith}
+use Rattle.table_read.proofs.WindowLaws.{Back, back, Past, past_here, past_more, past_all}
+use Rattle.table_read.proofs.windows.first_tail.Goals as goal
+use Rattle.table_read.proofs.windows.first_tail.Goals.{In-loop-j}
+
+-- the slot before
+there : (c : In-loop-j) → (let s = c.args in Back s.at s.step c.loop-j.j c.loop-j.p)
+there c = back _ _ _ _ c.loop-j-test.true c.loop-j.invariant.1
+
+pub loop-j-init : goal.loop-j-init
+loop-j-init c = (omega arith, omega arith, past_here _ _ _ _ _ _ _ (omega arith))
+
+pub overflow_sub-p : goal.overflow_sub-p
+overflow_sub-p c = (there (goal.at.overflow_sub-p c).In-loop-j).fits
+
+pub get_inner-requires : goal.get_inner-requires
+get_inner-requires c =
+    (c.requires.0, c.requires.1, rw (there (goal.at.get_inner-requires c).In-loop-j).is (c.requires.2 (c.loop-j.j - 1) (omega arith)))
+
+pub loop-j-preserved-then-get_inner-q : goal.loop-j-preserved-then-get_inner-q
+loop-j-preserved-then-get_inner-q c = (omega arith, (there (goal.at.loop-j-preserved-then-get_inner-q c).In-loop-j).is, past_here _ _ _ _ _ _ _ (omega arith))
+
+pub loop-j-preserved : goal.loop-j-preserved
+loop-j-preserved c = (
+  omega arith,
+  (there (goal.at.loop-j-preserved c).In-loop-j).is,
+  past_more _ _ _ _ _ _ _ _ _ (there (goal.at.loop-j-preserved c).In-loop-j).is c.loop-j.invariant.2 (λ e. c.if-get_inner-q.false (c.get_inner.ensures ∙ e)),
+)
+
+pub returns : goal.returns
+returns c = past_all _ _ _ _ _ _ _ _ c.loop-j-test.false c.loop-j.invariant.2

@@ -1,0 +1,15 @@
+-- From the last slot back, no slot from j up to r has the bits (`Past`).
+use mathlib.Core.Path.{◌≡◌, sym, ◌∙◌}
+use Prim.Native.Nat.{◌+◌, ◌-◌, ◌*◌, ◌≤◌}
+use native.Mathlib.Omega.{arith}
+use borrow.Author.Tests.{eqb-false}
+use Rattle.bits.specs.Word.{swapped}
+use Rattle.table_read.proofs.WindowLaws.{Back, back, in_bits, Past, past_here, past_more, past_all}
+use Rattle.table_read.proofs.windows.first_word.Given as goal
+
+abbrev pub invariant-loop-j : goal.invariant-loop-j
+invariant-loop-j l =
+    (l.j ≤ l.n) × (l.p ≡ l.i + l.j * l.step) × Past l.t (8 * l.i) (8 * l.step) 64 (swapped l.q) l.n l.j l.r
+
+abbrev pub decreases-loop-j : goal.decreases-loop-j
+decreases-loop-j l = l.j
