@@ -229,12 +229,14 @@ module _ (g : Layout) where
       ))
       (λ e.
       let m : g.sio ≤ q = ltb-false q g.sio e in
+      let there : store_overflow g os (b ∷ c ∷ cs) q x ≡ store_overflow g os (c ∷ cs) (q - g.sio) x = rw e refl in
       rw e (
         omega (arith, length-set es q x),
         store_else os (c ∷ cs) (q - g.sio) x b (omega (arith, dis b, occurs_head b []))
             ∙ h.1
             ∙ ap (block_with g i g.sio c) (sym (padded_set_out g.sio es q x m)),
         rw (drop_set_ge g.sio es q x m)
+            (subst (λ (o : List Overflow). Tail g i o c cs (set (drop g.sio es) (q - g.sio) x) d) (sym there)
             (tail_store i os c cs (drop g.sio es) d (q - g.sio) x h.2 (λ j. omega (arith, dis j)) (λ j z. low j (omega arith))
-            (omega (arith, length-drop g.sio es))),
+            (omega (arith, length-drop g.sio es)))),
       ))

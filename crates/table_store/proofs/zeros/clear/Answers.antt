@@ -1,0 +1,81 @@
+-- Few bits are one field. More are the last bits of the first byte, whole bytes, and the first bits of the last byte.
+use mathlib.Core.Path.{◌≡◌, ap, ◌∙◌}
+use mathlib.Core.List.{List, ◌++◌}
+use Prim.Native.Nat.{ℕ, ◌+◌, ◌-◌, ◌*◌, ◌/◌, ◌%◌}
+use native.Mathlib.Omega.{arith}
+use lib.ListN.{length, take, drop, set, length-set}
+use lib.Pow.{pow_pos}
+use borrow.Author.Rules.{rules}
+use Rattle.bits.specs.Bytes.{Bytes}
+use Rattle.bits.specs.Put.{put_field}
+use Rattle.bits.specs.theory.Puts.{put_bytes, put_length}
+use Rattle.bits.specs.theory.Zeros.{zeros_put}
+use Rattle.table_store.specs.theory.StoreLaws.{clear_first, clear_last, clear_more}
+use Rattle.table_store.proofs.zeros.clear.Goals as goal
+use Rattle.table_store.proofs.zeros.clear.Goals.{After-first_bits, After-zero_bytes}
+
+pub put-requires : goal.put-requires
+put-requires c = (search rules, pow_pos _)
+
+-- GONE slice-bounds-zero-bytes-end
+-- part-zero-bytes-end c = simp length-set (omega arith)
+
+begun-is : (c : After-first_bits) → let a = c.args in (let a = c.args in set a.t.now (a.off / 8) c.first_bits.result) ≡ put_field a.t.now a.off (8 - a.off % 8) 0
+begun-is c = let a = c.args in clear_first a.t.now a.off _ (omega arith) c.first_bits.ensures
+
+begun-bytes : (c : After-first_bits) → Bytes ((let a = c.args in set a.t.now (a.off / 8) c.first_bits.result))
+begun-bytes c =
+    let a = c.args in
+    let b : Bytes a.t.now = λ j. omega (arith, c.slice_known-1.given j) in
+    rw (begun-is c) (put_bytes a.t.now a.off (8 - a.off % 8) 0 b)
+
+most-is : (c : After-zero_bytes) → let a = c.args in (let s = (let a = c.args in set a.t.now (a.off / 8) c.first_bits.result) in
+    let a = c.args in
+    let i = a.off / 8 + 1 in
+    take i s ++ (c.zero_bytes.new.0 ++ drop ((a.off + a.n) / 8 - i) (drop i s))) ≡ put_field a.t.now a.off (8 * ((a.off + a.n) / 8) - a.off) 0
+most-is c =
+    let a = c.args in
+    let s = (let a = c.args in set a.t.now (a.off / 8) c.first_bits.result) in
+    let i = a.off / 8 + 1 in
+    let l : length s ≡ length a.t.now = length-set a.t.now (a.off / 8) c.first_bits.result in
+    clear_more a.t.now _ _ a.off (8 - a.off % 8) (8 * (a.off / 8 + 1)) (8 * ((a.off + a.n) / 8 - (a.off / 8 + 1))) (8 * ((a.off + a.n) / 8) - a.off)
+    (omega arith) (omega arith) (begun-is ⟪After-first_bits⟫)
+    (zeros_put s c.zero_bytes.new.0 i ((a.off + a.n) / 8 - i) (begun-bytes ⟪After-first_bits⟫) (omega (arith, l)) c.zero_bytes.ensures)
+
+long : (c : After-zero_bytes) → length ((let s = (let a = c.args in set a.t.now (a.off / 8) c.first_bits.result) in
+    let a = c.args in
+    let i = a.off / 8 + 1 in
+    take i s ++ (c.zero_bytes.new.0 ++ drop ((a.off + a.n) / 8 - i) (drop i s)))) ≡ length c.args.t.now
+long c = let a = c.args in ap length (most-is c) ∙ put_length a.t.now a.off (8 * ((a.off + a.n) / 8) - a.off) 0
+
+pub bounds-t-e : goal.bounds-t-e
+bounds-t-e c = omega (arith, long (goal.at.bounds-t-e c).After-zero_bytes)
+
+pub bounds-t-e-then-k-gt0 : goal.bounds-t-e-then-k-gt0
+bounds-t-e-then-k-gt0 c = omega (arith, long (goal.at.bounds-t-e-then-k-gt0 c).After-zero_bytes)
+
+pub shape_of-t-then-k-gt0 : goal.shape_of-t-then-k-gt0
+shape_of-t-then-k-gt0 c =
+    let a = c.args in
+    length-set ((let s = (let a = c.args in set a.t.now (a.off / 8) c.first_bits.result) in
+    let a = c.args in
+    let i = a.off / 8 + 1 in
+    take i s ++ (c.zero_bytes.new.0 ++ drop ((a.off + a.n) / 8 - i) (drop i s)))) ((a.off + a.n) / 8) c.last_bits.result ∙ long (goal.at.shape_of-t-then-k-gt0 c).After-zero_bytes
+
+pub returns-then-k-gt0 : goal.returns-then-k-gt0
+returns-then-k-gt0 c =
+    let a = c.args in
+    clear_more a.t.now _ _ a.off _ (8 * ((a.off + a.n) / 8)) ((a.off + a.n) % 8) a.n (omega arith) (omega arith) (most-is (goal.at.returns-then-k-gt0 c).After-zero_bytes)
+    (clear_last ((let s = (let a = c.args in set a.t.now (a.off / 8) c.first_bits.result) in
+    let a = c.args in
+    let i = a.off / 8 + 1 in
+    take i s ++ (c.zero_bytes.new.0 ++ drop ((a.off + a.n) / 8 - i) (drop i s)))) ((a.off + a.n) / 8) ((a.off + a.n) % 8) _ (omega (arith, long (goal.at.returns-then-k-gt0 c).After-zero_bytes)) (omega arith) c.last_bits.ensures)
+
+pub shape_of-t-else-k-gt0 : goal.shape_of-t-else-k-gt0
+shape_of-t-else-k-gt0 c = long (goal.at.shape_of-t-else-k-gt0 c).After-zero_bytes
+
+pub returns-else-k-gt0 : goal.returns-else-k-gt0
+returns-else-k-gt0 c =
+    let a = c.args in
+    let e : 8 * ((a.off + a.n) / 8) - a.off ≡ a.n = omega arith in
+    most-is (goal.at.returns-else-k-gt0 c).After-zero_bytes ∙ ap (λ (m : ℕ). put_field a.t.now a.off m 0) e
