@@ -1,5 +1,4 @@
 -- One digit, and one more from 10 and from 100 on: `count_is`.
-use borrow.Author.Rules.{rules}
 use native.Mathlib.Omega.{arith}
 use Rattle.text_write.proofs.Decimals.{count_is}
 use Rattle.text_write.proofs.mapped.decimal_end.Goals as goal

@@ -1,5 +1,4 @@
 -- Of the digits that are stored, the last count: `decimal_back`.
-use borrow.Author.Rules.{rules}
 use mathlib.Core.Path.{ap}
 use Prim.Native.Nat.{ℕ, ◌-◌, ◌*◌}
 use native.Mathlib.Omega.{arith}

@@ -1,5 +1,4 @@
 -- One decimal before the other, and the prefix before them.
-use borrow.Author.Rules.{rules}
 use mathlib.Core.Path.{◌≡◌, refl, sym}
 use mathlib.Core.List.{[], ◌∷◌, ◌++◌, append_assoc}
 use Prim.Native.Nat.{ℕ, ◌/◌, ◌%◌, ◌^◌}

@@ -1,5 +1,4 @@
 -- Of the digits that are stored, the last count: `dot_back`.
-use borrow.Author.Rules.{rules}
 use Prim.Native.Nat.{◌+◌, ◌-◌}
 use native.Mathlib.Omega.{arith}
 use Rattle.text_write.proofs.Backwards.{dot_back}

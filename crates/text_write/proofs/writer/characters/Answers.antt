@@ -4,7 +4,6 @@ use mathlib.Core.Path.{ap, ◌∙◌}
 use Prim.Native.Nat.{ℕ, ◌+◌, ◌*◌, ◌/◌, ◌%◌}
 use lib.Bits.{bit_and, and_le_r}
 use Rattle.text_write.specs.theory.Digits.{characters_are}
-use borrow.Author.Rules.{rules}
 use Rattle.text_write.proofs.writer.characters.Goals as goal
 
 pub overflow_mul-result : goal.overflow_mul-result

@@ -1,9 +1,8 @@
--- The invariant: the first i bytes are the text's, and the rest is as it was.
 use mathlib.Core.Path.{◌≡◌, refl, ap, ◌∙◌}
-use mathlib.Core.List.{List, ◌++◌}
-use Prim.Native.Nat.{ℕ, ◌-◌, ◌≤◌}
+use mathlib.Core.List.{List}
+use Prim.Native.Nat.{ℕ}
 use native.Mathlib.Omega.{arith}
-use lib.ListN.{length, take, drop, get_or, set, length-set}
+use lib.ListN.{get_or, set, length-set}
 use Rattle.text_write.specs.theory.Stores.{copy_step}
 use Rattle.text_write.proofs.writer.copy.Goals as goal
 

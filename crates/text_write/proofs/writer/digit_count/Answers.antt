@@ -3,7 +3,6 @@ use native.Mathlib.Omega.{arith}
 use Prim.Native.Nat.{◌+◌, ◌*◌, ◌/◌}
 use lib.Count.{leading_le}
 use Rattle.text_write.specs.theory.Digits.{count_is}
-use borrow.Author.Rules.{rules}
 use Rattle.text_write.proofs.writer.digit_count.Goals as goal
 
 pub overflow_sub-result : goal.overflow_sub-result

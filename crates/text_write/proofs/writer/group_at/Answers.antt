@@ -1,7 +1,6 @@
 -- The place picks the half and the shift: `group_high`, `group_low`.
 use native.Mathlib.Omega.{arith}
 use Rattle.text_write.proofs.Groups.{group_high, group_low}
-use borrow.Author.Rules.{rules}
 use Rattle.text_write.proofs.writer.group_at.Goals as goal
 
 pub returns-then-i-lt4 : goal.returns-then-i-lt4

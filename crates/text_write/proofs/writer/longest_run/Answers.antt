@@ -1,13 +1,10 @@
--- The invariant: the marks are those of runs of `count` groups, and those of longer ones are known. It speaks of any list with these marks,
--- since the key is not read in the loop.
 use mathlib.Core.Path.{◌≡◌, sym, ap, ◌∙◌}
 use mathlib.Core.List.{List}
-use Prim.Native.Nat.{ℕ, ◌+◌, ◌-◌, ◌/◌, ◌≤◌, ◌<◌}
+use Prim.Native.Nat.{ℕ, ◌+◌, ◌/◌, ◌≤◌, ◌<◌}
 use native.Mathlib.Nat.{lt_of_not-le}
 use native.Mathlib.Omega.{arith}
 use lib.Bits.{bit_and}
 use lib.Count.{count_trailing_zeros}
-use borrow.Author.Rules.{rules}
 use Rattle.text_write.specs.WriterSteps.{key_groups, run_marks}
 use Rattle.text_write.proofs.Groups.{eight}
 use Rattle.text_write.proofs.Marks.{marks_none, marks_next, marks_clear, marks_found}

@@ -8,7 +8,6 @@ use Rattle.text_write.specs.Writing.{part_text}
 use Rattle.text_write.specs.WriterSteps.{key_groups}
 use Rattle.text_write.proofs.Groups.{eight}
 use Rattle.text_write.specs.theory.Texts.{part_none, rest_put}
-use borrow.Author.Rules.{rules}
 use Rattle.text_write.proofs.writer.put_back.Goals as goal
 use Rattle.text_write.proofs.writer.put_back.Goals.{After-put_groups}
 

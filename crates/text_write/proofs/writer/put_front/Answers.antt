@@ -9,7 +9,6 @@ use Rattle.text_write.specs.WriterSteps.{key_groups}
 use Rattle.text_write.proofs.Groups.{eight}
 use Rattle.text_write.specs.theory.Stores.{kept_later}
 use Rattle.text_write.specs.theory.Texts.{closed_front}
-use borrow.Author.Rules.{rules}
 use Rattle.text_write.proofs.writer.put_front.Goals as goal
 
 pub returns-then-to-eq0 : goal.returns-then-to-eq0

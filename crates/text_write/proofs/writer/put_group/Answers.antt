@@ -1,14 +1,13 @@
 -- The characters of the group that was moved up begin with its text: `moved_is`.
 use mathlib.Core.Path.{◌≡◌, refl, ap, ◌∙◌}
 use mathlib.Core.List.{List, [], ◌∷◌, ◌++◌, append_assoc}
-use Prim.Native.Nat.{ℕ, ◌+◌, ◌/◌, ◌%◌, ◌≤◌, ◌<◌}
+use Prim.Native.Nat.{ℕ, ◌+◌, ◌/◌, ◌%◌, ◌≤◌}
 use native.Mathlib.Omega.{arith}
 use lib.ListN.{length, take}
 use Rattle.text_write.specs.Writing.{group_text}
 use Rattle.text_write.specs.WriterSteps.{unpacked}
 use Rattle.text_write.specs.theory.Stores.{fill_more, filled_less, kept_stored}
 use Rattle.text_write.specs.theory.Digits.{text_length, four, moved, moved_is, unpacked_hex}
-use borrow.Author.Rules.{rules}
 use Rattle.text_write.proofs.writer.put_group.Goals as goal
 use Rattle.text_write.proofs.writer.put_group.Goals.{After-put_four}
 

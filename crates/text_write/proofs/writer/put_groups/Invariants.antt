@@ -1,14 +1,9 @@
 -- The invariant: what is written, with the groups that are left, is the text of all of them.
-use mathlib.Core.Path.{◌≡◌, refl, sym, ap, ◌∙◌}
-use mathlib.Core.List.{List, [], ◌∷◌, ◌++◌, append-nil}
-use Prim.Native.Nat.{ℕ, ◌+◌, ◌*◌, ◌-◌, ◌≤◌, ◌<◌}
-use native.Mathlib.Omega.{arith}
-use lib.ListN.{length, take, drop, get_or}
-use Rattle.text_write.specs.Writing.{group_text}
+use mathlib.Core.Path.{◌≡◌}
+use mathlib.Core.List.{◌++◌}
+use Prim.Native.Nat.{◌+◌, ◌*◌, ◌-◌, ◌≤◌}
+use lib.ListN.{length, take, drop}
 use Rattle.text_write.specs.WriterSteps.{key_groups, closed_text}
-use Rattle.text_write.proofs.Groups.{eight}
-use Rattle.text_write.specs.theory.Stores.{kept_later}
-use Rattle.text_write.specs.theory.Texts.{closed_none, closed_next, one_step}
 use Rattle.text_write.proofs.writer.put_groups.Given as goal
 
 abbrev pub invariant-loop-i : goal.invariant-loop-i

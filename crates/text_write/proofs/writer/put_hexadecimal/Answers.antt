@@ -10,7 +10,6 @@ use Rattle.text_write.proofs.Groups.{eight}
 use Rattle.text_write.specs.theory.Stores.{kept_later, kept_stored}
 use Rattle.text_write.specs.theory.Texts.{text_plain, gap_put}
 use Rattle.text_write.specs.theory.LongestRun.{longest_run}
-use borrow.Author.Rules.{rules}
 use Rattle.text_write.proofs.writer.put_hexadecimal.Goals as goal
 use Rattle.text_write.proofs.writer.put_hexadecimal.Goals.{After-put_front-end}
 

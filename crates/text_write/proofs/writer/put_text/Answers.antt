@@ -1,5 +1,4 @@
 -- The test decides which of the two texts is put: `written_mapped`, `written_plain`.
-use borrow.Author.Rules.{rules}
 use mathlib.Core.Path.{sym, ◌∙◌}
 use native.Mathlib.Omega.{arith}
 use Rattle.text_write.specs.WriterSteps.{key_groups}

@@ -1,5 +1,4 @@
 -- The test decides.
-use borrow.Author.Rules.{rules}
 use mathlib.Core.Path.{sym, ◌∙◌}
 use Rattle.text_write.proofs.writer.write.Goals as goal
 

@@ -9,7 +9,6 @@ use Rattle.text_write.specs.Writing.{written}
 use Rattle.text_write.specs.WriterSteps.{key_groups}
 use Rattle.text_write.specs.theory.Mapped.{written_plain}
 use Rattle.text_write.specs.theory.Answered.{too_long, fits}
-use borrow.Author.Rules.{rules}
 use Rattle.text_write.proofs.writer.write_hexadecimal.Goals as goal
 use Rattle.text_write.proofs.writer.write_hexadecimal.Goals.{After-put_hexadecimal-n}
 

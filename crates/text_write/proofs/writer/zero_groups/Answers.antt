@@ -1,11 +1,9 @@
--- The invariant: the marks are those of the groups from i on.
 use mathlib.Core.Path.{◌≡◌, sym, ◌∙◌}
 use mathlib.Core.List.{[]}
-use Prim.Native.Nat.{◌+◌, ◌*◌, ◌-◌, ◌≤◌, ◌<◌}
+use Prim.Native.Nat.{◌+◌, ◌*◌, ◌-◌, ◌≤◌}
 use native.Mathlib.Omega.{arith}
 use lib.ListN.{length, drop, length-drop, drop_of_length-le}
 use lib.Pow.{pow_mono}
-use borrow.Author.Rules.{rules}
 use Rattle.text_write.specs.WriterSteps.{key_groups, run_marks}
 use Rattle.text_write.proofs.Groups.{eight}
 use Rattle.text_write.proofs.Marks.{marks_lt, marks_step}

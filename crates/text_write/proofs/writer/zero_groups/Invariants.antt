@@ -1,14 +1,8 @@
 -- The invariant: the marks are those of the groups from i on.
-use mathlib.Core.Path.{◌≡◌, sym, ◌∙◌}
-use mathlib.Core.List.{[]}
-use Prim.Native.Nat.{◌+◌, ◌*◌, ◌-◌, ◌≤◌, ◌<◌}
-use native.Mathlib.Omega.{arith}
-use lib.ListN.{length, drop, length-drop, drop_of_length-le}
-use lib.Pow.{pow_mono}
-use borrow.Author.Rules.{rules}
+use mathlib.Core.Path.{◌≡◌}
+use Prim.Native.Nat.{◌≤◌, ◌<◌}
+use lib.ListN.{drop}
 use Rattle.text_write.specs.WriterSteps.{key_groups, run_marks}
-use Rattle.text_write.proofs.Groups.{eight}
-use Rattle.text_write.proofs.Marks.{marks_lt, marks_step}
 use Rattle.text_write.proofs.writer.zero_groups.Given as goal
 
 abbrev pub invariant-loop-i : goal.invariant-loop-i
