@@ -5,24 +5,19 @@ use native.Mathlib.Omega.{arith}
 use lib.Dec.{eqb}
 use borrow.Author.Tests.{ne_eqb}
 use Rattle.text_write.specs.Writing.{is_mapped}
-use Rattle.text_write.proofs.mapped.is_mapped.Statement.{statement}
-use Rattle.text_write.proofs.mapped.is_mapped.Tie as tie
+use Rattle.text_write.proofs.mapped.is_mapped.Goals as goal
 
-returns : tie.Need-returns
+pub returns-then-key-ne0 : goal.returns-then-key-ne0
 unfolding is_mapped
-returns c =
-    let k = c.before.before.args.key in
-    let h = c.if1.true in
+returns-then-key-ne0 c =
+    let k = c.args.key in
+    let h = c.if-key-ne0.true in
     sym (ne_eqb ((k.high * 2 ^ 64 + k.low) / 2 ^ 32) 65535 (λ e. omega arith))
 
-returns-2 : tie.Need-returns-2
+pub returns : goal.returns
 unfolding is_mapped
-returns-2 c =
-    let e = c.before in
-    let k = e.before.before.args.key in
-    let h = e.if1.false in
+returns c =
+    let k = c.args.key in
+    let h = c.if-key-ne0.false in
     let z : k.low / 4294967296 ≡ (k.high * 2 ^ 64 + k.low) / 2 ^ 32 = omega arith in
     ap (λ x. eqb x 65535) z
-
-pub is-mapped-spec : {M : Type 1} → statement M
-is-mapped-spec = tie.close (tie.spec returns returns-2)
