@@ -9,19 +9,19 @@ use Rattle.table_read.specs.Places.{BlockIn}
 use Rattle.table_read.specs.theory.Places.{over_in}
 use Rattle.table_store.specs.Stores.{link_put}
 use Rattle.table_store.proofs.fields.put_overflow_link.Goals as goal
-use Rattle.table_store.proofs.fields.put_overflow_link.Goals.{After-slice_known-1, Start}
+use Rattle.table_store.proofs.fields.put_overflow_link.Goals.{Start}
 
 -- block j, with its link
 block : (s : Start) → BlockIn s.args.t.now s.args.g.overflow s.args.j.0 s.args.g.link
 block s = over_in s.args.g s.args.t.now s.requires.0 s.args.g.link (omega arith) s.args.j.0 s.requires.1
 
 pub link_at-requires : goal.link_at-requires
-link_at-requires c = let b = (block (goal.at.link_at-requires c).After-slice_known-1).fields in record { near = b.near; fits = omega (arith, b.fits) }
+link_at-requires c = let b = (block (goal.at.link_at-requires c).Start).fields in record { near = b.near; fits = omega (arith, b.fits) }
 
 pub put-requires : goal.put-requires
 put-requires c =
-    let b = block (goal.at.put-requires c).After-slice_known-1 in
-    (omega (arith, b.room, b.fields.fits, b.numbers, c.link_at.ensures), c.requires.2)
+    let b = block (goal.at.put-requires c).Start in
+    record { within = omega (arith, b.room, b.fields.fits, b.numbers, c.link_at.ensures); v_bound = c.requires.2 }
 
 pub returns : goal.returns
 unfolding link_put link_at

@@ -11,7 +11,7 @@ use Rattle.table_read.specs.theory.Reads.{sized}
 use Rattle.table_store.specs.Places.{place_from}
 use Rattle.table_store.specs.theory.PlaceLaws.{in_blocks_at}
 use Rattle.table_store.proofs.places.place_at.Goals as goal
-use Rattle.table_store.proofs.places.place_at.Goals.{After-block_slot_of-s, After-overflow_slot-arg-2-1}
+use Rattle.table_store.proofs.places.place_at.Goals.{After-block_slot_of-s}
 
 pub returns-then-p-g : goal.returns-then-p-g
 unfolding place_from
@@ -31,7 +31,7 @@ block-slot-low c =
     (omega (arith, b, k.low), omega (arith, d, k.few))
 
 pub overflow_slot-requires : goal.overflow_slot-requires
-overflow_slot-requires c = let k = block-slot-low (goal.at.overflow_slot-requires c).After-overflow_slot-arg-2-1 in (c.requires.0.proper, k.0, k.1)
+overflow_slot-requires c = let k = block-slot-low (goal.at.overflow_slot-requires c).After-block_slot_of-s in (c.requires.0.proper, k.0, k.1)
 
 pub returns : goal.returns
 unfolding place_from

@@ -15,7 +15,7 @@ use Rattle.table_store.specs.Stores.{StoredOver, slot_put}
 use Rattle.table_store.specs.theory.StoreLaws.{table_kept, slot_asks, slot_put_lem, slot_lt}
 use Rattle.table_store.specs.theory.PlaceLaws.{place_ends, stored_plain, stored_under}
 use Rattle.table_store.proofs.places.store_at_place.Goals as goal
-use Rattle.table_store.proofs.places.store_at_place.Goals.{After-basic_slots, After-displaced_run-run, After-overflow_link-old, After-place_at-at, After-slice_known-1}
+use Rattle.table_store.proofs.places.store_at_place.Goals.{After-basic_slots, After-displaced_run-run, After-overflow_link-old, After-place_at-at}
 
 -- the first L bits of the slots are in the table
 head-ends : (c : After-basic_slots) → let g = c.args.g in c.basic_slots.result + g.link ≤ g.bits
@@ -67,16 +67,13 @@ old-fits c =
 
 pub store_over_displaced-new-requires : goal.store_over_displaced-new-requires
 store_over_displaced-new-requires c =
-    let F = c.requires.0.proper in (
-      slot_asks c.args.g c.args.t.now c.requires.0 c.place_at-at.result _ _ (slot_in_lem (goal.at.store_over_displaced-new-requires c).After-slice_known-1) c.requires.2,
-      (omega (arith, start_is (goal.at.store_over_displaced-new-requires c).After-displaced_run-run, displaced-is (goal.at.store_over_displaced-new-requires c).After-displaced_run-run, c.basic_slots.ensures, head-ends (goal.at.store_over_displaced-new-requires c).After-place_at-at, c.requires.0.room), omega (arith, displaced-is (goal.at.store_over_displaced-new-requires c).After-displaced_run-run, F.link_high), rw (displaced-is (goal.at.store_over_displaced-new-requires c).After-displaced_run-run, value-is (goal.at.store_over_displaced-new-requires c).After-displaced_run-run) (old-fits (goal.at.store_over_displaced-new-requires c).After-overflow_link-old)),
-    )
+    let F = c.requires.0.proper in record { val_bound = slot_asks c.args.g c.args.t.now c.requires.0 c.place_at-at.result _ _ (slot_in_lem (goal.at.store_over_displaced-new-requires c).After-place_at-at) c.requires.2; displaced_bound = (omega (arith, start_is (goal.at.store_over_displaced-new-requires c).After-displaced_run-run, displaced-is (goal.at.store_over_displaced-new-requires c).After-displaced_run-run, c.basic_slots.ensures, head-ends (goal.at.store_over_displaced-new-requires c).After-basic_slots, c.requires.0.room), omega (arith, displaced-is (goal.at.store_over_displaced-new-requires c).After-displaced_run-run, F.link_high), rw (displaced-is (goal.at.store_over_displaced-new-requires c).After-displaced_run-run, value-is (goal.at.store_over_displaced-new-requires c).After-displaced_run-run) (old-fits (goal.at.store_over_displaced-new-requires c).After-overflow_link-old)) }
 
 pub put_overflow_link-requires : goal.put_overflow_link-requires
 put_overflow_link-requires c =
     let new : c.store_over_displaced-new.result < 2 ^ c.args.g.link = rw (c.store_over_displaced-new.ensures.head, displaced-is (goal.at.put_overflow_link-requires c).After-displaced_run-run) (field_lt _ _ _) in
     let old = old-fits (goal.at.put_overflow_link-requires c).After-overflow_link-old in
-    (table_kept _ c.store_over_displaced-new.auto.0 c.requires.0, c.requires.1.last, omega arith)
+    (table_kept _ c.store_over_displaced-new.auto.t c.requires.0, c.requires.1.last, omega arith)
 
 pub returns : goal.returns
 returns c =
@@ -87,6 +84,6 @@ returns c =
     stored_under a.g a.t.now c.requires.0 a.i.0 a.h.0 a.l.0 a.p c.place_at-at.result c.requires.1 c.place_at-at.ensures x
     (slot_lt a.g F _ _ c.requires.2) (omega (arith, c.if-at-basic_slots.false, c.basic_slots.ensures)) r.value r.start _ _ _
     (value-is (goal.at.returns c).After-displaced_run-run ∙ c.overflow_link-old.ensures) (start_is (goal.at.returns c).After-displaced_run-run)
-    (subst (λ (m : ℕ). StoredOver m a.g.slot a.t.now c.store_over_displaced-new.new.0 r.start r.value c.place_at-at.result x c.store_over_displaced-new.result) (displaced-is (goal.at.returns c).After-displaced_run-run)
-    (subst (λ (n : ℕ). StoredOver r.displaced n a.t.now c.store_over_displaced-new.new.0 r.start r.value c.place_at-at.result x c.store_over_displaced-new.result) (sym F.slot_is) c.store_over_displaced-new.ensures))
+    (subst (λ (m : ℕ). StoredOver m a.g.slot a.t.now c.store_over_displaced-new.new.t r.start r.value c.place_at-at.result x c.store_over_displaced-new.result) (displaced-is (goal.at.returns c).After-displaced_run-run)
+    (subst (λ (n : ℕ). StoredOver r.displaced n a.t.now c.store_over_displaced-new.new.t r.start r.value c.place_at-at.result x c.store_over_displaced-new.result) (sym F.slot_is) c.store_over_displaced-new.ensures))
     c.put_overflow_link.ensures

@@ -10,7 +10,7 @@ use Rattle.bits.specs.theory.Words.{field_two}
 use Rattle.table_store.specs.theory.StoreLaws.{put_back}
 use borrow.Author.Rules.{rules}
 use Rattle.table_store.proofs.slots.copy.Goals as goal
-use Rattle.table_store.proofs.slots.copy.Goals.{After-get-high-2, After-get-low, After-get-low-2}
+use Rattle.table_store.proofs.slots.copy.Goals.{After-get-low, After-get-low-2}
 
 pub put_wide-requires : goal.put_wide-requires
 put_wide-requires c = (omega arith, omega arith, omega arith, rw (zero-add, c.get-x.ensures) (field_lt _ _ _))
@@ -45,7 +45,7 @@ put_wide-requires-2 c = (omega arith, omega arith, omega arith, rw (zero-add, c.
 
 pub put_wide-requires-3 : goal.put_wide-requires-3
 put_wide-requires-3 c =
-    (omega arith, omega arith, omega arith, rw (first (goal.at.put_wide-requires-3 c).After-get-high-2) (field_lt _ _ _))
+    (omega arith, omega arith, omega arith, rw (first (goal.at.put_wide-requires-3 c).After-get-low-2) (field_lt _ _ _))
 
 pub returns : goal.returns
 returns c =
@@ -53,5 +53,5 @@ returns c =
     let r = c.get-rest in
     put_back a.t.now _ _ a.to 128 (a.to + 128) (a.n - 128) a.n _ _ _ (λ j. omega (arith, c.slice_known-1.given j)) (omega arith) refl (omega arith)
     (rw (zero-add, r.ensures) (field_lt _ _ _))
-    (sym (ap₂ (λ (x y : ℕ). x * 2 ^ (a.n - 128) + y) (first (goal.at.returns c).After-get-high-2) (zero-add _ ∙ r.ensures) ∙ field_two a.t.now a.from 128 (a.from + 128) (a.n - 128) a.from a.n refl refl (omega arith)))
+    (sym (ap₂ (λ (x y : ℕ). x * 2 ^ (a.n - 128) + y) (first (goal.at.returns c).After-get-low-2) (zero-add _ ∙ r.ensures) ∙ field_two a.t.now a.from 128 (a.from + 128) (a.n - 128) a.from a.n refl refl (omega arith)))
     c.put_wide-2.ensures c.put_wide-3.ensures

@@ -15,10 +15,7 @@ use Rattle.table_store.proofs.zeros.clear.Goals as goal
 use Rattle.table_store.proofs.zeros.clear.Goals.{After-first_bits, After-zero_bytes}
 
 pub put-requires : goal.put-requires
-put-requires c = (search rules, pow_pos _)
-
--- GONE slice-bounds-zero-bytes-end
--- part-zero-bytes-end c = simp length-set (omega arith)
+put-requires c = record { within = search rules; v_bound = pow_pos _ }
 
 begun-is : (c : After-first_bits) → let a = c.args in (let a = c.args in set a.t.now (a.off / 8) c.first_bits.result) ≡ put_field a.t.now a.off (8 - a.off % 8) 0
 begun-is c = let a = c.args in clear_first a.t.now a.off _ (omega arith) c.first_bits.ensures
@@ -29,23 +26,32 @@ begun-bytes c =
     let b : Bytes a.t.now = λ j. omega (arith, c.slice_known-1.given j) in
     rw (begun-is c) (put_bytes a.t.now a.off (8 - a.off % 8) 0 b)
 
+begun-is_at_after_zero_bytes : (c : After-zero_bytes) → let a = c.args in (let a = c.args in set a.t.now (a.off / 8) c.first_bits.result) ≡ put_field a.t.now a.off (8 - a.off % 8) 0
+begun-is_at_after_zero_bytes c = let a = c.args in clear_first a.t.now a.off _ (omega arith) c.first_bits.ensures
+
+begun-bytes_at_after_zero_bytes : (c : After-zero_bytes) → Bytes ((let a = c.args in set a.t.now (a.off / 8) c.first_bits.result))
+begun-bytes_at_after_zero_bytes c =
+    let a = c.args in
+    let b : Bytes a.t.now = λ j. omega (arith, c.slice_known-1.given j) in
+    rw (begun-is_at_after_zero_bytes c) (put_bytes a.t.now a.off (8 - a.off % 8) 0 b)
+
 most-is : (c : After-zero_bytes) → let a = c.args in (let s = (let a = c.args in set a.t.now (a.off / 8) c.first_bits.result) in
     let a = c.args in
     let i = a.off / 8 + 1 in
-    take i s ++ (c.zero_bytes.new.0 ++ drop ((a.off + a.n) / 8 - i) (drop i s))) ≡ put_field a.t.now a.off (8 * ((a.off + a.n) / 8) - a.off) 0
+    take i s ++ (c.zero_bytes.new.s ++ drop ((a.off + a.n) / 8 - i) (drop i s))) ≡ put_field a.t.now a.off (8 * ((a.off + a.n) / 8) - a.off) 0
 most-is c =
     let a = c.args in
     let s = (let a = c.args in set a.t.now (a.off / 8) c.first_bits.result) in
     let i = a.off / 8 + 1 in
     let l : length s ≡ length a.t.now = length-set a.t.now (a.off / 8) c.first_bits.result in
     clear_more a.t.now _ _ a.off (8 - a.off % 8) (8 * (a.off / 8 + 1)) (8 * ((a.off + a.n) / 8 - (a.off / 8 + 1))) (8 * ((a.off + a.n) / 8) - a.off)
-    (omega arith) (omega arith) (begun-is ⟪After-first_bits⟫)
-    (zeros_put s c.zero_bytes.new.0 i ((a.off + a.n) / 8 - i) (begun-bytes ⟪After-first_bits⟫) (omega (arith, l)) c.zero_bytes.ensures)
+    (omega arith) (omega arith) (begun-is_at_after_zero_bytes c)
+    (zeros_put s c.zero_bytes.new.s i ((a.off + a.n) / 8 - i) (begun-bytes_at_after_zero_bytes c) (omega (arith, l)) c.zero_bytes.ensures)
 
 long : (c : After-zero_bytes) → length ((let s = (let a = c.args in set a.t.now (a.off / 8) c.first_bits.result) in
     let a = c.args in
     let i = a.off / 8 + 1 in
-    take i s ++ (c.zero_bytes.new.0 ++ drop ((a.off + a.n) / 8 - i) (drop i s)))) ≡ length c.args.t.now
+    take i s ++ (c.zero_bytes.new.s ++ drop ((a.off + a.n) / 8 - i) (drop i s)))) ≡ length c.args.t.now
 long c = let a = c.args in ap length (most-is c) ∙ put_length a.t.now a.off (8 * ((a.off + a.n) / 8) - a.off) 0
 
 pub bounds-t-e : goal.bounds-t-e
@@ -60,7 +66,7 @@ shape_of-t-then-k-gt0 c =
     length-set ((let s = (let a = c.args in set a.t.now (a.off / 8) c.first_bits.result) in
     let a = c.args in
     let i = a.off / 8 + 1 in
-    take i s ++ (c.zero_bytes.new.0 ++ drop ((a.off + a.n) / 8 - i) (drop i s)))) ((a.off + a.n) / 8) c.last_bits.result ∙ long (goal.at.shape_of-t-then-k-gt0 c).After-zero_bytes
+    take i s ++ (c.zero_bytes.new.s ++ drop ((a.off + a.n) / 8 - i) (drop i s)))) ((a.off + a.n) / 8) c.last_bits.result ∙ long (goal.at.shape_of-t-then-k-gt0 c).After-zero_bytes
 
 pub returns-then-k-gt0 : goal.returns-then-k-gt0
 returns-then-k-gt0 c =
@@ -69,7 +75,7 @@ returns-then-k-gt0 c =
     (clear_last ((let s = (let a = c.args in set a.t.now (a.off / 8) c.first_bits.result) in
     let a = c.args in
     let i = a.off / 8 + 1 in
-    take i s ++ (c.zero_bytes.new.0 ++ drop ((a.off + a.n) / 8 - i) (drop i s)))) ((a.off + a.n) / 8) ((a.off + a.n) % 8) _ (omega (arith, long (goal.at.returns-then-k-gt0 c).After-zero_bytes)) (omega arith) c.last_bits.ensures)
+    take i s ++ (c.zero_bytes.new.s ++ drop ((a.off + a.n) / 8 - i) (drop i s)))) ((a.off + a.n) / 8) ((a.off + a.n) % 8) _ (omega (arith, long (goal.at.returns-then-k-gt0 c).After-zero_bytes)) (omega arith) c.last_bits.ensures)
 
 pub shape_of-t-else-k-gt0 : goal.shape_of-t-else-k-gt0
 shape_of-t-else-k-gt0 c = long (goal.at.shape_of-t-else-k-gt0 c).After-zero_bytes
