@@ -2,12 +2,8 @@
 use lib.Dec.{lit≤}
 use Rattle.text_read.specs.Class.{class_of}
 use Rattle.text_read.proofs.Table.{right, classes_of}
-use Rattle.text_read.proofs.class.classes.Statement.{statement}
-use Rattle.text_read.proofs.class.classes.Tie as tie
+use Rattle.text_read.proofs.class.classes.Goals as goal
 
-returns : tie.Need-returns
+pub returns : goal.returns
 unfolding right class_of
 returns c = classes_of _ (lit≤ tt) tt
-
-pub classes-spec : {M : Type 1} → statement M
-classes-spec = tie.close (tie.spec returns)
