@@ -6,7 +6,7 @@ use borrow.Author.Rules.{rules}
 use lib.ListN.{length}
 use lib.Seq.{length-take-le}
 use Rattle.text_run.specs.Answers.{taken_of}
-use Rattle.text_run.specs.theory.Taken.{taken_front}
+use Rattle.text_run.proofs.Takes.{taken_front}
 use Rattle.text_run.proofs.Ends.{front_take}
 use Rattle.text_run.proofs.run.read.Goals as goal
 

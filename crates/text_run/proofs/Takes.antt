@@ -9,8 +9,8 @@ use Rattle.text_read.specs.Answers.{reading_of}
 use Rattle.text_read.specs.declared.Parsed.{Parsed}
 use Rattle.text_read.specs.declared.Parsed.TheVariants as parsed
 use Rattle.text_read.specs.theory.Splits.{Without}
-use Rattle.text_read.specs.theory.Spaces.{read_classes}
-use Rattle.text_read.specs.theory.Lengths.{read_length}
+use Rattle.text_read.proofs.Spaces.{read_classes}
+use Rattle.text_read.proofs.Lengths.{read_length}
 use Rattle.text_read.specs.theory.Answers.{unread}
 use Rattle.text_run.specs.Run.{run}
 use Rattle.text_run.specs.Answers.{taking, taken_of}

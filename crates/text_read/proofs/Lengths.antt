@@ -5,7 +5,7 @@ use Rattle.keys.specs.declared.Key.{Key}
 use Rattle.text_read.specs.Grammar.{Group, hex1, hex2, hex3, hex4, Decimal, dec1, dec2, dec3, Dotted, four, Groups, one, two, more, Side, empty, full, Spells, plain, gap, bare}
 use Rattle.text_read.specs.Answers.{reading_of}
 use Rattle.text_read.specs.declared.Parsed.TheVariants as parsed
-use Rattle.text_read.specs.theory.Grammar.{dotted_two, read_legal}
+use Rattle.text_read.proofs.Grammar.{dotted_two, read_legal}
 
 group_length : {s : List ℕ} {g : ℕ} → Group s g → (1 ≤ length s) × (length s ≤ 4)
 group_length (hex1 a) = (omega arith, omega arith)

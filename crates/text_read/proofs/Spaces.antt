@@ -9,7 +9,7 @@ use Rattle.text_read.specs.Answers.{reading_of}
 use Rattle.text_read.specs.declared.Parsed.TheVariants as parsed
 use Rattle.text_read.specs.theory.Bytes.{Separator, a_colon, a_dot, digit_class, digit_below}
 use Rattle.text_read.specs.theory.Splits.{Without, without_append}
-use Rattle.text_read.specs.theory.Grammar.{read_legal}
+use Rattle.text_read.proofs.Grammar.{read_legal}
 
 pub digit_known : {x a : ℕ} → HexDigit x a → eqb (class_of x) other ≡ false
 digit_known {x} d = ne_eqb (class_of x) other (λ e. omega (arith, digit_class d, digit_below d))
