@@ -1,5 +1,4 @@
 -- A byte's class, or the end's.
-use borrow.Author.Rules.{rules}
 use mathlib.Core.Path.{◌∙◌}
 use borrow.Author.Tests.{lt-ltb, le-ltb}
 use Rattle.text_read.specs.ReaderSteps.{class_at}

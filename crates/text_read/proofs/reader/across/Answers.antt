@@ -1,5 +1,4 @@
 -- One law says that both halves have room, and that they are the answer.
-use borrow.Author.Rules.{rules}
 use native.Mathlib.Omega.{arith}
 use mathlib.Core.Path.{◌∙◌, sym}
 use Rattle.text_read.proofs.Joined.{Across, moved}

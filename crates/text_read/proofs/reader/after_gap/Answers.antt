@@ -36,7 +36,7 @@ returns-in_default c =
     let h = c.args.head in
     c.refused.ensures
     ∙ sym (after_here (number_of h) h.count s i (omega (arith, c.requires.2, c.if-at-text.false))
-    ∙ ap (tail_answer (number_of h) h.count) (sym (part _ c.requires.1 c.read_part.ensures)) ∙ not-whole (number_of h) h.count c.read_part.result c.in_default.not-Whole)
+    ∙ ap (tail_answer (number_of h) h.count) (sym (part _ c.requires.1 c.read_part.ensures)) ∙ not-whole (number_of h) h.count c.read_part.result (search rules))
 
 pub filled-requires-2 : goal.filled-requires-2
 filled-requires-2 c =

@@ -1,5 +1,4 @@
 -- The first byte that is no digit ends the decimal; three digits are the most, and none follows a leading zero.
-use borrow.Author.Rules.{rules}
 use mathlib.Core.Path.{◌∙◌, sym}
 use native.Mathlib.Omega.{arith}
 use Rattle.text_read.proofs.Fields.{decimal_none, decimal_one, decimal_zero, decimal_two, decimal_over, decimal_three}

@@ -1,5 +1,5 @@
 -- What is left of the text, with the decimals read so far, gives the answer.
-use Prim.Native.Nat.{ℕ, ◌+◌, ◌*◌, ◌-◌, ◌^◌, ◌≤◌, ◌<◌}
+use Prim.Native.Nat.{ℕ, ◌+◌, ◌*◌, ◌^◌, ◌≤◌, ◌<◌}
 use mathlib.Core.Path.{◌≡◌, refl, sym, ap, ◌∙◌}
 use mathlib.Core.List.{List}
 use mathlib.Core.Option.{Option, none, some}
@@ -9,7 +9,7 @@ use lib.ListN.{length, drop}
 use lib.Dec.{eqb, lit<}
 use Rattle.text_read.specs.Class.{dot}
 use Rattle.text_read.specs.Numerals.{decimal}
-use Rattle.text_read.specs.ReaderSteps.{until, numeral_of, decimal_in, dotted_from}
+use Rattle.text_read.specs.ReaderSteps.{until, numeral_of, decimal_in}
 use Rattle.text_read.specs.theory.Joined.{digit_more}
 use Rattle.text_read.proofs.Fields.{digit_most}
 use Rattle.text_read.proofs.Splits.{Past, numeral_if, no_decimal, one_decimal, decimal_le, dotted_bad, dotted_many, dotted_last, dotted_more}

@@ -1,17 +1,8 @@
 -- What is left of the text, with the decimals read so far, gives the answer.
-use Prim.Native.Nat.{ℕ, ◌+◌, ◌*◌, ◌-◌, ◌^◌, ◌≤◌, ◌<◌}
-use mathlib.Core.Path.{◌≡◌, refl, sym, ap, ◌∙◌}
-use mathlib.Core.Option.{Option, none, some}
-use native.Mathlib.Omega.{arith}
-use borrow.Author.Rules.{rules}
+use Prim.Native.Nat.{◌-◌, ◌^◌, ◌≤◌, ◌<◌}
+use mathlib.Core.Path.{◌≡◌}
 use lib.ListN.{length, drop}
-use lib.Dec.{eqb, lit<}
-use Rattle.text_read.specs.Class.{dot}
-use Rattle.text_read.specs.Numerals.{decimal}
-use Rattle.text_read.specs.ReaderSteps.{until, numeral_of, dotted_from}
-use Rattle.text_read.specs.theory.Joined.{digit_more}
-use Rattle.text_read.proofs.Fields.{digit_most}
-use Rattle.text_read.proofs.Splits.{Past, numeral_if, no_decimal, one_decimal, decimal_le, dotted_bad, dotted_many, dotted_last, dotted_more}
+use Rattle.text_read.specs.ReaderSteps.{dotted_from}
 use Rattle.text_read.proofs.reader.dotted.Given as goal
 
 abbrev pub invariant-loop-byte : goal.invariant-loop-byte

@@ -1,5 +1,4 @@
 -- The test decides; the halves are the key.
-use borrow.Author.Rules.{rules}
 use mathlib.Core.Path.{refl, ◌∙◌, sym}
 use borrow.Author.Tests.{eq-eqb, ne_eqb}
 use Rattle.text_read.specs.ReaderSteps.{number_of}

@@ -1,5 +1,4 @@
 -- The test refuses what leaves no place for a zero group; the two callees answer the rest.
-use borrow.Author.Rules.{rules}
 use mathlib.Core.Path.{◌∙◌, sym}
 use Rattle.text_read.specs.ReaderSteps.{number_of}
 use Rattle.text_read.proofs.Joined.{filled_none}

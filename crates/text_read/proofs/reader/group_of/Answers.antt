@@ -1,5 +1,4 @@
 -- The first byte that is no digit ends the group; four digits are the most.
-use borrow.Author.Rules.{rules}
 use Prim.Native.Nat.{◌≤◌}
 use mathlib.Core.Path.{◌∙◌, sym}
 use native.Mathlib.Omega.{arith}

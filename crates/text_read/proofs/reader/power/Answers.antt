@@ -1,5 +1,4 @@
 -- The shift loses no bit.
-use borrow.Author.Rules.{rules}
 use Prim.Native.Nat.{◌*◌}
 use mathlib.Core.Path.{◌∙◌}
 use native.Mathlib.Nat.{one-mul}

@@ -1,5 +1,4 @@
 -- One law says that both halves have room, and that they are the groups.
-use borrow.Author.Rules.{rules}
 use mathlib.Core.Path.{sym}
 use native.Mathlib.Omega.{arith}
 use Rattle.text_read.proofs.Joined.{Moved, moved_up}

@@ -1,5 +1,4 @@
 -- One law says that the high half has room, and that the halves are the answer.
-use borrow.Author.Rules.{rules}
 use native.Mathlib.Omega.{arith}
 use mathlib.Core.Path.{◌∙◌, sym}
 use Rattle.text_read.proofs.Joined.{Raised, raised}

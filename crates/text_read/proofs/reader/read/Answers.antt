@@ -1,5 +1,4 @@
 -- The table's rule is a test at each of its 256 entries, which is computed.
-use borrow.Author.Rules.{rules}
 use lib.Dec.{lit≤}
 use Rattle.text_read.specs.Class.{class_of}
 use Rattle.text_read.proofs.Table.{right, classes_of}

@@ -1,6 +1,5 @@
 -- The first part decides.
 use mathlib.Core.Path.{sym, ap, ◌∙◌}
-use borrow.Author.Rules.{rules}
 use lib.ListN.{length}
 use Rattle.text_read.specs.ReaderSteps.{head_answer, Fine}
 use Rattle.text_read.specs.declared.reader.Part.TheVariants as answer

@@ -1,5 +1,5 @@
 -- What is left of the text, with the groups read so far, gives the answer.
-use Prim.Native.Nat.{ℕ, ◌+◌, ◌-◌, ◌≤◌, ◌<◌}
+use Prim.Native.Nat.{ℕ, ◌+◌, ◌≤◌}
 use mathlib.Core.Path.{◌≡◌, refl, sym, ap, ap₂, ◌∙◌}
 use native.Mathlib.Omega.{arith}
 use borrow.Author.Rules.{rules}
@@ -9,7 +9,7 @@ use lib.ListN.{length, drop}
 use lib.Dec.{lit<, lit≤}
 use Rattle.text_read.specs.Class.{colon}
 use Rattle.text_read.specs.Numerals.{group}
-use Rattle.text_read.specs.ReaderSteps.{until, group_in, number_of, Sized, part_at}
+use Rattle.text_read.specs.ReaderSteps.{until, group_in, Sized, part_at}
 use Rattle.text_read.proofs.Splits.{Past, no_group, one_group}
 use Rattle.text_read.proofs.Joined.{group_small, pushed_of}
 use Rattle.text_read.proofs.Parts.{before_sized, part_tail, turn_many, turn_last, turn_short, turn_gap, turn_more}

@@ -1,7 +1,6 @@
 -- Each test lets the run pass one byte.
 use Prim.Native.Nat.{◌+◌}
 use native.Mathlib.Omega.{arith}
-use borrow.Author.Rules.{rules}
 use Rattle.laws.specs.Passes.{passes_four}
 use Rattle.text_run.specs.Steps.{run_end}
 use Rattle.text_run.proofs.Ends.{passes_one}

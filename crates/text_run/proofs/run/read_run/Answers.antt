@@ -1,9 +1,6 @@
 -- The run is read as a whole.
 use mathlib.Core.Path.{◌≡◌, sym, ap, ◌∙◌}
-use mathlib.Core.List.{List}
-use Prim.Native.Nat.{ℕ}
 use native.Mathlib.Omega.{arith}
-use borrow.Author.Rules.{rules}
 use lib.Seq.{length-take-le}
 use Rattle.text_run.specs.Answers.{taking, taken_of}
 use Rattle.text_run.proofs.Ends.{run_le, taken_is}

@@ -1,11 +1,6 @@
 -- The run that goes on from `i` ends where the run from the start does. The measure is what is left of the text.
-use mathlib.Core.Path.{◌≡◌, sym, ◌∙◌}
-use Prim.Native.Nat.{◌-◌}
-use native.Mathlib.Omega.{arith}
-use borrow.Author.Rules.{rules}
+use mathlib.Core.Path.{sym, ◌∙◌}
 use borrow.Author.Tests.{eqb-true, not-false}
-use lib.ListN.{length}
-use Rattle.text_run.specs.Steps.{run_end}
 use Rattle.text_run.proofs.Ends.{run_hit, passes_one, run_over, run_start}
 use Rattle.text_run.proofs.run.run_length.Goals as goal
 

@@ -1,6 +1,5 @@
 -- Each call lets the run pass four bytes.
 use native.Mathlib.Omega.{arith}
-use borrow.Author.Rules.{rules}
 use Rattle.laws.specs.Passes.{passes_four}
 use Rattle.text_run.specs.Steps.{run_end}
 use Rattle.text_run.proofs.run.sixteen_in_run.Goals as goal

@@ -1,9 +1,6 @@
 -- The run that goes on from `i` ends where the run from the start does. The measure is what is left of the text.
-use mathlib.Core.Path.{◌≡◌, refl, sym, ◌∙◌}
-use Prim.Native.Nat.{◌≤◌, ◌-◌}
+use mathlib.Core.Path.{refl, sym, ◌∙◌}
 use native.Mathlib.Omega.{arith}
-use lib.ListN.{length}
-use Rattle.text_run.specs.Steps.{run_end}
 use Rattle.text_run.proofs.run.skip_sixteens.Goals as goal
 
 pub loop-i-init : goal.loop-i-init
