@@ -148,9 +148,9 @@ filled_key a (some b) = go (ltb (length a + length b) 8) refl
 
 -- The key -----------------------------------------------------------------------------------------------------------------
 
-pub key_of : (n h l : ℕ) → l < 2 ^ 64 → n ≡ h * 2 ^ 64 + l → key_of n ≡ record { high = h; low = l }
+pub key_halves : (n h l : ℕ) → l < 2 ^ 64 → n ≡ h * 2 ^ 64 + l → key_of n ≡ record { high = h; low = l }
 unfolding key_of
-key_of n h l b e =
+key_halves n h l b e =
     let p : n / 2 ^ 64 ≡ h = omega arith in
     let q : n % 2 ^ 64 ≡ l = omega arith in
     rw (p, q)
@@ -158,7 +158,7 @@ key_of n h l b e =
 filled_found : (v n w m h l : ℕ) → n + m < 8 → l < 2 ^ 64 → v * 65536 ^ (8 - n) + w ≡ h * 2 ^ 64 + l
     → filled_with v n w m ≡ parsed.Key (record { high = h; low = l })
 unfolding filled_with
-filled_found v n w m h l lt b e = rw (lt-ltb (n + m) 8 lt, key_of (v * 65536 ^ (8 - n) + w) h l b e)
+filled_found v n w m h l lt b e = rw (lt-ltb (n + m) 8 lt, key_halves (v * 65536 ^ (8 - n) + w) h l b e)
 
 pub filled_none : (v n w m : ℕ) → 7 < n + m → filled_with v n w m ≡ parsed.Refused refusal.Text
 unfolding filled_with

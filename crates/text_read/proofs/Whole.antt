@@ -9,7 +9,7 @@ use Rattle.text_read.specs.Reading.{dotted, whole, parted, cut, groups_of_colons
 use Rattle.text_read.specs.Grammar.{Dotted, four, bare}
 use Rattle.text_read.specs.Answers.{keyed, reading_of}
 use Rattle.text_read.specs.ReaderSteps.{made, to_end, head_answer}
-use Rattle.text_read.specs.theory.Grammar.{spells_read, dotted_whole}
+use Rattle.text_read.proofs.Grammar.{spells_read, dotted_whole}
 use Rattle.text_read.specs.theory.Dotted.{read_dotted}
 use Rattle.text_read.proofs.Joined.{made_number}
 use Rattle.text_read.specs.declared.Parsed.TheVariants as parsed

@@ -1,5 +1,5 @@
 -- RFC 4291, section 2.2, and four decimals alone, once more, as a relation: which texts spell which eight groups. It shares nothing with `Reading`,
--- which computes what this says; theory/Grammar proves that the two agree.
+-- which computes what this says; proofs/Grammar proves that the two agree.
 use Rattle.std.specs.Prelude.{◌≡◌, Bool, true, false, List, [], ◌∷◌, ◌++◌, ℕ, ◌+◌, ◌-◌, ◌*◌, ◌≤◌, ◌<◌, length, replicate}
 
 -- a hexadecimal digit and its value: "0" to "9" are the bytes 48 to 57, "A" to "F" 65 to 70, "a" to "f" 97 to 102

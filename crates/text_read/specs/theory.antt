@@ -6,7 +6,4 @@ pub mod Joined
 pub mod Splits
 pub mod Cuts
 pub mod Dotted
-pub mod Grammar
-pub mod Spaces
-pub mod Lengths
 pub mod Answers

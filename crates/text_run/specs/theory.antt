@@ -1,3 +1,2 @@
 -- Theorems about the definitions.
 pub mod Run
-pub mod Taken

@@ -9,7 +9,7 @@ use Rattle.text_read.specs.Answers.{reading_of}
 use Rattle.text_read.specs.declared.Parsed.TheVariants as parsed
 use Rattle.text_read.specs.theory.Numerals.{digits_first}
 use Rattle.text_read.specs.theory.Splits.{Without}
-use Rattle.text_read.specs.theory.Spaces.{read_classes}
+use Rattle.text_read.proofs.Spaces.{read_classes}
 use Rattle.program_commands.specs.Fields.{space}
 use Rattle.program_commands.specs.Steps.{spaceless}
 use Rattle.program_commands.specs.theory.Fields.{spaceless_nil, spaceless_other}

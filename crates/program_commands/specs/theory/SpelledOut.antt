@@ -7,7 +7,7 @@ use Rattle.text_read.specs.Numerals.{digits, number, no_leading_zero}
 use Rattle.text_read.specs.Class.{class_of}
 use Rattle.text_read.specs.Answers.{reading_of}
 use Rattle.text_read.specs.declared.Parsed.TheVariants as parsed
-use Rattle.text_read.specs.theory.Lengths.{read_length}
+use Rattle.text_read.proofs.Lengths.{read_length}
 use Rattle.program_commands.specs.Fields.{space}
 use Rattle.program_commands.specs.Command.{mk_command, op_of, label_of, takes_label, command_of}
 use Rattle.program_commands.specs.declared.command.Op.{Op}

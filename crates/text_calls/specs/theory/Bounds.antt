@@ -6,7 +6,7 @@ use Rattle.std.proofs.lemmas.List.{length-replicate}
 use Rattle.text_read.specs.Reading.{groups_of, joined}
 use Rattle.text_read.specs.Grammar.{Group, hex1, hex2, hex3, hex4, Decimal, dec1, dec2, dec3, Dotted, four, Groups, one, two, more, Side, empty, full, Spells, plain, gap, bare}
 use Rattle.text_read.specs.theory.Bytes.{digit_below}
-use Rattle.text_read.specs.theory.Grammar.{dotted_two, read_spells}
+use Rattle.text_read.proofs.Grammar.{dotted_two, read_spells}
 use Rattle.text_read.specs.theory.Joined.{Small, joined_lt}
 
 -- small groups, in lists that are put together and taken apart

@@ -10,7 +10,7 @@ use Rattle.table.specs.Answer.{no_key}
 use Rattle.table.specs.Calls.{Verb}
 use Rattle.table.specs.declared.answers.Answer.TheVariants as answer
 use Rattle.text_run.specs.Run.{run}
-use Rattle.text_run.specs.theory.Taken.{followed_refused}
+use Rattle.text_run.proofs.Takes.{followed_refused}
 use Rattle.text_calls.specs.TextCalls.{for_key, text_call}
 
 -- "every call that takes a text for a table, still refuse 4 if bytes follow the run": where none of 1 to 3 is due

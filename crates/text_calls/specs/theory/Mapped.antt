@@ -4,7 +4,7 @@ use Rattle.std.proofs.Common.{sym, arith, lit<}
 use Rattle.text_read.specs.Reading.{joined}
 use Rattle.text_read.specs.Answers.{reading_of}
 use Rattle.text_read.specs.Grammar.{lower_case, Group, hex4, Decimal, dec1, dec2, dec3, Dotted, four, two, more, empty, full, Spells, gap, bare}
-use Rattle.text_read.specs.theory.Grammar.{spells_read}
+use Rattle.text_read.proofs.Grammar.{spells_read}
 use Rattle.text_write.specs.Ascii.{ascii}
 use Rattle.text_write.specs.Decimal.{decimal_text}
 use Rattle.text_write.specs.Writing.{four_groups, is_mapped, dotted_text, mapped_text}

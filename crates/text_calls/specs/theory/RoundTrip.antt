@@ -11,7 +11,7 @@ use Rattle.text_read.specs.Reading.{groups_of, joined}
 use Rattle.text_read.specs.Answers.{keyed, reading_of}
 use Rattle.text_read.specs.theory.Joined.{Small, joined_append}
 use Rattle.text_read.specs.declared.Parsed.TheVariants as parsed
-use Rattle.text_read.specs.theory.Grammar.{spells_read}
+use Rattle.text_read.proofs.Grammar.{spells_read}
 use Rattle.text_read.specs.Grammar.{Spells}
 use Rattle.text_write.specs.Writing.{four_groups, is_mapped, written}
 use Rattle.text_write.specs.theory.Mapped.{written_mapped, written_plain}

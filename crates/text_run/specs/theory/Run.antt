@@ -5,7 +5,7 @@ use Rattle.laws.specs.Cases.{cases, never}
 use Rattle.text_read.specs.Class.{class_of, other}
 use Rattle.text_read.specs.theory.Bytes.{Kind, digit, separator, another, a_colon, a_dot, kind}
 use Rattle.text_read.specs.theory.Splits.{Without}
-use Rattle.text_read.specs.theory.Spaces.{digit_known, separator_known}
+use Rattle.text_read.proofs.Spaces.{digit_known, separator_known}
 use Rattle.text_run.specs.Run.{run}
 use Rattle.text_run.specs.Claim as claim
 use Rattle.text_run.specs.Claim.{RunByte, Runs, Longest}

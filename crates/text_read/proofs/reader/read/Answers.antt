@@ -1,0 +1,9 @@
+-- The table's rule is a test at each of its 256 entries, which is computed.
+use lib.Dec.{lit≤}
+use Rattle.text_read.specs.Class.{class_of}
+use Rattle.text_read.proofs.Table.{right, classes_of}
+use Rattle.text_read.proofs.reader.read.Goals as goal
+
+pub read_by-requires : goal.read_by-requires
+unfolding right class_of
+read_by-requires c = classes_of _ (lit≤ tt) tt
