@@ -1,12 +1,9 @@
 -- Slot m of the blocks from b on is slot n of all of them; a block's slots are passed by taking their count off m.
 use Rattle.std.proofs.Common.{inl}
 use mathlib.Core.Path.{◌≡◌, sym, ◌∙◌}
-use Prim.Native.Nat.{◌-◌, ◌+◌, ◌≤◌, ◌<◌}
+use Prim.Native.Nat.{◌-◌, ◌+◌, ◌<◌}
 use native.Mathlib.Omega.{arith}
-use borrow.Author.Rules.{rules}
 use Rattle.table.specs.Decode.{decode}
-use Rattle.table_read.specs.Steps.{Followed, gather_from}
-use Rattle.table_record.specs.RecordSteps.{nth_of}
 use Rattle.table_read.specs.theory.Reads.{overflow_run_within}
 use Rattle.table.specs.theory.Ways.{told_further, told_other}
 use Rattle.table_read.specs.theory.Walks.{OneStep, one_step}
@@ -31,21 +28,19 @@ overflow_run-run-requires c =
     (c.requires.0.proper, (here (goal.at.overflow_run-run-requires c).At-loop-q).low, omega (arith, (here (goal.at.overflow_run-run-requires c).At-loop-q).count, c.overflow_front-front.ensures.0))
 
 pub nth_of-requires : goal.nth_of-requires
-nth_of-requires c =
-    (
-      c.requires.0.proper,
-      rw c.overflow_run-run.ensures (overflow_run_within c.args.g c.args.t.now c.requires.0 c.loop-q.b.0 c.overflow_front-front.result.counter (here (goal.at.nth_of-requires c).At-loop-q).low),
-    )
+nth_of-requires c = (
+  c.requires.0.proper,
+  rw c.overflow_run-run.ensures (overflow_run_within c.args.g c.args.t.now c.requires.0 c.loop-q.b.0 c.overflow_front-front.result.counter (here (goal.at.nth_of-requires c).At-loop-q).low),
+)
 
 pub returns-then-m-count : goal.returns-then-m-count
-returns-then-m-count c =
-    (
-      c.nth_of.ensures.0
-          ∙ nth_in_block c.args.g c.args.t.now c.requires.0 (c.args.g.nob - c.loop-q.q) c.loop-q.b.0 c.overflow_front-front.result.counter c.overflow_run-run.result
-          c.loop-q.invariant.1 c.overflow_front-front.ensures.0 c.overflow_run-run.ensures c.loop-q.m c.if-m-count.true
-          ∙ c.loop-q.invariant.2,
-      c.nth_of.ensures.1,
-    )
+returns-then-m-count c = (
+  c.nth_of.ensures.0
+      ∙ nth_in_block c.args.g c.args.t.now c.requires.0 (c.args.g.nob - c.loop-q.q) c.loop-q.b.0 c.overflow_front-front.result.counter c.overflow_run-run.result
+      c.loop-q.invariant.1 c.overflow_front-front.ensures.0 c.overflow_run-run.ensures c.loop-q.m c.if-m-count.true
+      ∙ c.loop-q.invariant.2,
+  c.nth_of.ensures.1,
+)
 
 pub returns-in_default : goal.returns-in_default
 returns-in_default c =

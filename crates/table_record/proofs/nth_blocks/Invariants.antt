@@ -1,15 +1,9 @@
 -- Slot m of the blocks from b on is slot n of all of them; a block's slots are passed by taking their count off m.
-use mathlib.Core.Path.{◌≡◌, sym, ◌∙◌}
-use Prim.Native.Nat.{◌-◌, ◌+◌, ◌≤◌, ◌<◌}
-use native.Mathlib.Omega.{arith}
-use borrow.Author.Rules.{rules}
+use mathlib.Core.Path.{◌≡◌}
+use Prim.Native.Nat.{◌-◌, ◌≤◌}
 use Rattle.table.specs.Decode.{decode}
 use Rattle.table_read.specs.Steps.{Followed, gather_from}
 use Rattle.table_record.specs.RecordSteps.{nth_of}
-use Rattle.table_read.specs.theory.Reads.{overflow_run_within}
-use Rattle.table.specs.theory.Ways.{told_further, told_other}
-use Rattle.table_read.specs.theory.Walks.{OneStep, one_step}
-use Rattle.table_record.proofs.Records.{nth_in_block, nth_past_last, nth_past_block, bounded_past}
 use Rattle.table_record.proofs.nth_blocks.Given as goal
 
 abbrev pub invariant-loop-q : goal.invariant-loop-q

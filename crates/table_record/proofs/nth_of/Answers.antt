@@ -3,7 +3,6 @@ use mathlib.Core.Path.{◌≡◌, sym, ap, ap₂, ◌∙◌}
 use Prim.Native.Nat.{ℕ, ◌-◌, ◌<◌}
 use native.Mathlib.Omega.{arith}
 use lib.ListN.{length}
-use borrow.Author.Rules.{rules}
 use Rattle.table_read.specs.Steps.{slots_in}
 use Rattle.table_read.specs.theory.Reads.{slots_length, entry_bound}
 use Rattle.table_record.proofs.Records.{nth_here, nth_past, bounded_past, bounded_slot}

@@ -1,11 +1,7 @@
 -- The layout's answer and the length decide the call's.
-use mathlib.Core.Path.{◌≡◌, sym, ap, ◌∙◌}
-use mathlib.Core.Bool.{true}
+use mathlib.Core.Path.{sym, ap, ◌∙◌}
 use mathlib.Core.List.{[]}
 use lib.ListN.{length}
-use borrow.Author.Rules.{rules}
-use Rattle.settings.specs.Legal.{legal}
-use Rattle.settings.specs.Layout.{layout_of}
 use Rattle.settings.specs.theory.Legal.{legal_means, laid_layout, laid_refused}
 use Rattle.settings.specs.declared.layout.Layout.{Layout}
 use Rattle.table.specs.Decode.{decode}

@@ -1,10 +1,9 @@
 -- Record m of the lists from list i on is record n of all of them.
 use mathlib.Core.Path.{◌≡◌, sym, ap, ◌∙◌}
-use Prim.Native.Nat.{suc, ◌-◌, ◌≤◌, ◌<◌}
+use Prim.Native.Nat.{suc, ◌<◌}
 use native.Mathlib.Omega.{arith}
 use native.Mathlib.Numerals.{add-one}
 use lib.ListN.{length}
-use borrow.Author.Rules.{rules}
 use Rattle.table.specs.Decode.{decode}
 use Rattle.table.specs.Record.{record_in}
 use Rattle.table.specs.theory.Formed.{basics}
@@ -32,12 +31,11 @@ pub nth_in-requires : goal.nth_in-requires
 nth_in-requires c = (c.requires.table, c.loop-i-test.true)
 
 pub found-requires : goal.found-requires
-found-requires c =
-    (
-      c.requires.legal,
-      rw (← lists_are c.args.s c.args.g c.requires.laid) c.loop-i-test.true,
-      rw (← bie_is c.args.s c.args.g c.requires.laid) (c.nth_in.ensures.1.below _ _ c.in-Slot.is),
-    )
+found-requires c = (
+  c.requires.legal,
+  rw (← lists_are c.args.s c.args.g c.requires.laid) c.loop-i-test.true,
+  rw (← bie_is c.args.s c.args.g c.requires.laid) (c.nth_in.ensures.1.below _ _ c.in-Slot.is),
+)
 
 pub returns-in-Slot : goal.returns-in-Slot
 returns-in-Slot c =

@@ -1,17 +1,9 @@
 -- Record m of the lists from list i on is record n of all of them.
-use mathlib.Core.Path.{◌≡◌, sym, ap, ◌∙◌}
-use Prim.Native.Nat.{suc, ◌-◌, ◌≤◌, ◌<◌}
-use native.Mathlib.Omega.{arith}
-use native.Mathlib.Numerals.{add-one}
-use lib.ListN.{length}
-use borrow.Author.Rules.{rules}
+use mathlib.Core.Path.{◌≡◌}
+use Prim.Native.Nat.{◌-◌, ◌≤◌}
 use Rattle.table.specs.Decode.{decode}
 use Rattle.table.specs.Record.{record_in}
-use Rattle.table.specs.theory.Formed.{basics}
-use Rattle.table_record.specs.RecordSteps.{on_nth, records_from}
-use Rattle.table_record.proofs.Records.{records_all, records_none, records_step}
-use Rattle.table_record.specs.declared.Nth.{Nth}
-use Rattle.settings.specs.theory.Proper.{lists_are, bie_is}
+use Rattle.table_record.specs.RecordSteps.{records_from}
 use Rattle.table_record.proofs.record_in.Given as goal
 
 abbrev pub invariant-loop-i : goal.invariant-loop-i

@@ -1,7 +1,5 @@
 -- Every bit passed is a one.
-use mathlib.Core.Path.{◌≡◌, sym, ◌∙◌}
-use mathlib.Core.Bool.{true}
-use Prim.Native.Nat.{ℕ, ◌≤◌, ◌<◌, ◌-◌}
+use mathlib.Core.Path.{sym, ◌∙◌}
 use native.Mathlib.Omega.{arith}
 use lib.Dec.{eqb}
 use borrow.Author.Count.{below_more}
@@ -20,11 +18,10 @@ returns-then-get-ne1 c =
     (ne_eqb (field c.args.s.now c.loop-j.j 1) 1 (λ e. c.if-get-ne1.true (c.get.ensures ∙ e))))
 
 pub loop-j-preserved : goal.loop-j-preserved
-loop-j-preserved c =
-    (
-      omega arith,
-      below_more _ _ c.loop-j.invariant.1 (eq-eqb (field c.args.s.now c.loop-j.j 1) 1 (sym c.get.ensures ∙ c.if-get-ne1.false)),
-    )
+loop-j-preserved c = (
+  omega arith,
+  below_more _ _ c.loop-j.invariant.1 (eq-eqb (field c.args.s.now c.loop-j.j 1) 1 (sym c.get.ensures ∙ c.if-get-ne1.false)),
+)
 
 pub returns : goal.returns
 returns c =

@@ -1,6 +1,6 @@
 -- The bits passed are zero.
 use mathlib.Core.Path.{◌≡◌, sym, ap, ◌∙◌}
-use Prim.Native.Nat.{◌+◌, ◌≤◌, ◌-◌}
+use Prim.Native.Nat.{◌+◌, ◌-◌}
 use native.Mathlib.Omega.{arith}
 use borrow.Author.Tests.{eq-eqb, ne_eqb}
 use Rattle.bits.specs.Field.{field}
@@ -23,12 +23,11 @@ returns-then-get-ne0 c =
     (λ z. c.if-get-ne0.true (c.get.ensures ∙ zero_part c.args.t.now c.args.at c.args.n c.loop-done.done k (c.args.n - (c.loop-done.done + k)) e z)))
 
 pub loop-done-preserved : goal.loop-done-preserved
-loop-done-preserved c =
-    (
-      omega arith,
-      zero_more c.args.t.now c.args.at c.loop-done.done c.least-m.result c.loop-done.invariant.1
-          (sym c.get.ensures ∙ c.if-get-ne0.false),
-    )
+loop-done-preserved c = (
+  omega arith,
+  zero_more c.args.t.now c.args.at c.loop-done.done c.least-m.result c.loop-done.invariant.1
+      (sym c.get.ensures ∙ c.if-get-ne0.false),
+)
 
 pub returns : goal.returns
 returns c =

@@ -1,11 +1,7 @@
 -- The bits passed are zero.
-use mathlib.Core.Path.{◌≡◌, sym, ap, ◌∙◌}
-use Prim.Native.Nat.{◌+◌, ◌≤◌, ◌-◌}
-use native.Mathlib.Omega.{arith}
-use borrow.Author.Tests.{eq-eqb, ne_eqb}
+use mathlib.Core.Path.{◌≡◌}
+use Prim.Native.Nat.{◌≤◌, ◌-◌}
 use Rattle.bits.specs.Field.{field}
-use Rattle.bits.specs.theory.Fields.{field_zero}
-use Rattle.table_check.proofs.Zeros.{zero_part, zero_more}
 use Rattle.table_check.proofs.bytes.zeros.Given as goal
 
 abbrev pub invariant-loop-done : goal.invariant-loop-done

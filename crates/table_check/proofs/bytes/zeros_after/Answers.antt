@@ -2,7 +2,6 @@
 use mathlib.Core.Path.{◌≡◌}
 use Prim.Native.Nat.{ℕ, ◌+◌, ◌*◌, ◌-◌, ◌≤◌}
 use native.Mathlib.Omega.{arith}
-use borrow.Author.Rules.{rules}
 use Rattle.table_check.proofs.bytes.zeros_after.Goals as goal
 
 split : (c n w : ℕ) → c ≤ n → c * w + (n - c) * w ≤ n * w

@@ -6,7 +6,6 @@ use native.Mathlib.Omega.{arith}
 use lib.ListN.{length, replicate}
 use Rattle.bits.specs.Field.{field}
 use Rattle.bits.specs.theory.Fields.{zero_field}
-use borrow.Author.Rules.{rules}
 use Rattle.table_check.proofs.call.audited.Goals as goal
 
 pub sound-answer-requires : goal.sound-answer-requires

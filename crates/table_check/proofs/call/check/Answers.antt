@@ -3,7 +3,6 @@ use mathlib.Core.Path.{sym, ◌∙◌}
 use Rattle.settings.specs.theory.Legal.{legal_means, laid_layout, laid_refused}
 use Rattle.settings.specs.theory.Proper.{layout_proper}
 use Rattle.table_check.proofs.Answers.{check_legal, check_illegal}
-use borrow.Author.Rules.{rules}
 use Rattle.table_check.proofs.call.check.Goals as goal
 
 pub checked-requires : goal.checked-requires

@@ -10,7 +10,6 @@ use Rattle.table.specs.Check.{mark_bytes, marks_after}
 use Rattle.table.specs.declared.answers.CheckAnswer.TheVariants as checking
 use Rattle.table_check.specs.Answers.{checked_call}
 use Rattle.table_check.proofs.Answers.{checked_short, checked_few, checked_done}
-use borrow.Author.Rules.{rules}
 use Rattle.table_check.proofs.call.checked.Goals as goal
 use Rattle.table_check.proofs.call.checked.Goals.{After-audited}
 

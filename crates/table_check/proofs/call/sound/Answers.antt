@@ -1,11 +1,10 @@
 -- The walk over the lists and the free chain, the marks, and the fill.
 use mathlib.Core.Path.{◌≡◌, sym, ap, ap₂, ◌∙◌}
-use mathlib.Core.Bool.{Bool, true, false, ◌&&◌}
+use mathlib.Core.Bool.{Bool, false, ◌&&◌}
 use mathlib.Core.List.{List}
 use mathlib.Core.Option.{Option}
 use Prim.Native.Nat.{ℕ, ◌≤◌}
 use native.Mathlib.Omega.{arith}
-use borrow.Author.Tests.{not-true, not-false}
 use Rattle.table.specs.Decode.{decode}
 use Rattle.table.specs.Table.{Table}
 use Rattle.table.specs.Check.{fill_zero, table_sound}
@@ -15,7 +14,6 @@ use Rattle.settings.specs.declared.layout.Layout.{Layout}
 use Rattle.settings.specs.Proper.{Proper}
 use lib.ListN.{length}
 use Rattle.table_check.proofs.Sound.{clear_marks, table_none, table_some}
-use borrow.Author.Rules.{rules}
 use Rattle.table_check.proofs.call.sound.Goals as goal
 use Rattle.table_check.proofs.call.sound.Goals.{After-all_marked, After-chain_sound}
 

@@ -1,18 +1,8 @@
 -- Each turn tests one block's slots against each other and against the blocks after it.
-use mathlib.Core.Path.{◌≡◌, refl, sym, ap, ap₂, ◌∙◌}
-use mathlib.Core.Logic.{⊎_elim}
-use mathlib.Core.Bool.{Bool, ◌&&◌}
-use mathlib.Core.List.{List}
-use Prim.Native.Nat.{ℕ, ◌-◌}
-use native.Mathlib.Omega.{arith}
-use borrow.Author.Tests.{not-true, not-false}
-use borrow.Author.Rules.{rules}
-use Rattle.table.specs.Follow.{step_of}
+use mathlib.Core.Path.{◌≡◌}
 use Rattle.table.specs.Decode.{decode}
 use Rattle.table.specs.Check.{no_entry_twice}
-use Rattle.table_check.specs.Entries.{slots_from, slots_after}
-use Rattle.table_check.proofs.Doubles.{slots_out, slots_high, after_further, after_none}
-use Rattle.table_check.proofs.Runs.{run_within, apart_on}
+use Rattle.table_check.specs.Entries.{slots_from}
 use Rattle.table_check.proofs.entries.blocks_apart.Given as goal
 
 abbrev pub invariant-loop-left : goal.invariant-loop-left

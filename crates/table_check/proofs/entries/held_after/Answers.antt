@@ -1,8 +1,5 @@
 -- A step that leads to no block leads to no slots.
 use mathlib.Core.Path.{sym, ap, ◌∙◌}
-use mathlib.Core.Logic.{⊎_elim}
-use native.Mathlib.Omega.{arith}
-use borrow.Author.Rules.{rules}
 use Rattle.keys.specs.Key.{key_number}
 use Rattle.table.specs.Decode.{decode}
 use Rattle.table.specs.Check.{has_entry}

@@ -16,7 +16,6 @@ use Rattle.table_read.specs.declared.slots.Slots.{Slots}
 use Rattle.table_check.specs.Entries.{run_of, slots_from, slots_after}
 use Rattle.table_check.proofs.Doubles.{slots_out, slots_high, after_further, after_none}
 use Rattle.table_check.proofs.Runs.{held_here, held_on}
-use borrow.Author.Rules.{rules}
 use Rattle.table_check.proofs.entries.held_from.Goals as goal
 use Rattle.table_check.proofs.entries.held_from.Goals.{After-scan-j, After-step_of, Else-b-g}
 
@@ -50,12 +49,11 @@ run_of-run-requires c = (c.requires.0.proper, (here (goal.at.run_of-run-requires
 
 pub scan-j-requires : goal.scan-j-requires
 unfolding overflow_run run_of
-scan-j-requires c =
-    (
-      rw c.run_of-run.ensures (overflow_row c.args.g c.args.t.now c.requires.0 c.loop-left.b.0 (here (goal.at.scan-j-requires c).Else-b-g).1),
-      rw c.run_of-run.ensures (omega arith),
-      c.requires.1,
-    )
+scan-j-requires c = (
+  rw c.run_of-run.ensures (overflow_row c.args.g c.args.t.now c.requires.0 c.loop-left.b.0 (here (goal.at.scan-j-requires c).Else-b-g).1),
+  rw c.run_of-run.ensures (omega arith),
+  c.requires.1,
+)
 
 pub returns-then-j-run : goal.returns-then-j-run
 returns-then-j-run c =

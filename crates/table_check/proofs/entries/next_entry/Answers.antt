@@ -2,7 +2,6 @@
 use mathlib.Core.Path.{refl, ◌∙◌}
 use Prim.Native.Nat.{ℕ, ◌+◌, ◌≤◌}
 use native.Mathlib.Omega.{arith}
-use borrow.Author.Rules.{rules}
 use Rattle.table_read.specs.Steps.{restored_bytes, FieldWithin}
 use Rattle.table_read.specs.theory.Reads.{restored_bytes_out, short_key, long_key}
 use Rattle.table_check.proofs.entries.next_entry.Goals as goal

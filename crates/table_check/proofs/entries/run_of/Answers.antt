@@ -1,6 +1,5 @@
 -- Each function gives what the definition has.
 use mathlib.Core.Path.{ap, ◌∙◌}
-use borrow.Author.Rules.{rules}
 use Rattle.table_read.specs.Steps.{overflow_run}
 use Rattle.table_check.specs.Entries.{run_of}
 use Rattle.table_check.proofs.entries.run_of.Goals as goal

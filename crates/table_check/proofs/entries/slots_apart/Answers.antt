@@ -1,8 +1,6 @@
 -- Every slot passed has an entry of its own.
 use mathlib.Core.Path.{◌≡◌, sym, ap, ◌∙◌}
-use mathlib.Core.Bool.{true}
-use mathlib.Core.List.{List}
-use Prim.Native.Nat.{ℕ, suc, ◌+◌, ◌-◌, ◌*◌, ◌^◌, ◌≤◌, ◌<◌}
+use Prim.Native.Nat.{suc, ◌^◌, ◌≤◌, ◌<◌}
 use native.Mathlib.Omega.{arith}
 use native.Mathlib.Nat.{mul-le-mul_right}
 use lib.ListN.{get_or}
@@ -44,11 +42,10 @@ pub loop-j-init : goal.loop-j-init
 loop-j-init c = (omega arith, omega arith, λ k h. absurd (omega arith))
 
 pub next_entry-entry-requires : goal.next_entry-entry-requires
-next_entry-entry-requires c =
-    (
-      entry_within c.args.g c.args.t.now c.args.b c.requires.0.proper c.requires.1 c.loop-j.j c.loop-j.at (omega arith) c.loop-j.invariant.1,
-      c.requires.0.proper.bie_high,
-    )
+next_entry-entry-requires c = (
+  entry_within c.args.g c.args.t.now c.args.b c.requires.0.proper c.requires.1 c.loop-j.j c.loop-j.at (omega arith) c.loop-j.invariant.1,
+  c.requires.0.proper.bie_high,
+)
 
 pub scan_run-requires : goal.scan_run-requires
 scan_run-requires c =
@@ -87,16 +84,15 @@ overflow_add-j c =
     omega (arith, c.requires.1.few)
 
 pub loop-j-preserved : goal.loop-j-preserved
-loop-j-preserved c =
-    (
-      omega arith,
-      omega (arith, c.loop-j.invariant.1),
-      below_more _ _ c.loop-j.invariant.2
-          (alone_yes c.args.g ((slots_in c.args.g c.args.t.now c.args.b)) ((slots_after c.args.g c.args.most (decode c.args.g c.args.t.now).overflow c.args.way)) c.loop-j.j (key_number c.next_entry-entry.result) (entry (goal.at.loop-j-preserved c).After-next_entry-entry)
-          (none_before c.args.g c.requires.0.proper c.args.t.now c.args.b c.requires.1 (key_number c.next_entry-entry.result) c.loop-j.j c.scan_run.result.0
-          c.loop-j.invariant.0 (looked (goal.at.loop-j-preserved c).After-scan_run) (omega (arith, c.if-scan_run-j.false)))
-          (sym c.held_after.ensures ∙ c.if-held_after.false)),
-    )
+loop-j-preserved c = (
+  omega arith,
+  omega (arith, c.loop-j.invariant.1),
+  below_more _ _ c.loop-j.invariant.2
+      (alone_yes c.args.g ((slots_in c.args.g c.args.t.now c.args.b)) ((slots_after c.args.g c.args.most (decode c.args.g c.args.t.now).overflow c.args.way)) c.loop-j.j (key_number c.next_entry-entry.result) (entry (goal.at.loop-j-preserved c).After-next_entry-entry)
+      (none_before c.args.g c.requires.0.proper c.args.t.now c.args.b c.requires.1 (key_number c.next_entry-entry.result) c.loop-j.j c.scan_run.result.0
+      c.loop-j.invariant.0 (looked (goal.at.loop-j-preserved c).After-scan_run) (omega (arith, c.if-scan_run-j.false)))
+      (sym c.held_after.ensures ∙ c.if-held_after.false)),
+)
 
 pub returns : goal.returns
 returns c =

@@ -6,7 +6,6 @@ use borrow.Author.Tests.{eq-eqb, ne_eqb}
 use Rattle.table.specs.Decode.{decode}
 use Rattle.table_check.specs.Walk.{way_on, walk}
 use Rattle.table_check.specs.Lists.{chain_walk}
-use borrow.Author.Rules.{rules}
 use Rattle.table_check.proofs.lists.chain_sound.Goals as goal
 
 pub returns-then-first-none : goal.returns-then-first-none

@@ -3,13 +3,11 @@ use mathlib.Core.Path.{◌≡◌, sym, ap, ◌∙◌}
 use mathlib.Core.Bool.{Bool, true, false}
 use Prim.Native.Nat.{ℕ}
 use native.Mathlib.Omega.{arith}
-use borrow.Author.Tests.{not-true, not-false}
 use Rattle.table.specs.State.{basic_at}
 use Rattle.table.specs.Decode.{decode}
 use Rattle.table_check.specs.Walk.{found, way_on, walk}
 use Rattle.table_check.specs.Lists.{provided, long_apart, list_walk}
 use Rattle.table_check.proofs.ListLaws.{list_short, list_high, list_over}
-use borrow.Author.Rules.{rules}
 use Rattle.table_check.proofs.lists.list_sound.Goals as goal
 use Rattle.table_check.proofs.lists.list_sound.Goals.{After-mark_from}
 

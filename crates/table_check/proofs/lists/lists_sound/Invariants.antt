@@ -1,16 +1,10 @@
 -- Each turn walks one list; what came before is the walk over the lists before it.
-use mathlib.Core.Path.{◌≡◌, refl, ap, ◌∙◌}
-use mathlib.Core.Bool.{Bool, true, false}
+use mathlib.Core.Path.{◌≡◌}
 use mathlib.Core.Option.{some}
-use Prim.Native.Nat.{ℕ, ◌+◌, ◌-◌, ◌≤◌}
-use native.Mathlib.Omega.{arith}
+use Prim.Native.Nat.{◌-◌, ◌≤◌}
 use lib.ListN.{length}
-use borrow.Author.Rules.{rules}
-use borrow.Author.Tests.{not-true, not-false}
 use Rattle.table.specs.Decode.{decode}
-use Rattle.table_check.specs.Walk.{found}
 use Rattle.table_check.specs.Lists.{lists_walk}
-use Rattle.table_check.proofs.ListLaws.{lists_none, lists_next, lists_stop}
 use Rattle.table_check.proofs.lists.lists_sound.Given as goal
 
 abbrev pub invariant-loop-i : goal.invariant-loop-i

@@ -2,7 +2,6 @@
 use mathlib.Core.Path.{◌≡◌, refl, sym, ap, ap₂, ◌∙◌}
 use mathlib.Core.Bool.{Bool, ◌&&◌}
 use native.Mathlib.Omega.{arith}
-use borrow.Author.Tests.{not-true, not-false}
 use Rattle.table.specs.State.{basic_at}
 use Rattle.table.specs.Decode.{decode}
 use Rattle.table.specs.Check.{no_entry_twice}
@@ -11,7 +10,6 @@ use Rattle.table_read.specs.theory.Reads.{displaced_run_within, head_lt, link_lt
 use Rattle.table_check.specs.Entries.{slots_from}
 use Rattle.table_check.specs.Lists.{long_apart}
 use Rattle.table_check.proofs.Runs.{long_as, long_damaged}
-use borrow.Author.Rules.{rules}
 use Rattle.table_check.proofs.lists.long_apart.Goals as goal
 use Rattle.table_check.proofs.lists.long_apart.Goals.{After-slots_apart}
 

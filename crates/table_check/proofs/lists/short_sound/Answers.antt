@@ -2,7 +2,6 @@
 use mathlib.Core.Path.{refl, sym, ap, ap₂, ◌∙◌}
 use mathlib.Core.Bool.{Bool, ◌&&◌}
 use native.Mathlib.Omega.{arith}
-use borrow.Author.Tests.{not-true, not-false}
 use Rattle.laws.specs.Folds.{every_below}
 use Rattle.table.specs.Decode.{decode}
 use Rattle.table_read.specs.Steps.{slots_in, basic_run}
@@ -11,7 +10,6 @@ use Rattle.table.specs.theory.Changes.{bits_high}
 use Rattle.table_read.specs.theory.Reads.{basic_run_within, basic_room}
 use Rattle.table_check.specs.Entries.{alone, slots_after}
 use Rattle.table_check.proofs.Runs.{short_as}
-use borrow.Author.Rules.{rules}
 use Rattle.table_check.proofs.lists.short_sound.Goals as goal
 
 pub zeros_after-requires : goal.zeros_after-requires

@@ -6,11 +6,10 @@ use Rattle.settings.specs.declared.layout.Layout.{Layout}
 use Prim.Native.Nat.{ℕ, ◌+◌, ◌-◌, ◌*◌, ◌<◌}
 use native.Mathlib.Omega.{arith}
 use lib.Dec.{eqb}
-use borrow.Author.Rules.{rules}
-use borrow.Author.Tests.{eq-eqb, ne_eqb, not-true, not-false}
+use borrow.Author.Tests.{eq-eqb, ne_eqb}
 use Rattle.laws.specs.Folds.{all_zero}
 use Rattle.bits.specs.Field.{field}
-use Rattle.table.specs.State.{Overflow, overflow_at}
+use Rattle.table.specs.State.{overflow_at}
 use Rattle.table.specs.Decode.{decode, overflow_slots}
 use Rattle.table.specs.Table.{Table}
 use Rattle.table.specs.theory.Changes.{bits_high}

@@ -1,15 +1,12 @@
 -- The block is the list's; its step says which case it is; the unused slots are one run of bits.
 use mathlib.Core.Path.{◌≡◌, sym, ap, ap₂, ◌∙◌}
-use mathlib.Core.Logic.{⊎_elim}
 use mathlib.Core.Bool.{true, false}
-use mathlib.Core.List.{List}
 use Prim.Native.Nat.{ℕ, suc, ◌+◌, ◌-◌, ◌*◌, ◌<◌}
 use native.Mathlib.Omega.{arith}
 use lib.Dec.{eqb}
 use lib.Pow.{pow_mono}
-use borrow.Author.Rules.{rules}
 use Rattle.bits.specs.Field.{field}
-use Rattle.table.specs.State.{Overflow, overflow_at}
+use Rattle.table.specs.State.{overflow_at}
 use Rattle.table.specs.Decode.{overflow_slots, decode}
 use Rattle.table.specs.Follow.{step_of, step_at}
 use Rattle.table.specs.Check.{overflow_unused}

@@ -1,5 +1,4 @@
 -- As the kind of row says.
-use borrow.Author.Rules.{rules}
 use Rattle.table_check.specs.Walk.{way_on}
 use Rattle.table_check.proofs.steps.way_on.Goals as goal
 

@@ -1,10 +1,9 @@
 -- Each turn of the loop is a turn of the walk.
 use mathlib.Core.Path.{◌≡◌, refl, sym, ap, ◌∙◌}
 use mathlib.Core.List.{List}
-use Prim.Native.Nat.{ℕ, ◌≤◌, ◌-◌}
+use Prim.Native.Nat.{ℕ, ◌-◌}
 use native.Mathlib.Omega.{arith}
 use lib.ListN.{length}
-use borrow.Author.Rules.{rules}
 use Rattle.bits.specs.theory.Puts.{put_length}
 use Rattle.table.specs.Decode.{decode}
 use Rattle.table.specs.declared.step.Step.{Step}

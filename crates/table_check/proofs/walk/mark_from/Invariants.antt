@@ -1,17 +1,9 @@
 -- Each turn of the loop is a turn of the walk.
-use mathlib.Core.Path.{◌≡◌, refl, sym, ap, ◌∙◌}
-use mathlib.Core.List.{List}
-use Prim.Native.Nat.{ℕ, ◌≤◌, ◌-◌}
-use native.Mathlib.Omega.{arith}
+use mathlib.Core.Path.{◌≡◌}
+use Prim.Native.Nat.{◌≤◌}
 use lib.ListN.{length}
-use borrow.Author.Rules.{rules}
-use Rattle.bits.specs.theory.Puts.{put_length}
 use Rattle.table.specs.Decode.{decode}
-use Rattle.table.specs.declared.step.Step.{Step}
-use Rattle.table.specs.declared.step.Step.TheVariants.{Last, Further, Damage}
-use Rattle.table.specs.Follow.{go_on}
 use Rattle.table_check.specs.Walk.{way_on, walk}
-use Rattle.table_check.proofs.Marks.{walk_out, walk_high, walk_met, walk_on}
 use Rattle.table_check.proofs.walk.mark_from.Given as goal
 
 abbrev pub invariant-loop-left : goal.invariant-loop-left

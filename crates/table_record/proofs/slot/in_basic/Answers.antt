@@ -1,6 +1,5 @@
 -- A list without overflow blocks has as many slots as its counter says, each as it stands.
 use native.Mathlib.Omega.{arith}
-use borrow.Author.Rules.{rules}
 use Rattle.table_record.proofs.Retrievals.{short_empty, short_slot}
 use Rattle.table_record.proofs.slot.in_basic.Goals as goal
 

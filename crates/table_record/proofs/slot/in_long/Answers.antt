@@ -1,7 +1,6 @@
 -- The list's end has the displaced bits; what stands behind them is read as it stands.
 use mathlib.Core.Path.{refl, sym, ◌∙◌}
 use native.Mathlib.Omega.{arith}
-use borrow.Author.Rules.{rules}
 use Rattle.table.specs.Decode.{decode}
 use Rattle.table_read.specs.Steps.{last_from, Overflows}
 use Rattle.table_read.specs.theory.Lasts.{EndsAt, ends_at, no_end}

@@ -3,8 +3,6 @@ use mathlib.Core.Path.{◌≡◌, refl, sym, ◌∙◌}
 use mathlib.Core.Bool.{Bool, true, false}
 use Prim.Native.Nat.{◌<◌}
 use native.Mathlib.Omega.{arith}
-use borrow.Author.Rules.{rules}
-use borrow.Author.Tests.{not-true, not-false}
 use Rattle.table.specs.Decode.{decode}
 use Rattle.table_read.specs.Steps.{last_from, OwnFollowed, Overflows}
 use Rattle.table_read.specs.theory.Lasts.{ends_at, no_end}
@@ -107,11 +105,10 @@ returns-in_default c =
     (no_end c.args.g _ (sym c.follow.ensures ∙ c.in_default.is)))
 
 pub list_has_block-requires : goal.list_has_block-requires
-list_has_block-requires c =
-    (
-      c.requires.0,
-      ended_own c.args.g (decode c.args.g c.args.t.now).overflow c.owned_front-fields.result.owner.0 (own (goal.at.list_has_block-requires c).In-Block),
-    )
+list_has_block-requires c = (
+  c.requires.0,
+  ended_own c.args.g (decode c.args.g c.args.t.now).overflow c.owned_front-fields.result.owner.0 (own (goal.at.list_has_block-requires c).In-Block),
+)
 
 pub returns-then-not-list_has_block : goal.returns-then-not-list_has_block
 returns-then-not-list_has_block c =

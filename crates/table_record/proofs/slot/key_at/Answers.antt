@@ -1,7 +1,6 @@
 -- The bits in one number, or in two side by side.
 use mathlib.Core.Path.{refl}
 use native.Mathlib.Omega.{arith}
-use borrow.Author.Rules.{rules}
 use Rattle.table_read.specs.theory.Reads.{short_key, long_key}
 use Rattle.table_record.proofs.slot.key_at.Goals as goal
 

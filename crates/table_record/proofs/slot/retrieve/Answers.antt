@@ -2,7 +2,6 @@
 use mathlib.Core.Path.{◌≡◌, sym, ap, ◌∙◌}
 use mathlib.Core.Bool.{true}
 use native.Mathlib.Omega.{arith}
-use borrow.Author.Rules.{rules}
 use Rattle.settings.specs.Legal.{legal}
 use Rattle.settings.specs.Layout.{layout_of}
 use Rattle.settings.specs.theory.Legal.{legal_means, laid_layout, laid_refused}

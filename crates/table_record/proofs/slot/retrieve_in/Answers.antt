@@ -2,7 +2,6 @@
 use mathlib.Core.Path.{sym, ap, ◌∙◌}
 use Prim.Native.Nat.{◌+◌}
 use native.Mathlib.Omega.{arith}
-use borrow.Author.Rules.{rules}
 use lib.ListN.{get_or}
 use Rattle.bits.specs.Field.{field}
 use Rattle.bits.specs.theory.Fields.{field_fits}
@@ -12,7 +11,6 @@ use Rattle.table.specs.Decode.{decode}
 use Rattle.table.specs.Retrieve.{retrieve_in}
 use Rattle.table_read.specs.Steps.{slots_in}
 use Rattle.table_read.specs.theory.Reads.{slot_entry, slot_label, entry_bound}
-use Rattle.table_record.specs.RecordSteps.{Readable}
 use Rattle.table_record.specs.declared.slot.Spot.TheVariants as spot
 use Rattle.table_record.proofs.Retrievals.{key_bound, record_as, spot_readable, spot_answer}
 use Rattle.table_record.proofs.slot.retrieve_in.Goals as goal
@@ -100,8 +98,7 @@ found-requires-in-Under c =
     let readable = spot_readable c.args.g c.args.t.now (λ s. retrieve_in s (decode c.args.g c.args.t.now) c.args.n) c.spot_of.result c.spot_of.ensures
     (spot.Under c.in-Under.list c.in-Under.run' c.in-Under.slot) c.in-Under.is in
     let s = c.args.s in
-    let g = c.args.g in
-    (
+    let g = c.args.g in (
       c.requires.0.legal,
       rw (← lists_are s g c.requires.0.laid) readable.0,
       rw (← bie_is s g c.requires.0.laid)

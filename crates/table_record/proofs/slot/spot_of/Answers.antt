@@ -2,7 +2,6 @@
 use Prim.Native.Nat.{◌-◌, ◌/◌, ◌<◌}
 use native.Mathlib.Nat.{mod-lt}
 use native.Mathlib.Omega.{arith}
-use borrow.Author.Rules.{rules}
 use Rattle.table.specs.Numbers.{capacity}
 use Rattle.table_record.proofs.Retrievals.{list_below, block_below, basic_few, overflow_few, number_basic, number_overflow}
 use Rattle.table_record.proofs.slot.spot_of.Goals as goal
