@@ -99,9 +99,9 @@ pub record Digit (b : ℕ) : Type 0 where
   pub high : b ≤ 57
   pub class : class_of b ≡ b - 48
 
-pub is_digit : (b : ℕ) → is_digit b ≡ true → Digit b
+pub is_digit_lem : (b : ℕ) → is_digit b ≡ true → Digit b
 unfolding is_digit
-is_digit b e =
+is_digit_lem b e =
     let p = both_true (leb 48 b) (leb b 57) e in
     let l = leb-true 48 b p.0 in
     let h = leb-true b 57 p.1 in
@@ -136,7 +136,7 @@ module _ (s : List ℕ) (at i v : ℕ) (r : Read s at i v) where
     pub read_more : is_digit (get_or s i 0) ≡ true → Read s at (i + 1) (v * 10 + (get_or s i 0 - 48))
     unfolding digits number
     read_more e =
-        let d = is_digit (get_or s i 0) e in
+        let d = is_digit_lem (get_or s i 0) e in
         let k : i + 1 - at ≡ i - at + 1 = omega (arith, r.from) in
         record {
           from = omega (arith, r.from);
