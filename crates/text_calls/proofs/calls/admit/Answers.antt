@@ -22,8 +22,7 @@ use Rattle.text_read.specs.declared.Parsed.TheVariants as parsed
 use Rattle.text_read.specs.theory.Answers.{read_refused}
 use Rattle.text_calls.specs.TextCalls.{key_read, text_due}
 use Rattle.text_calls.specs.Admits.{admitted_of}
-use Rattle.text_calls.proofs.calls.admit.Statement.{statement}
-use Rattle.text_calls.proofs.calls.admit.Tie as tie
+use Rattle.text_calls.proofs.calls.admit.Goals as goal
 
 -- reading refuses with 4 alone, so that the last refusal is what was read
 read-due : (x : List ℕ) (p : Parsed) → reading_of x ≡ p → unless_due (text_due x ∷ []) parsed.Refused (parsed.Key (key_read (reading_of x))) ≡ p
@@ -54,28 +53,18 @@ module _ (s : Settings) (t x : List ℕ) (g : Layout) (e : laid_of s ≡ laid.La
     wide : eqb s.w 128 ≡ true → (p : Parsed) → reading_of x ≡ p → admitted_of s t x ≡ p
     wide w p r = later ∙ rw w (read-due x p r)
 
-returns : tie.Need-returns
+pub returns-then-t-g : goal.returns-then-t-g
+returns-then-t-g c =
+    let a = c.args in
+    sym (short a.s a.t.now a.text.now a.g c.requires (omega arith))
+
+pub returns-then-s-ne128 : goal.returns-then-s-ne128
+returns-then-s-ne128 c =
+    let a = c.args in
+    sym (narrow a.s a.t.now a.text.now a.g c.requires (omega arith) (ne_eqb a.s.w 128 c.if-s-ne128.true))
+
+pub returns : goal.returns
 returns c =
-    let s = c.before.before.before.before in
-    let a = s.args in
-    sym (short a.s a.t.now a.text.now a.g s.requires (omega arith))
-
-returns-2 : tie.Need-returns-2
-returns-2 c =
-    let s = c.before.before.before.before.before.before in
-    let a = s.args in
-    sym (narrow a.s a.t.now a.text.now a.g s.requires (omega arith) (ne_eqb a.s.w 128 c.if2.true))
-
-read-requires : tie.Need-read-requires
-read-requires c κs = search rules
-
-returns-3 : tie.Need-returns-3
-returns-3 c =
-    let d = c.before in
-    let s = d.before.before.before.before.before.before in
-    let a = s.args in
+    let a = c.args in
     sym
-    (wide a.s a.t.now a.text.now a.g s.requires (omega arith) (eq-eqb a.s.w 128 d.if2.false) c.read.result (sym c.read.ensures))
-
-pub admit-spec : {M : Type 1} → statement M
-admit-spec = tie.close (tie.spec returns returns-2 read-requires returns-3)
+    (wide a.s a.t.now a.text.now a.g c.requires (omega arith) (eq-eqb a.s.w 128 c.if-s-ne128.false) c.read.result (sym c.read.ensures))
