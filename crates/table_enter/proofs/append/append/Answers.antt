@@ -2,7 +2,6 @@
 use mathlib.Core.Path.{◌≡◌, sym, ◌∙◌}
 use Prim.Native.Nat.{◌≤◌, ◌<◌}
 use native.Mathlib.Omega.{arith}
-use borrow.Author.Rules.{rules}
 use Rattle.table.specs.State.{basic_at, overflow_at}
 use Rattle.table.specs.Decode.{decode}
 use Rattle.table_read.specs.theory.Reads.{sized}

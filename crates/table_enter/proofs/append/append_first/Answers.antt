@@ -1,7 +1,6 @@
 -- The answer of the free chain decides.
 use mathlib.Core.Path.{sym, ap, ◌∙◌}
 use native.Mathlib.Omega.{arith}
-use borrow.Author.Rules.{rules}
 use Rattle.keys.specs.Key.{key_number}
 use Rattle.table.specs.Answer.{said}
 use Rattle.table.specs.declared.answers.Word.TheVariants as word

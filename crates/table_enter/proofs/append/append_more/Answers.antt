@@ -1,7 +1,6 @@
 -- The answer of the free chain decides, and whether its block is one of the list's.
 use mathlib.Core.Path.{sym, ap, ◌∙◌}
 use native.Mathlib.Omega.{arith}
-use borrow.Author.Rules.{rules}
 use Rattle.keys.specs.Key.{key_number}
 use Rattle.table.specs.Answer.{said}
 use Rattle.table.specs.declared.answers.Word.TheVariants as word
@@ -21,12 +20,11 @@ pub first_free-requires : goal.first_free-requires
 first_free-requires c = c.requires.0.table
 
 pub list_has_block-requires : goal.list_has_block-requires
-list_has_block-requires c =
-    (
-      c.requires.0.table,
-      ended_own c.args.g (decode c.args.g c.args.t.now).overflow c.args.i.0
-          (followed c.args.g (decode c.args.g c.args.t.now).overflow c.args.i.0 c.args.g.nob c.args.h.0 (omega (arith, c.requires.1.last, c.requires.1.low))),
-    )
+list_has_block-requires c = (
+  c.requires.0.table,
+  ended_own c.args.g (decode c.args.g c.args.t.now).overflow c.args.i.0
+      (followed c.args.g (decode c.args.g c.args.t.now).overflow c.args.i.0 c.args.g.nob c.args.h.0 (omega (arith, c.requires.1.last, c.requires.1.low))),
+)
 
 pub returns-then-list_has_block : goal.returns-then-list_has_block
 returns-then-list_has_block c =

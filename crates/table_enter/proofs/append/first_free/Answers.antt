@@ -1,7 +1,6 @@
 -- Each answer is the definition's by the tests that led there.
 use mathlib.Core.Path.{sym, ◌∙◌}
 use native.Mathlib.Omega.{arith}
-use Rattle.table.specs.State.{State}
 use Rattle.table.specs.Decode.{decode}
 use Rattle.table_enter.proofs.FreeLaws.{free_high, free_none, free_bad, free_end, free_on}
 use Rattle.table_enter.proofs.append.first_free.Goals as goal

@@ -1,6 +1,5 @@
 -- Three stores in a row.
 use native.Mathlib.Omega.{arith}
-use borrow.Author.Rules.{rules}
 use Rattle.keys.specs.Key.{key_number}
 use Rattle.table_read.specs.theory.Places.{overflow_slot_ends}
 use Rattle.table_store.specs.theory.StoreLaws.{table_kept, slot_asks, slot_put_lem, slot_lt}

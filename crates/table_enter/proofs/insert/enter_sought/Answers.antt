@@ -1,8 +1,5 @@
 -- What was found decides: "none" is appended to, any other word means that the key is held, and a refusal is handed on.
 use mathlib.Core.Path.{ap, ◌∙◌}
-use mathlib.Core.List.{[], ◌∷◌}
-use types.Run.{miss}
-use borrow.Author.Rules.{rules}
 use Rattle.keys.specs.Key.{key_number}
 use Rattle.table.specs.Answer.{said}
 use Rattle.table.specs.declared.answers.Word.{Word}
