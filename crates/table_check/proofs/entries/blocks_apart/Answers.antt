@@ -12,18 +12,18 @@ use Rattle.table_check.proofs.Runs.{run_within, apart_on}
 use Rattle.table_check.proofs.entries.blocks_apart.Goals as goal
 use Rattle.table_check.proofs.entries.blocks_apart.Goals.{After-slots_apart}
 
-turned_once : (k : After-slots_apart) → (k.slots_apart.result && no_entry_twice k.args.g ((slots_after k.args.g (k.loop-left.left - 1) (decode k.args.g k.args.t.now).overflow k.step_of-way.result)))
+turned_once : (k : After-slots_apart) → (k.slots_apart.result && no_entry_twice k.args.g (slots_after k.args.g (k.loop-left.left - 1) (decode k.args.g k.args.t.now).overflow k.step_of-way.result))
     ≡ no_entry_twice k.args.g (slots_from k.args.g k.args.g.nob (decode k.args.g k.args.t.now).overflow k.args.first.0)
 turned_once k =
-    ap (λ (q : Bool). q && no_entry_twice k.args.g ((slots_after k.args.g (k.loop-left.left - 1) (decode k.args.g k.args.t.now).overflow k.step_of-way.result))) k.slots_apart.ensures
+    ap (λ (q : Bool). q && no_entry_twice k.args.g (slots_after k.args.g (k.loop-left.left - 1) (decode k.args.g k.args.t.now).overflow k.step_of-way.result)) k.slots_apart.ensures
     ∙ apart_on k.args.g k.args.t.now k.requires k.loop-left.left (k.loop-left.left - 1) k.loop-left.b.0 k.overflow_front-front.result.counter k.run_of.result k.step_of-way.result
     (omega (arith, k.loop-left-test.true)) (omega (arith, k.if-b-g.false)) k.overflow_front-front.ensures.0 k.run_of.ensures
     (k.step_of-way.ensures ∙ ap₂ (step_of k.args.g.sio) k.overflow_front-front.ensures.0 k.overflow_front-front.ensures.1)
     ∙ k.loop-left.invariant
 
-turned : (k : After-slots_apart) (q : Bool) → k.slots_apart.result ≡ q → (q && no_entry_twice k.args.g ((slots_after k.args.g (k.loop-left.left - 1) (decode k.args.g k.args.t.now).overflow k.step_of-way.result)))
+turned : (k : After-slots_apart) (q : Bool) → k.slots_apart.result ≡ q → (q && no_entry_twice k.args.g (slots_after k.args.g (k.loop-left.left - 1) (decode k.args.g k.args.t.now).overflow k.step_of-way.result))
     ≡ no_entry_twice k.args.g (slots_from k.args.g k.args.g.nob (decode k.args.g k.args.t.now).overflow k.args.first.0)
-turned k q e = ap (λ (q : Bool). q && no_entry_twice k.args.g ((slots_after k.args.g (k.loop-left.left - 1) (decode k.args.g k.args.t.now).overflow k.step_of-way.result))) (sym e) ∙ turned_once k
+turned k q e = ap (λ (q : Bool). q && no_entry_twice k.args.g (slots_after k.args.g (k.loop-left.left - 1) (decode k.args.g k.args.t.now).overflow k.step_of-way.result)) (sym e) ∙ turned_once k
 
 pub loop-left-init : goal.loop-left-init
 loop-left-init c = refl

@@ -22,7 +22,7 @@ use Rattle.table_check.proofs.entries.slots_apart.Goals as goal
 use Rattle.table_check.proofs.entries.slots_apart.Goals.{After-next_entry-entry, After-scan_run}
 
 -- the entry that was read is that of slot j
-entry : (c : After-next_entry-entry) → key_number c.next_entry-entry.result ≡ entry_of c.args.g (get_or ((slots_in c.args.g c.args.t.now c.args.b)) c.loop-j.j 0)
+entry : (c : After-next_entry-entry) → key_number c.next_entry-entry.result ≡ entry_of c.args.g (get_or (slots_in c.args.g c.args.t.now c.args.b) c.loop-j.j 0)
 entry c =
     ap key_number c.next_entry-entry.ensures
     ∙ number_key _
@@ -59,8 +59,8 @@ scan_run-requires c =
 pub returns-then-scan_run-j : goal.returns-then-scan_run-j
 returns-then-scan_run-j c =
     sym
-    (below_not c.args.b.count (alone c.args.g ((slots_in c.args.g c.args.t.now c.args.b)) ((slots_after c.args.g c.args.most (decode c.args.g c.args.t.now).overflow c.args.way))) c.loop-j.j (omega arith)
-    (alone_before c.args.g ((slots_in c.args.g c.args.t.now c.args.b)) ((slots_after c.args.g c.args.most (decode c.args.g c.args.t.now).overflow c.args.way)) c.loop-j.j (key_number c.next_entry-entry.result) (entry (goal.at.returns-then-scan_run-j c).After-next_entry-entry)
+    (below_not c.args.b.count (alone c.args.g (slots_in c.args.g c.args.t.now c.args.b) (slots_after c.args.g c.args.most (decode c.args.g c.args.t.now).overflow c.args.way)) c.loop-j.j (omega arith)
+    (alone_before c.args.g (slots_in c.args.g c.args.t.now c.args.b) (slots_after c.args.g c.args.most (decode c.args.g c.args.t.now).overflow c.args.way) c.loop-j.j (key_number c.next_entry-entry.result) (entry (goal.at.returns-then-scan_run-j c).After-next_entry-entry)
     (met_before c.args.g c.requires.0.proper c.args.t.now c.args.b c.requires.1 (key_number c.next_entry-entry.result) c.loop-j.j c.scan_run.result.0
     c.loop-j.invariant.0 (looked (goal.at.returns-then-scan_run-j c).After-scan_run) (omega (arith, c.if-scan_run-j.true)))))
 
@@ -71,8 +71,8 @@ held_after-requires c =
 pub returns-then-held_after : goal.returns-then-held_after
 returns-then-held_after c =
     sym
-    (below_not c.args.b.count (alone c.args.g ((slots_in c.args.g c.args.t.now c.args.b)) ((slots_after c.args.g c.args.most (decode c.args.g c.args.t.now).overflow c.args.way))) c.loop-j.j (omega arith)
-    (alone_behind c.args.g ((slots_in c.args.g c.args.t.now c.args.b)) ((slots_after c.args.g c.args.most (decode c.args.g c.args.t.now).overflow c.args.way)) c.loop-j.j (key_number c.next_entry-entry.result) (entry (goal.at.returns-then-held_after c).After-next_entry-entry) (sym c.held_after.ensures ∙ c.if-held_after.true)))
+    (below_not c.args.b.count (alone c.args.g (slots_in c.args.g c.args.t.now c.args.b) (slots_after c.args.g c.args.most (decode c.args.g c.args.t.now).overflow c.args.way)) c.loop-j.j (omega arith)
+    (alone_behind c.args.g (slots_in c.args.g c.args.t.now c.args.b) (slots_after c.args.g c.args.most (decode c.args.g c.args.t.now).overflow c.args.way) c.loop-j.j (key_number c.next_entry-entry.result) (entry (goal.at.returns-then-held_after c).After-next_entry-entry) (sym c.held_after.ensures ∙ c.if-held_after.true)))
 
 pub overflow_add-at : goal.overflow_add-at
 overflow_add-at c =
@@ -88,7 +88,7 @@ loop-j-preserved c = (
   omega arith,
   omega (arith, c.loop-j.invariant.1),
   below_more _ _ c.loop-j.invariant.2
-      (alone_yes c.args.g ((slots_in c.args.g c.args.t.now c.args.b)) ((slots_after c.args.g c.args.most (decode c.args.g c.args.t.now).overflow c.args.way)) c.loop-j.j (key_number c.next_entry-entry.result) (entry (goal.at.loop-j-preserved c).After-next_entry-entry)
+      (alone_yes c.args.g (slots_in c.args.g c.args.t.now c.args.b) (slots_after c.args.g c.args.most (decode c.args.g c.args.t.now).overflow c.args.way) c.loop-j.j (key_number c.next_entry-entry.result) (entry (goal.at.loop-j-preserved c).After-next_entry-entry)
       (none_before c.args.g c.requires.0.proper c.args.t.now c.args.b c.requires.1 (key_number c.next_entry-entry.result) c.loop-j.j c.scan_run.result.0
       c.loop-j.invariant.0 (looked (goal.at.loop-j-preserved c).After-scan_run) (omega (arith, c.if-scan_run-j.false)))
       (sym c.held_after.ensures ∙ c.if-held_after.false)),
@@ -96,4 +96,4 @@ loop-j-preserved c = (
 
 pub returns : goal.returns
 returns c =
-    sym (below_all c.args.b.count (alone c.args.g ((slots_in c.args.g c.args.t.now c.args.b)) ((slots_after c.args.g c.args.most (decode c.args.g c.args.t.now).overflow c.args.way))) (λ k h. c.loop-j.invariant.2 k (omega arith)))
+    sym (below_all c.args.b.count (alone c.args.g (slots_in c.args.g c.args.t.now c.args.b) (slots_after c.args.g c.args.most (decode c.args.g c.args.t.now).overflow c.args.way)) (λ k h. c.loop-j.invariant.2 k (omega arith)))

@@ -25,14 +25,14 @@ use Rattle.table_check.proofs.steps.chain_step.Goals.{Else-fields-ne0, Else-fiel
 pub returns-then-fields-ne0 : goal.returns-then-fields-ne0
 returns-then-fields-ne0 c = sym (chain_used _ _ _ (λ e. omega (arith, c.owned_front-fields.ensures.0, c.if-fields-ne0.true)))
 
-counter : (c : Else-fields-ne0) → ((let s = c.args in overflow_at (decode s.g s.t.now).overflow s.b.0)).counter ≡ 0
+counter : (c : Else-fields-ne0) → (overflow_at (decode c.args.g c.args.t.now).overflow c.args.b.0).counter ≡ 0
 counter c = omega (arith, c.owned_front-fields.ensures.0, c.if-fields-ne0.false)
 
 pub returns-then-fields-ne0-2 : goal.returns-then-fields-ne0-2
 returns-then-fields-ne0-2 c =
     sym (chain_owned _ _ _ (counter (goal.at.returns-then-fields-ne0-2 c).Else-fields-ne0) (λ e. omega (arith, c.owned_front-fields.ensures.2, c.if-fields-ne0-2.true)))
 
-owner : (c : Else-fields-ne0-2) → ((let s = c.args in overflow_at (decode s.g s.t.now).overflow s.b.0)).owner ≡ 0
+owner : (c : Else-fields-ne0-2) → (overflow_at (decode c.args.g c.args.t.now).overflow c.args.b.0).owner ≡ 0
 owner c = omega (arith, c.owned_front-fields.ensures.2, c.if-fields-ne0-2.false)
 
 pub zeros_after-requires : goal.zeros_after-requires
@@ -54,20 +54,20 @@ returns-then-not-zeros_after c =
 
 -- a free block, by its link
 free : (c : Else-not-zeros_after) → let s = c.args in
-    cond (eqb ((let s = c.args in overflow_at (decode s.g s.t.now).overflow s.b.0)).link s.b.0) Last (further ((let s = c.args in overflow_at (decode s.g s.t.now).overflow s.b.0)).link) ≡ chain_step s.g (decode s.g s.t.now).overflow s.b.0
+    cond (eqb (overflow_at (decode c.args.g c.args.t.now).overflow c.args.b.0).link s.b.0) Last (further (overflow_at (decode c.args.g c.args.t.now).overflow c.args.b.0).link) ≡ chain_step s.g (decode s.g s.t.now).overflow s.b.0
 free c =
     sym (chain_free _ _ _ (omega (arith, c.owned_front-fields.ensures.0, c.if-fields-ne0.false)) (omega (arith, c.owned_front-fields.ensures.2, c.if-fields-ne0-2.false))
     (slots_at c.args.g c.args.t.now c.requires.0 c.args.b.0 c.requires.1 c.overflow_slots.result c.overflow_slots.ensures _ c.zeros_after.ensures ∙ c.if-not-zeros_after.false))
 
 pub returns-then-next-b : goal.returns-then-next-b
 returns-then-next-b c =
-    let l = ((let s = c.args in overflow_at (decode s.g s.t.now).overflow s.b.0)).link in
+    let l = (overflow_at (decode c.args.g c.args.t.now).overflow c.args.b.0).link in
     let b = c.args.b.0 in
     ap (λ (r : Bool). cond r Last (further l)) (sym (eq-eqb l b (omega (arith, c.owned_front-fields.ensures.1, c.if-next-b.true)))) ∙ free (goal.at.returns-then-next-b c).Else-not-zeros_after
 
 pub returns : goal.returns
 returns c =
-    let l = ((let s = c.args in overflow_at (decode s.g s.t.now).overflow s.b.0)).link in
+    let l = (overflow_at (decode c.args.g c.args.t.now).overflow c.args.b.0).link in
     let b = c.args.b.0 in
     ap further c.owned_front-fields.ensures.1
     ∙ ap (λ (r : Bool). cond r Last (further l)) (sym (ne_eqb l b (λ e. omega (arith, c.owned_front-fields.ensures.1, c.if-next-b.false))))

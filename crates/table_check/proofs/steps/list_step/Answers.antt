@@ -24,7 +24,7 @@ pub returns-then-fields-i : goal.returns-then-fields-i
 returns-then-fields-i c = sym (list_alien _ _ _ _ (λ e. omega (arith, c.owned_front-fields.ensures.2, c.if-fields-i.true)))
 
 -- the block is the list's own
-own : (c : Else-fields-i) → (overflow_at (((decode c.args.g c.args.t.now).overflow)) c.args.b.0).owner ≡ c.args.i.0
+own : (c : Else-fields-i) → (overflow_at (decode c.args.g c.args.t.now).overflow c.args.b.0).owner ≡ c.args.i.0
 own c = omega (arith, c.owned_front-fields.ensures.2, c.if-fields-i.false)
 
 pub overflow_add-used : goal.overflow_add-used
@@ -38,7 +38,7 @@ overflow_add-used c =
     )
 
 -- the step is the block's
-told : (w : After-step_of-way) → step_at w.args.g (((decode w.args.g w.args.t.now).overflow)) w.args.b.0 ≡ w.step_of-way.result
+told : (w : After-step_of-way) → step_at w.args.g (decode w.args.g w.args.t.now).overflow w.args.b.0 ≡ w.step_of-way.result
 told w =
     sym (w.step_of-way.ensures ∙ ap₂ (step_of w.args.g.sio) w.owned_front-fields.ensures.0 w.owned_front-fields.ensures.1)
 
@@ -47,7 +47,7 @@ returns-in_default c =
     sym (list_other _ _ _ _ (own (goal.at.returns-in_default c).Else-fields-i) c.step_of-way.result (told (goal.at.returns-in_default c).After-step_of-way) c.in_default.not-Last)
 
 -- the counter that was read, and that it is below sio
-counter : (c : In-Last) → (c.owned_front-fields.result.front.counter ≡ (overflow_at (((decode c.args.g c.args.t.now).overflow)) c.args.b.0).counter) × (c.owned_front-fields.result.front.counter < c.args.g.sio)
+counter : (c : In-Last) → (c.owned_front-fields.result.front.counter ≡ (overflow_at (decode c.args.g c.args.t.now).overflow c.args.b.0).counter) × (c.owned_front-fields.result.front.counter < c.args.g.sio)
 counter c =
     (c.owned_front-fields.ensures.0, told_last _ _ _ _ c.step_of-way.ensures c.in-Last.is)
 
@@ -58,19 +58,19 @@ zeros_after-requires c =
     let r = overflow_room c.args.g c.args.t.now T c.args.b.0 c.requires.1 in
     (omega (arith, counter (goal.at.zeros_after-requires c).In-Last), omega (arith, T.room), omega (arith, bits_high c.args.g T.proper))
 
-unused : (c : After-zeros_after) → overflow_unused c.args.g (((decode c.args.g c.args.t.now).overflow)) c.args.b.0 ≡ c.zeros_after.result
+unused : (c : After-zeros_after) → overflow_unused c.args.g (decode c.args.g c.args.t.now).overflow c.args.b.0 ≡ c.zeros_after.result
 unused c =
     let n = c.owned_front-fields.result.front.counter in
     let g = c.args.g in
     let t = c.args.t.now in
-    let o = overflow_at (((decode c.args.g c.args.t.now).overflow)) c.args.b.0 in
+    let o = overflow_at (decode c.args.g c.args.t.now).overflow c.args.b.0 in
     let e : suc o.counter ≡ n + 1 = omega (arith, c.owned_front-fields.ensures.0) in
     over_zeros g t c.requires.0 c.args.b.0 (suc o.counter) c.requires.1
     ∙ ap (λ (m : ℕ). eqb (field t (overflow_slots g c.args.b.0 + m * g.slot) ((g.sio - m) * g.slot)) 0) e
     ∙ ap (λ (a : ℕ). eqb (field t (a + (n + 1) * g.slot) ((g.sio - (n + 1)) * g.slot)) 0) (sym c.overflow_slots.ensures)
     ∙ sym c.zeros_after.ensures
 
-last : (c : After-zeros_after) → step_at c.args.g (((decode c.args.g c.args.t.now).overflow)) c.args.b.0 ≡ Last
+last : (c : After-zeros_after) → step_at c.args.g (decode c.args.g c.args.t.now).overflow c.args.b.0 ≡ Last
 last c =
     sym (c.step_of-way.ensures ∙ ap₂ (step_of c.args.g.sio) c.owned_front-fields.ensures.0 c.owned_front-fields.ensures.1)
     ∙ c.in-Last.is
