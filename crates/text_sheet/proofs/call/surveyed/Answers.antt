@@ -20,7 +20,7 @@ pub returns-in_default : goal.returns-in_default
 returns-in_default c =
     damaged c.args.s c.args.g c.args.t.now c.requires.1 c.args.page c.args.out.now (rw c.in_default.is at c.survey.ensures)
 
--- here and in returns-3 `omega` reads the comparison with the count: a wrong one fails at its numbers, not its form
+-- here and in `returns` `omega` reads the comparison with the count: a wrong one fails at its numbers, not its form
 pub returns-then-n-count : goal.returns-then-n-count
 returns-then-n-count c =
     let n = c.first_record-n.result in

@@ -26,7 +26,7 @@ use Rattle.text_sheet.specs.Pages.{page_count, pairs_on, page_text}
 use Rattle.text_sheet.specs.Answers.{page_room, records, page_call}
 use Rattle.text_sheet.specs.Claim.{Sheet}
 use Rattle.text_sheet.specs.theory.Lines.{heading_length, Labelled, pair_row_length, rows_length}
-use Rattle.text_sheet.specs.theory.Pages.{whole}
+use Rattle.text_sheet.proofs.Pages.{whole}
 use Rattle.text_sheet.specs.declared.PageAnswer.TheVariants as paging
 
 -- Labels have at most 32 bits -------------------------------------------------------------------------------------------------
