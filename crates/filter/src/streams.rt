@@ -1,11 +1,11 @@
 // Standard input and output: one read and one write at a time, and the message where one fails.
-ghost use Rattle.std.specs.Prelude.{length, take};
+ghost use Rattle.std.specs.Prelude.{◌≤◌, length, take};
 ghost use Rattle.filter.specs.World.{Moved, moved, Gives, Takes};
 
-use std::fmt;
-use std::io;
+use std::fmt::Write as _;
 use std::io::{Read, Write};
 use std::rt::{Stderr, Stdin, Stdout};
+use std::{fmt, io};
 
 #[derive(Clone, Copy)]
 pub(crate) struct Streams {
@@ -33,9 +33,11 @@ pub(crate) fn read_once(io: &Streams, buf: &mut [u8]) -> io::Result<usize>
 const LINE_BYTES: usize = 320;
 
 // A line of text, cut short where there is no room.
+#[derive(Drop)]
 struct Line {
     bytes: [u8; LINE_BYTES],
     len: usize,
+    ghost within: { len ≤ 320 },
 }
 
 impl fmt::Write for Line {
@@ -50,7 +52,7 @@ impl fmt::Write for Line {
     }
 }
 
-// Where the system's words for an error end: before the number that std writes behind them in parentheses.
+// Where the system's words for an error end: before the number that std writes behind them, in parentheses.
 fn words_end(line: &[u8]) -> usize
     ensures { result ≤ length line.now }
 {
@@ -63,12 +65,15 @@ fn words_end(line: &[u8]) -> usize
     end
 }
 
-// Writes a line to standard error: what failed, a colon and why.
+// Writes a line to standard error: what failed, a colon and why. A message that cannot be written is lost.
 pub(crate) fn fail(io: &Streams, what: &str, error: io::Error) {
     let mut line = Line {
         bytes: [0; LINE_BYTES],
         len: 0,
     };
-    let _ = write!(line, "{what}: {error}");
-    ...
+    let _text = write!(line, "{what}: {error}");
+    let end = words_end(&line.bytes[..line.len]);
+    let mut errors = io.errors;
+    let _message = errors.write_all(&line.bytes[..end]);
+    let _feed = errors.write_all(b"\n");
 }
