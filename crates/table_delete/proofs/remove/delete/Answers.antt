@@ -1,7 +1,6 @@
 -- The table opened for the key, and the key sought; where a refusal comes first, it is the answer, and every byte stays.
 use mathlib.Core.Path.{◌≡◌, refl, sym, ap, ◌∙◌}
 use lib.ListN.{length}
-use borrow.Author.Rules.{rules}
 use Rattle.settings.specs.declared.layout.Laid.TheVariants as laid
 use Rattle.table.specs.Calls.{delete}
 use Rattle.table_find.specs.Seek.{open_of, laid_if}

@@ -1,8 +1,6 @@
 -- What find answered decides.
 use mathlib.Core.Path.{refl, sym, ap, subst, ◌∙◌}
-use mathlib.Core.Logic.{⊎_elim}
 use native.Mathlib.Omega.{arith}
-use borrow.Author.Rules.{rules}
 use Rattle.keys.specs.Key.{key_number}
 use Rattle.table.specs.Decode.{decode}
 use Rattle.table.specs.Answer.{said}

@@ -1,7 +1,6 @@
 -- By the basic block's counter.
 use Prim.Native.Nat.{◌≤◌}
 use native.Mathlib.Omega.{arith}
-use borrow.Author.Rules.{rules}
 use Rattle.table.specs.State.{basic_at}
 use Rattle.table.specs.Decode.{decode}
 use Rattle.table_store.specs.theory.PlaceLaws.{short_place}

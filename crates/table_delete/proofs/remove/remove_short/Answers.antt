@@ -1,10 +1,8 @@
 -- The last slot goes into the hole, the vacant slot and the counter follow. A slot put onto itself changes nothing.
 use mathlib.Core.Path.{◌≡◌, sym, ap, ◌∙◌}
-use mathlib.Core.Logic.{⊎_elim}
 use Prim.Native.Nat.{ℕ, ◌+◌, ◌-◌, ◌≤◌, ◌<◌}
 use native.Mathlib.Omega.{arith}
 use lib.ListN.{length}
-use borrow.Author.Rules.{rules}
 use Rattle.bits.specs.Field.{field}
 use Rattle.bits.specs.Put.{put_field}
 use Rattle.bits.specs.theory.Fields.{field_lt}
@@ -39,11 +37,11 @@ moved c =
     let a = c.args in
     let last = c.basic_slot-last.result in
     elim c.if-hole-last.branch [
-      then-hole-last w ↦ w.t-is ∙ w.copy.ensures
+      | then-hole-last w ↦ w.t-is ∙ w.copy.ensures
       | else-hole-last w ↦ w.t-is
-        ∙ sym
-        (ap (λ (n : ℕ). put_field a.t.now n a.g.slot (field a.t.now last a.g.slot)) w.if-hole-last.false
-        ∙ put_own a.t.now last a.g.slot)
+          ∙ sym
+          (ap (λ (n : ℕ). put_field a.t.now n a.g.slot (field a.t.now last a.g.slot)) w.if-hole-last.false
+          ∙ put_own a.t.now last a.g.slot)
     ]
 
 long : (c : Joined-hole-last) → length c.if-hole-last.t ≡ length c.args.t.now

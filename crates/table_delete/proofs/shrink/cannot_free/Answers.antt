@@ -1,7 +1,6 @@
 -- A block with more than one slot is not freed; else the free start decides.
 use mathlib.Core.Path.{ap}
 use lib.Dec.{ltb}
-use borrow.Author.Rules.{rules}
 use borrow.Author.Tests.{lt-ltb, le-ltb}
 use Rattle.table.specs.Delete.{cannot_free}
 use Rattle.table_delete.proofs.shrink.cannot_free.Goals as goal

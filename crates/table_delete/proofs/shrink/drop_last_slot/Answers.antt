@@ -1,6 +1,5 @@
 -- The vacant slot and the counter, stored in a row.
 use native.Mathlib.Omega.{arith}
-use borrow.Author.Rules.{rules}
 use Rattle.table_read.specs.Places.{BlockIn}
 use Rattle.table.specs.theory.Changes.{bits_high}
 use Rattle.table_delete.proofs.DeleteLaws.{stored_slot_off}

@@ -1,13 +1,7 @@
 -- The end from here on, with the block that was passed last, is that of the whole list.
-use mathlib.Core.Path.{sym, ◌∙◌}
-use Prim.Native.Nat.{◌-◌, ◌<◌}
-use native.Mathlib.Omega.{arith}
-use borrow.Author.Rules.{rules}
+use Prim.Native.Nat.{◌-◌}
 use Rattle.table.specs.Decode.{decode}
-use Rattle.table.specs.theory.Ways.{told_further, told_other}
-use Rattle.table_read.specs.theory.BlockSlots.{chain_low}
-use Rattle.table_delete.proofs.DeleteLaws.{Ending, ending_first, ending_here, ending_on}
-use Rattle.std.proofs.Common.{inl}
+use Rattle.table_delete.proofs.DeleteLaws.{Ending}
 use Rattle.table_delete.proofs.shrink.end_of.Given as goal
 
 abbrev pub invariant-loop-k : goal.invariant-loop-k

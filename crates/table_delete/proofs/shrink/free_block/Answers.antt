@@ -1,7 +1,6 @@
 -- The block is zeroed but for its link, with no owner, and becomes the free start.
 use Prim.Native.Nat.{◌≤◌}
 use native.Mathlib.Omega.{arith}
-use borrow.Author.Rules.{rules}
 use Rattle.table_delete.proofs.DeleteLaws.{link_free_fits, stored_free_block}
 use Rattle.table_delete.proofs.shrink.free_block.Goals as goal
 

@@ -1,6 +1,5 @@
 -- By the last block's counter, and by whether a block stands before it.
 use mathlib.Core.Path.{refl, sym, ap, subst}
-use mathlib.Core.Logic.{⊎_elim}
 use mathlib.Core.List.{List}
 use Prim.Native.Nat.{ℕ, ◌-◌, ◌^◌, ◌<◌, ◌≤◌}
 use native.Mathlib.Omega.{arith}
@@ -47,7 +46,7 @@ met c =
     let l = c.overflow_link-link in
     let at : List ℕ → Type 0 = λ u. Stored a.g a.t.now u (handed_back a.g a.i.0 a.last.0 a.before (decode a.g a.t.now)) in
     elim c.match-before.branch [
-      in-Basic w ↦ subst at (sym w.t-is) (stored_back a.i.0 a.last.0 a.before l.result w.in-Basic.is l.ensures w.put_basic_front.ensures)
+      | in-Basic w ↦ subst at (sym w.t-is) (stored_back a.i.0 a.last.0 a.before l.result w.in-Basic.is l.ensures w.put_basic_front.ensures)
       | in-Block w ↦ subst at (sym w.t-is) (stored_further a.i.0 a.last.0 a.before w.in-Block.p (a.g.sio - 1) l.result w.in-Block.is refl l.ensures w.put_overflow_front.ensures)
     ]
 

@@ -5,15 +5,13 @@ use Prim.Native.Nat.{ℕ, ◌-◌, ◌^◌, ◌<◌}
 use native.Mathlib.Omega.{arith}
 use lib.ListN.{length}
 use lib.Dec.{leb}
-use borrow.Author.Tests.{ltb-true, leb-true, not-true, not-false}
-use borrow.Author.Rules.{rules}
+use borrow.Author.Tests.{ltb-true, leb-true}
 use Rattle.laws.specs.Cases.{both_true}
 use Rattle.settings.specs.declared.layout.Laid.TheVariants as laid
 use Rattle.settings.specs.Reply.{Gives}
 use Rattle.table.specs.Calls.{relabel, key_call}
 use Rattle.table_find.specs.Seek.{open_of, laid_if}
 use Rattle.table_find.specs.declared.Admission.{Admission}
-use Rattle.table_find.specs.declared.Sought.{Sought}
 use Rattle.table_find.specs.theory.Seeks.{Opened, open_means, open_illegal, open_refused}
 use Rattle.table_find.specs.theory.SoughtLaws.{SoughtIn, sought_means, placed_at, sought_as}
 use Rattle.table_find.specs.theory.Labels.{label_refused, val_high, label_word, label_slot}

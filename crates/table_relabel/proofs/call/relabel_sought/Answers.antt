@@ -1,7 +1,6 @@
 -- What find answered decides.
 use mathlib.Core.Path.{refl}
 use native.Mathlib.Omega.{arith}
-use borrow.Author.Rules.{rules}
 use Rattle.table_find.specs.theory.Seeks.{open_means}
 use Rattle.table_find.specs.theory.SoughtLaws.{SoughtIn, sought_means}
 use Rattle.table_find.specs.theory.Labels.{label_slot}

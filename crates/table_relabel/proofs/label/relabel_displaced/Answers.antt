@@ -2,7 +2,6 @@
 use mathlib.Core.Path.{◌≡◌, sym, ap, ◌∙◌}
 use Prim.Native.Nat.{◌^◌, ◌<◌}
 use native.Mathlib.Omega.{arith}
-use borrow.Author.Rules.{rules}
 use Rattle.bits.specs.theory.Fields.{field_lt}
 use Rattle.keys.specs.Key.{key_number}
 use Rattle.table.specs.Decode.{decode, basic_slots}

@@ -1,8 +1,7 @@
 -- The place is a slot of an overflow block, whose label is put.
 use mathlib.Core.Path.{◌≡◌, ap}
-use Prim.Native.Nat.{◌+◌, ◌-◌, ◌≤◌, ◌<◌}
+use Prim.Native.Nat.{◌+◌, ◌≤◌, ◌<◌}
 use native.Mathlib.Omega.{arith}
-use borrow.Author.Rules.{rules}
 use Rattle.table.specs.State.{basic_at}
 use Rattle.table.specs.Decode.{decode}
 use Rattle.table.specs.theory.Changes.{bits_high}

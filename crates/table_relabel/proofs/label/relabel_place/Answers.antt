@@ -2,7 +2,6 @@
 use mathlib.Core.Path.{◌≡◌, ap, ◌∙◌}
 use Prim.Native.Nat.{ℕ, ◌+◌, ◌≤◌}
 use native.Mathlib.Omega.{arith}
-use borrow.Author.Rules.{rules}
 use Rattle.bits.specs.Put.{put_field}
 use Rattle.table.specs.theory.Changes.{bits_high}
 use Rattle.table_read.specs.Places.{basic_slot}
