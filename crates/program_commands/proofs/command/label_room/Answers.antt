@@ -1,5 +1,4 @@
 -- Each return is the definition's answer for the test that led there.
-use borrow.Author.Rules.{rules}
 use native.Mathlib.Omega.{arith}
 use Rattle.program_commands.proofs.Places.{room_short, room_long}
 use Rattle.program_commands.proofs.command.label_room.Goals as goal

@@ -1,5 +1,4 @@
 -- Each return is a law of the line by what was found: the space before a label, and the label.
-use borrow.Author.Rules.{rules}
 use Prim.Native.Nat.{◌+◌, ◌≤◌}
 use native.Mathlib.Omega.{arith}
 use lib.ListN.{length}

@@ -1,5 +1,4 @@
 -- The address ends before the line's first space, or it has one.
-use borrow.Author.Rules.{rules}
 use native.Mathlib.Omega.{arith}
 use Rattle.program_commands.proofs.Places.{unread_line, unread_text}
 use Rattle.program_commands.proofs.command.unread.Goals as goal
