@@ -1,9 +1,0 @@
--- The reply is that of the call's own answer; the bytes are the call's.
-use mathlib.Core.Path.{ap, ◌∙◌}
-use Rattle.shelfegret.specs.Reply.{text_reply}
-use borrow.Author.Rules.{rules}
-use Rattle.shelfegret.proofs.texts.shelfegret_enter_text.Goals as goal
-
-pub returns : goal.returns
-returns c =
-    record { answer = c.answered.ensures ∙ ap text_reply c.enter_text-a.ensures.answer; bytes = c.enter_text-a.ensures.bytes }
