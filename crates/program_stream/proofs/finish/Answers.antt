@@ -5,7 +5,6 @@ use native.Mathlib.Omega.{arith}
 use lib.ListN.{length}
 use lib.Dec.{lit≤}
 use Rattle.program_stream.specs.theory.Lines.{output_none, output_last, output_past}
-use borrow.Author.Rules.{rules}
 use Rattle.program_stream.proofs.finish.Goals as goal
 
 pub returns-then-skip : goal.returns-then-skip

@@ -1,9 +1,8 @@
 -- The first j bytes are those from `at` on, and the bytes behind them are as they were.
 use mathlib.Core.Path.{◌≡◌, refl, ap, ◌∙◌}
-use Prim.Native.Nat.{ℕ, ◌≤◌, ◌-◌, ◌+◌}
+use Prim.Native.Nat.{ℕ, ◌-◌}
 use native.Mathlib.Omega.{arith}
-use lib.ListN.{length, take, drop, length-set}
-use borrow.Author.Rules.{rules}
+use lib.ListN.{take, drop, length-set}
 use Rattle.program_stream.proofs.Copies.{kept_more}
 use Rattle.program_stream.proofs.keep.Goals as goal
 

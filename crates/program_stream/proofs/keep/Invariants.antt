@@ -1,10 +1,7 @@
 -- The first j bytes are those from `at` on, and the bytes behind them are as they were.
-use mathlib.Core.Path.{◌≡◌, refl, ap, ◌∙◌}
-use Prim.Native.Nat.{ℕ, ◌≤◌, ◌-◌, ◌+◌}
-use native.Mathlib.Omega.{arith}
-use lib.ListN.{length, take, drop, length-set}
-use borrow.Author.Rules.{rules}
-use Rattle.program_stream.proofs.Copies.{kept_more}
+use mathlib.Core.Path.{◌≡◌}
+use Prim.Native.Nat.{◌≤◌, ◌-◌, ◌+◌}
+use lib.ListN.{length, take, drop}
 use Rattle.program_stream.proofs.keep.Given as goal
 
 abbrev pub invariant-loop-i : goal.invariant-loop-i

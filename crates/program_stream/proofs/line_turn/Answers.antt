@@ -3,7 +3,6 @@ use native.Mathlib.Omega.{arith}
 use Rattle.program_lines.specs.Ends.{line_feed}
 use Rattle.program_lines.specs.theory.Ends.{span_line, first_after}
 use Rattle.program_stream.proofs.Turns.{turned_line, turned_past}
-use borrow.Author.Rules.{rules}
 use Rattle.program_stream.proofs.line_turn.Goals as goal
 
 pub overflow_add-result : goal.overflow_add-result

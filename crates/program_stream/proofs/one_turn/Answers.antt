@@ -1,6 +1,5 @@
 -- The line that the reader found, or what is left where it found none.
 use mathlib.Core.Path.{sym, ◌∙◌}
-use borrow.Author.Rules.{rules}
 use Rattle.program_stream.proofs.one_turn.Goals as goal
 
 pub line_turn-requires : goal.line_turn-requires

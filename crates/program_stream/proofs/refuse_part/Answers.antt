@@ -3,7 +3,6 @@ use Prim.Native.Nat.{◌≤◌}
 use native.Mathlib.Omega.{arith}
 use lib.ListN.{length, length-take, length-drop}
 use Rattle.program_stream.proofs.Copies.{part_written}
-use borrow.Author.Rules.{rules}
 use Rattle.program_stream.proofs.refuse_part.Goals as goal
 
 pub returns : goal.returns

@@ -1,7 +1,6 @@
 -- Each way is a law of `Turns`, at what its tests and its callee say.
 use native.Mathlib.Omega.{arith}
 use Rattle.program_stream.proofs.Turns.{turned_past_rest, turned_long, turned_short}
-use borrow.Author.Rules.{rules}
 use Rattle.program_stream.proofs.rest_turn.Goals as goal
 
 pub returns-then-skip : goal.returns-then-skip
