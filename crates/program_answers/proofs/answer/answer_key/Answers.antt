@@ -2,7 +2,6 @@
 use mathlib.Core.Path.{ap}
 use Rattle.program_answers.specs.Answer.{answer_text}
 use Rattle.program_answers.proofs.Puts.{answered_given}
-use borrow.Author.Rules.{rules}
 use Rattle.program_answers.proofs.answer.answer_key.Goals as goal
 
 pub returns-in-Said : goal.returns-in-Said

@@ -4,7 +4,6 @@ use native.Mathlib.Omega.{arith}
 use Rattle.program_commands.specs.theory.Spaces.{read_spaceless}
 use Rattle.program_answers.specs.theory.Lines.{Parsing, asks_request, asks_none, line_none, line_key, line_unread}
 use Rattle.program_answers.proofs.Puts.{answered_as, answered_refused}
-use borrow.Author.Rules.{rules}
 use Rattle.program_answers.proofs.answer.answer_line.Goals as goal
 use Rattle.program_answers.proofs.answer.answer_line.Goals.{In-Request, Start}
 

@@ -3,7 +3,6 @@ use native.Mathlib.Omega.{arith}
 use Rattle.program_answers.specs.Answer.{numbers_text}
 use Rattle.text_write.specs.theory.Decimal.{decimal_short}
 use Rattle.program_answers.proofs.Puts.{put_then}
-use borrow.Author.Rules.{rules}
 use Rattle.program_answers.proofs.answer.put_numbers.Goals as goal
 
 pub put-m-requires : goal.put-m-requires

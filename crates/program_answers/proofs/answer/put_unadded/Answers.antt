@@ -1,12 +1,9 @@
 -- "gone" or "relabelled": byte strings, told apart by one test.
 use mathlib.Core.Path.{sym, ap}
-use mathlib.Core.Logic.{⊎_elim}
-use native.Mathlib.Omega.{arith}
 use Rattle.text_write.specs.Ascii.{ascii}
 use Rattle.program_answers.specs.Answer.{word_text}
 use Rattle.program_answers.proofs.Texts.{relabelled_text}
 use Rattle.program_answers.proofs.Puts.{put_as}
-use borrow.Author.Rules.{rules}
 use Rattle.program_answers.proofs.answer.put_unadded.Goals as goal
 
 pub returns-in-Gone : goal.returns-in-Gone

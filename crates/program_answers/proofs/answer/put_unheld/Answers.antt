@@ -1,14 +1,10 @@
 -- "none", or one of the words of a change.
 use mathlib.Core.Path.{sym, ap}
-use mathlib.Core.Logic.{⊎_elim}
-use native.Mathlib.Omega.{arith}
 use Rattle.text_write.specs.Ascii.{ascii}
 use Rattle.program_answers.specs.Answer.{word_text}
 use Rattle.program_answers.proofs.Puts.{put_as}
-use borrow.Author.Rules.{rules}
 use Rattle.program_answers.proofs.answer.put_unheld.Goals as goal
 use Rattle.program_answers.proofs.answer.put_unheld.Goals.{Start}
-
 
 pub returns-in-None : goal.returns-in-None
 unfolding word_text ascii

@@ -8,7 +8,6 @@ use Rattle.program_answers.specs.Answer.{refused_text}
 use Rattle.text_write.specs.Decimal.{decimal_text}
 use Rattle.text_write.specs.theory.Decimal.{decimal_short}
 use Rattle.program_answers.proofs.Puts.{put_then, put_as, put_wrote}
-use borrow.Author.Rules.{rules}
 use Rattle.program_answers.proofs.answer.refuse.Goals as goal
 
 pub put-requires : goal.put-requires

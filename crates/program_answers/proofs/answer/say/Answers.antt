@@ -6,7 +6,6 @@ use native.Mathlib.Omega.{arith}
 use Rattle.program_answers.specs.Answer.{word_text, said_text}
 use Rattle.program_answers.proofs.Texts.{word_short, numbers_short}
 use Rattle.program_answers.proofs.Puts.{wrote_then}
-use borrow.Author.Rules.{rules}
 use Rattle.program_answers.proofs.answer.say.Goals as goal
 
 pub put_numbers-requires : goal.put_numbers-requires

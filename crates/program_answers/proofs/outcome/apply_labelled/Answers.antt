@@ -2,11 +2,7 @@
 use mathlib.Core.Path.{◌≡◌, refl, sym, ◌∙◌}
 use mathlib.Core.Bool.{true, true≢false}
 use mathlib.Core.List.{[], ◌∷◌}
-use mathlib.Core.Logic.{⊎_elim}
 use Prim.Native.Nat.{ℕ}
-use native.Mathlib.Omega.{arith}
-use borrow.Author.Rules.{rules}
-use borrow.Author.Tests.{ltb-true, not-true, not-false}
 use Rattle.settings.specs.Due.{label_due}
 use Rattle.table.specs.Calls.{verb_due}
 use Rattle.table_find.specs.theory.Seeks.{open_means}
@@ -38,8 +34,6 @@ returns-then-not-fits c =
     let a = c.args in
     label_refused a.t.now (verb_of a.op a.label) a.label (due-for a.op a.label c.requires.0) (open_means program a.key _ _ c.requires.1)
     (sym c.fits.ensures ∙ c.if-not-fits.true)
-
-
 
 pub returns-in-Enter : goal.returns-in-Enter
 returns-in-Enter c =

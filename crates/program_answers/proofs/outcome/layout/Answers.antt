@@ -1,6 +1,5 @@
 -- The layout is computed from the settings, here once and for all.
 use mathlib.Core.Path.{refl}
-use borrow.Author.Rules.{rules}
 use Rattle.settings.specs.Log.{ceil_log2}
 use Rattle.settings.specs.Least.{least_from}
 use Rattle.settings.specs.Sizes.{link_bits, free_start_bits, basic_counter_bits, basic_block_bits, lists, overflow_counter_bits, overflow_block_bits, overflow_start, table_bits, table_bytes}

@@ -2,7 +2,6 @@
 use mathlib.Core.Path.{◌∙◌}
 use Rattle.settings.specs.Made.{made_of}
 use Rattle.program_answers.specs.theory.Program.{program_legal}
-use borrow.Author.Rules.{rules}
 use Rattle.program_answers.proofs.outcome.settings.Goals as goal
 
 pub returns : goal.returns

@@ -1,5 +1,5 @@
 -- A number is put as a tenth of it is, and one digit more.
-use Rattle.std.proofs.Common.{rules, arith, sym, ap, length}
+use Rattle.std.proofs.Common.{arith, sym, ap, length}
 use Rattle.text_write.specs.theory.Decimal.{decimal_one, decimal_more, decimal_longer}
 use Rattle.program_answers.proofs.Puts.{put_then, put_as}
 use Rattle.program_answers.proofs.text.+put_digits.Goals as goal

@@ -3,7 +3,6 @@ use mathlib.Core.Path.{sym}
 use native.Mathlib.Omega.{arith}
 use Rattle.text_write.specs.theory.Decimal.{decimal_one, decimal_two, decimal_three, decimal_short}
 use Rattle.program_answers.proofs.Puts.{put_then, put_as}
-use borrow.Author.Rules.{rules}
 use Rattle.program_answers.proofs.text.put_decimal.Goals as goal
 
 pub returns-then-n-lt10 : goal.returns-then-n-lt10

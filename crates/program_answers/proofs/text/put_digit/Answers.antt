@@ -1,5 +1,4 @@
 -- The digit 0 is the byte 48.
-use borrow.Author.Rules.{rules}
 use native.Mathlib.Omega.{arith}
 use Rattle.program_answers.proofs.Puts.{put_byte}
 use Rattle.program_answers.proofs.text.put_digit.Goals as goal
