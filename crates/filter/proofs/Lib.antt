@@ -1,4 +1,4 @@
 -- Laws that only the proofs of this crate use.
-mod Parts
-mod Moves
-mod Standing
+pub mod Parts
+pub mod Moves
+pub mod Standing

@@ -15,10 +15,10 @@ loop-turns-preserved c =
     let s = c.args.buf.now in
     let done = c.loop-turns.done in
     elim c.match-write_once.branch [
-      in-Ok+else-n-eq0 w ↦
+      | in-Ok+else-n-eq0 w ↦
           let h : w.in-Ok.n ≤ length s - done = omega (arith, simp (length-take, length-drop) at w.in-Ok.ensures.0) in
           rw w.done-is (record { within = omega (arith, h, c.if-done-buf.false); takes = takes_more s done w.in-Ok.n (length s - done) c.loop-turns.invariant.takes h w.in-Ok.ensures.1 })
-    | in-Err+else-ne w ↦ rw w.done-is c.loop-turns.invariant
+      | in-Err+else-ne w ↦ rw w.done-is c.loop-turns.invariant
     ]
 
 pub returns : goal.returns
