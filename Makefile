@@ -8,26 +8,27 @@ PREFIX ?= /usr/local
 INSTALLED = $(DESTDIR)$(PREFIX)
 PROGRAM = target/bin/filter
 ARCHIVE = target/staticlib/libshelfegret.a
-SOURCES = crates.txt $(shell find crates -name '*.rt' -o -name '*.antt')
+SOURCES = crates.txt $(shell find crates -path '*/out' -prune -o \( -name '*.rt' -o -name '*.antt' \) -print)
 SHELL = /bin/bash
 .SHELLFLAGS = -o pipefail -c
 export LC_ALL = C
 
-# Shows a line for each crate as soon as it is proved. All that rt says is in target/make.log, and is shown if it fails.
-PROVED = 2>&1 | tee target/make.log | grep --line-buffered '^rt: ' || { cat target/make.log; exit 1; }
+# Shows what is checked as it goes. All that rt says is in the log, and is shown if it fails.
+SHOWN = 2>&1 | tee $(1) | grep --line-buffered '^rt: \|^logic=' || { cat $(1); exit 1; }
 
 all: $(PROGRAM) $(ARCHIVE)
 
 $(PROGRAM): $(SOURCES)
-	@mkdir -p target
-	@echo 'rt check filter'
-	@rt check filter $(PROVED)
-	@touch $@
+	@mkdir -p $(@D)
+	@echo 'rt run, in crates/filter'
+	@cd crates/filter && rt run </dev/null $(call SHOWN,../../target/filter.log)
+	@cp crates/filter/out/filter $@
 
 $(ARCHIVE): $(SOURCES)
-	@mkdir -p target
-	@echo 'rt staticlib shelfegret'
-	@rt staticlib shelfegret $(PROVED)
+	@mkdir -p $(@D)
+	@echo 'rt lib, in crates/shelfegret'
+	@cd crates/shelfegret && rt lib $(call SHOWN,../../target/shelfegret.log)
+	@cp crates/shelfegret/out/libshelfegret.a $@
 
 run: $(PROGRAM)
 	$(PROGRAM) < examples/sample.txt

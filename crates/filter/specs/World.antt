@@ -4,7 +4,8 @@
 -- one call each, that the words mean what they say. What they do not say: that nothing else was read or written, how often and in which order calls were
 -- made, that the input has ended. And they are never used up: a contract that only says that there are such pieces and bytes can be met with none. What
 -- holds the loop is its invariant, `Stands`, which the proof of `answer_input` carries from call to call, and the equations `Answered` and `Read`.
-use Rattle.std.specs.Prelude.{ℕ, ◌≡◌, Bool, true, false, List, [], ◌∷◌, ◌++◌, take, ℤ, pos, negsuc}
+use Rattle.std.specs.Prelude.{ℕ, ◌≡◌, ◌≤◌, Bool, true, false, List, [], ◌∷◌, ◌++◌, take, Result, Ok, Err}
+use Rattle.std.specs.declared.io.Error.{Error}
 
 -- reads of standard input have given these pieces
 pub Given : List (List ℕ) → Type 0
@@ -46,10 +47,15 @@ pub taken_more : (w : List ℕ) → Takes w
 unfolding Taken
 taken_more w v h = tt
 
--- how many bytes a read or a write has moved that answers z: none if it failed
-abbrev pub moved : ℤ → ℕ
-moved (pos k) = k
-moved (negsuc k) = 0
+-- what a read or a write of n bytes may answer: an error, or how many bytes it has moved, at most n
+abbrev pub Moved : ℕ → Result ℕ Error → Type 0
+Moved n (Ok k) = k ≤ n
+Moved n (Err e) = Unit {0}
+
+-- how many bytes a read or a write has moved that answers r: none if it failed
+abbrev pub moved : Result ℕ Error → ℕ
+moved (Ok k) = k
+moved (Err e) = 0
 
 -- `write_out`: of the bytes w as many as `much` were taken, and all unless there was an error
 pub record Wrote (w : List ℕ) (r : Bool) : Type 0 where

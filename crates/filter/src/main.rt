@@ -1,76 +1,71 @@
 // Answers the lines of standard input on standard output. All that is due is written before each read, so
 // a read that waits delays no answer. Only `write_once` and `read_once` write and read; `answer_input` is the loop.
-ghost use Rattle.std.specs.Prelude.{◌≡◌, true, false, ◌⊎◌, ◌≤◌, ◌<◌, length, take};
-ghost use Rattle.libc.specs.Io.{Moved};
+#![tactic(auto)]
+
+mod streams;
+
+ghost use Rattle.std.specs.Prelude.{◌≡◌, true, false, ◌⊎◌, ◌≤◌, ◌<◌, length, take, is_ok};
 ghost use Rattle.text_read.specs.ReaderSteps.{Classes};
 ghost use Rattle.program_commands.specs.Command.{longest_line};
 ghost use Rattle.program_answers.specs.Program.{program_bytes};
 ghost use Rattle.program_answers.specs.Answer.{answer_room};
 ghost use Rattle.program_stream.specs.Output.{new_table};
 ghost use Rattle.program_stream.specs.Steps.{due, Waits};
-ghost use Rattle.filter.specs.World.{moved, Erred, Gives, Takes, Wrote};
+ghost use Rattle.filter.specs.World.{Erred, Gives, Wrote};
 ghost use Rattle.filter.specs.Loop.{Placed, unanswered, Answered, Read, Ends, Ran};
 
-use libc::{STDIN_FILENO, STDOUT_FILENO};
 use program_answers::TABLE_BYTES;
 use settings::Made;
-
-// One write of the bytes of part: it answers -1, or how many it has taken.
-fn write_once(part: &[u8]) -> isize
-    ensures { Moved (length part.now) result × Takes (take (moved result) part.now) }
-{
-    libc::write(STDOUT_FILENO, part)
-}
-
-// One read to the start of buf: it answers -1, or how many bytes it has given.
-fn read_once(buf: &mut [u8]) -> isize
-    ensures { Moved (length buf.old) result × Gives (take (moved result) buf.new) }
-{
-    libc::read(STDIN_FILENO, buf)
-}
+use std::io;
+use std::io::ErrorKind;
+use streams::{Streams, fail, read_once, write_once};
 
 // Writes all of buf. A write that takes a part of it, or that a signal interrupts, is gone on with; one that takes nothing
 // has failed. Nothing is promised of interrupted writes, so a counter that no run uses up shows that the loop ends.
-fn write_out(buf: &[u8]) -> bool
-    ensures { Wrote buf.now result }
+fn write_out(io: &Streams, buf: &[u8]) -> io::Result<()>
+    ensures { Wrote buf.now (is_ok result) }
 {
     let mut done: usize = 0;
     let mut turns = u64::MAX;
     while turns > 0 {
         if done >= buf.len() {
-            return true;
+            return Ok(());
         }
-        let part = &buf[done..];
-        let put = write_once(part);
-        done += io::count(put, part);
-        if put == 0 {
-            return false;
-        }
-        if put < 0 {
-            if os::errno() != libc::EINTR {
-                return false;
+        match write_once(io, &buf[done..]) {
+            Ok(n) => {
+                if n == 0 {
+                    return Err(io::Error::from(ErrorKind::WriteZero));
+                }
+                done += n;
+            }
+            Err(e) => {
+                if e.kind() != ErrorKind::Interrupted {
+                    return Err(e);
+                }
             }
         }
         turns -= 1;
     }
-    false
+    Err(io::Error::from(ErrorKind::Interrupted))
 }
 
 // The same, with a message if it fails.
-fn wrote(buf: &[u8]) -> bool
+fn wrote(io: &Streams, buf: &[u8]) -> bool
     ensures { Wrote buf.now result }
 {
-    let ok = write_out(buf);
-    if !ok {
-        os::fail(b"write");
+    match write_out(io, buf) {
+        Ok(()) => true,
+        Err(e) => {
+            fail(io, "write", e);
+            false
+        }
     }
-    ok
 }
 
 // Where the loop stands. buf[at..end] has been read and is not answered yet; `skip` says that it begins inside a line that
 // has been answered. out[..made] is due. Then: whether to read before more can be answered, whether to go on, and whether
 // the input has ended.
-#[derive(Drop)]
+#[derive(Clone, Copy)]
 struct State {
     at: usize,
     end: usize,
@@ -127,7 +122,7 @@ fn answer(classes: &[u8; 256], buf: &mut [u8], t: &mut [u8], out: &mut [u8], s: 
 }
 
 // What one read gave: n bytes; whether to go on, and whether the input has ended.
-#[derive(Drop)]
+#[derive(Clone, Copy)]
 struct Got {
     n: usize,
     go: bool,
@@ -136,38 +131,38 @@ struct Got {
 
 // One read to the start of buf, which is not empty, so that no bytes are the end of the input. A read that a signal interrupts
 // is made again.
-fn read_some(buf: &mut [u8]) -> Got
+fn read_some(io: &Streams, buf: &mut [u8]) -> Got
     requires { 0 < length buf.old }
     ensures n_in_bounds { (result.n ≤ length buf.old) × (result.ended ≡ true → result.n ≡ 0) × Gives (take result.n buf.new) }
     ensures fact { result.go ≡ false → (result.ended ≡ true) ⊎ Erred }
 {
-    let got = read_once(buf);
-    let n = io::count(got, buf);
-    if got < 0 {
-        let again = os::errno() == libc::EINTR;
-        if !again {
-            os::fail(b"read");
-        }
-        return Got {
+    match read_once(io, buf) {
+        Ok(n) => Got {
             n: n,
-            go: again,
-            ended: false,
-        };
-    }
-    Got {
-        n: n,
-        go: n > 0,
-        ended: n == 0,
+            go: n > 0,
+            ended: n == 0,
+        },
+        Err(e) => {
+            let again = e.kind() == ErrorKind::Interrupted;
+            if !again {
+                fail(io, "read", e);
+            }
+            Got {
+                n: 0,
+                go: again,
+                ended: false,
+            }
+        }
     }
 }
 
 // Reads into buf from `end` on. After an error what is left may be a part of a line, and is not answered.
-fn read_more(buf: &mut [u8], s: State) -> State
+fn read_more(io: &Streams, buf: &mut [u8], s: State) -> State
     requires { (s.at ≤ s.end) × (s.end < length buf.old) }
     ensures { Read s buf.old result buf.new }
 {
     let from = s.end;
-    let got = read_some(&mut buf[from..]);
+    let got = read_some(io, &mut buf[from..]);
     State {
         at: s.at,
         end: from + got.n,
@@ -181,7 +176,13 @@ fn read_more(buf: &mut [u8], s: State) -> State
 
 // Reads and answers from a new table on, until the input ends, or until an error. Nothing is promised of what a read gives,
 // so here too a counter shows that the loop ends.
-fn answer_input(classes: &[u8; 256], buf: &mut [u8], t: &mut [u8], out: &mut [u8]) -> State
+fn answer_input(
+    io: &Streams,
+    classes: &[u8; 256],
+    buf: &mut [u8],
+    t: &mut [u8],
+    out: &mut [u8],
+) -> State
     requires { Classes classes.now × (longest_line < length buf.old) × (program_bytes ≤ length t.old) × (answer_room ≤ length out.old) × (t.old ≡ new_table) }
     ensures { Ends result buf.new t.new }
 {
@@ -190,11 +191,11 @@ fn answer_input(classes: &[u8; 256], buf: &mut [u8], t: &mut [u8], out: &mut [u8
     while s.go & (turns > 0) {
         s = answer(classes, buf, t, out, s);
         let made = s.made;
-        if !wrote(&out[..made]) {
+        if !wrote(io, &out[..made]) {
             return s;
         }
         if s.read {
-            s = read_more(buf, s);
+            s = read_more(io, buf, s);
         }
         turns -= 1;
     }
@@ -202,24 +203,31 @@ fn answer_input(classes: &[u8; 256], buf: &mut [u8], t: &mut [u8], out: &mut [u8
 }
 
 // The end of the input: the answer to a last line that lacks its line feed, written out.
-fn last_line(classes: &[u8; 256], buf: &[u8], t: &mut [u8], out: &mut [u8], s: State) -> bool
+fn last_line(
+    io: &Streams,
+    classes: &[u8; 256],
+    buf: &[u8],
+    t: &mut [u8],
+    out: &mut [u8],
+    s: State,
+) -> bool
     requires { Classes classes.now × Placed s buf.now × Waits (unanswered s buf.now) × (program_bytes ≤ length t.old) × (answer_room ≤ length out.old) }
     ensures { Wrote (due t.old s.skip (unanswered s buf.now)) result }
 {
     let at = s.at;
     let end = s.end;
     let n = program_stream::finish(classes, &buf[at..end], s.skip, t, out);
-    wrote(&out[..n])
+    wrote(io, &out[..n])
 }
 
 // The whole run.
-fn run(classes: &[u8; 256], buf: &mut [u8], t: &mut [u8], out: &mut [u8])
+fn run(io: &Streams, classes: &[u8; 256], buf: &mut [u8], t: &mut [u8], out: &mut [u8])
     requires { Classes classes.now × (longest_line < length buf.old) × (program_bytes ≤ length t.old) × (answer_room ≤ length out.old) × (t.old ≡ new_table) }
     ensures { Ran }
 {
-    let s = answer_input(classes, buf, t, out);
+    let s = answer_input(io, classes, buf, t, out);
     if s.ended {
-        last_line(classes, buf, t, out, s);
+        last_line(io, classes, buf, t, out, s);
     }
 }
 
@@ -227,9 +235,14 @@ fn run(classes: &[u8; 256], buf: &mut [u8], t: &mut [u8], out: &mut [u8])
 const BUFFER_BYTES: usize = 65536;
 
 // All memory of the run: the class table, the table, for which the settings ask TABLE_BYTES, and the buffers.
-fn main() {
+fn main(rt: HostRuntime) {
+    let io = Streams {
+        input: rt.stdin(),
+        output: rt.stdout(),
+        errors: rt.stderr(),
+    };
     let Made::Settings(s) = program_answers::settings() else {
-        os::fail(b"settings");
+        fail(&io, "settings", io::Error::from(ErrorKind::InvalidInput));
         return;
     };
     let classes = text_read::classes();
@@ -237,5 +250,5 @@ fn main() {
     let mut t = [0u8; TABLE_BYTES];
     let mut out = [0u8; BUFFER_BYTES];
     table_make::make(s, &mut t);
-    run(&classes, &mut buf, &mut t, &mut out);
+    run(&io, &classes, &mut buf, &mut t, &mut out);
 }

@@ -4,31 +4,33 @@
 
 ghost use Rattle.std.specs.Prelude.{◌≤◌, length};
 
-use libc::{STDIN_FILENO, STDOUT_FILENO};
 use settings::Refusal;
+use std::io;
+use std::io::{Read, Write};
+use std::rt::Stdout;
 use text_read::Parsed;
 use text_write::Written;
 
+// What is read of the input at most.
+const MOST_BYTES: u64 = 65536;
+
 // "refused" and the number.
-fn refuse(why: Refusal) {
-    io::write_all(STDOUT_FILENO, b"refused ");
-    io::print_decimal(STDOUT_FILENO, why.number() as u64);
+fn refuse(out: &mut Stdout, why: Refusal) -> io::Result<()> {
+    write!(out, "refused {}", why.number())
 }
 
-fn answer(line: &[u8]) {
+fn answer(out: &mut Stdout, line: &[u8]) -> io::Result<()> {
     match text_read::read(line) {
-        Parsed::Refused(why) => refuse(why),
+        Parsed::Refused(why) => refuse(out, why)?,
         Parsed::Key(key) => {
             let mut text = [0u8; 39];
             match text_write::write(key, &mut text) {
-                Written::Refused(why) => refuse(why),
-                Written::Length(n) => {
-                    io::write_all(STDOUT_FILENO, &text[..n]);
-                }
+                Written::Refused(why) => refuse(out, why)?,
+                Written::Length(n) => out.write_all(&text[..n])?,
             }
         }
     }
-    io::write_all(STDOUT_FILENO, b"\n");
+    out.write_all(b"\n")
 }
 
 // Where the line from `from` on ends: its line feed, or the end of the text.
@@ -46,17 +48,18 @@ fn line_end(text: &[u8], from: usize) -> usize
     at
 }
 
-fn answer_all(text: &[u8]) {
+fn answer_all(out: &mut Stdout, text: &[u8]) -> io::Result<()> {
     let mut from: usize = 0;
     while from < text.len() {
         let end = line_end(text, from);
-        answer(&text[from..end]);
+        answer(out, &text[from..end])?;
         from = end + 1;
     }
+    Ok(())
 }
 
-fn main() {
-    let mut buffer = io::large_buffer();
-    let n = io::read_full(STDIN_FILENO, &mut buffer);
-    answer_all(&buffer[..n]);
+fn main(rt: HostRuntime) -> io::Result<()> {
+    let mut text = Vec::new(rt.alloc());
+    rt.stdin().take(MOST_BYTES).read_to_end(&mut text)?;
+    answer_all(&mut rt.stdout(), &text)
 }

@@ -1,8 +1,7 @@
 -- What is ahead of a cursor: at a slot of its run, at the run's end, and some slots on.
 use mathlib.Core.Path.{◌≡◌, refl, sym, ap, ap₂, ◌∙◌}
-use mathlib.Core.Logic.{◌⊎◌, ⊎_elim}
 use mathlib.Core.List.{List, [], ◌∷◌, ◌++◌}
-use Prim.Native.Nat.{ℕ, suc, ◌+◌, ◌-◌, ◌≤◌, ◌<◌}
+use Prim.Native.Nat.{ℕ, suc, ◌≤◌, ◌<◌}
 use native.Mathlib.Omega.{arith}
 use native.Mathlib.Nat.{mod-lt}
 use lib.ListN.{length, get_or, drop_of_length-le}
@@ -32,12 +31,11 @@ use Rattle.table_cursor.specs.declared.places.Next.{Next}
 use Rattle.table_cursor.specs.declared.places.Next.TheVariants as next
 use Rattle.table_cursor.proofs.Begin.{cursor}
 
--- a step whose tag is one of two, each shown not to be a further one's, leads to no slots
-pub none_behind : (g : Layout) (os : List Overflow) {P Q : Type 0} (n : Step) → ((b : BlockNumber) → n ≡ step.Further b → P → ⊥)
-    → ((b : BlockNumber) → n ≡ step.Further b → Q → ⊥) → P ⊎ Q → gather_behind g os n ≡ []
-none_behind g os (step.Further b) p q t = absurd (⊎_elim (p b refl) (q b refl) t)
-none_behind g os step.Last p q t = refl
-none_behind g os step.Damage p q t = refl
+-- a step that is no further one leads to no slots
+pub none_behind : (g : Layout) (os : List Overflow) (n : Step) → ((b : BlockNumber) → n ≡ step.Further b → ⊥) → gather_behind g os n ≡ []
+none_behind g os (step.Further b) p = absurd (p b refl)
+none_behind g os step.Last p = refl
+none_behind g os step.Damage p = refl
 
 -- a step further has the end that was promised of it
 pub leads_further : (g : Layout) (os : List Overflow) (n : Step) (b : BlockNumber) → n ≡ step.Further b → Leads g os n → Followed g g.nob os b.0

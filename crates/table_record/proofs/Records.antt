@@ -10,7 +10,6 @@ use lib.Seq.{get_or-append-add, drop-cons}
 use lib.Dec.{ltb}
 use borrow.Author.Tests.{lt-ltb, le-ltb, ltb-true, ltb-false}
 use Rattle.laws.specs.Cases.{cases}
-use Rattle.settings.specs.Sizes.{bie, lists}
 use Rattle.settings.specs.Layout.{layout_of}
 use Rattle.keys.specs.Key.{key_number}
 use Rattle.keys.specs.theory.Keys.{number_key}

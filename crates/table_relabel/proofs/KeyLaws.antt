@@ -22,7 +22,6 @@ use Rattle.table.specs.theory.Positions.{position_held}
 use Rattle.table.specs.declared.answers.Answer.{Answer}
 use Rattle.table.specs.Answer.{said}
 use Rattle.table.specs.declared.answers.Answer.TheVariants as answer
-use Rattle.table.specs.declared.answers.Word.{Word}
 use Rattle.table.specs.declared.answers.Word.TheVariants as word
 use Rattle.table_store.specs.Places.{Placed}
 use Rattle.table_store.specs.theory.StoreLaws.{stored_written}
@@ -30,24 +29,9 @@ use Rattle.table_find.specs.declared.Sought.{Sought}
 use Rattle.table_find.specs.theory.SoughtLaws.{SoughtIn}
 use Rattle.table_find.specs.theory.Helds.{Other, find_held, other_stays}
 use Rattle.table_relabel.specs.Relabels.{relabelled, Relabelled}
-use Rattle.table_relabel.specs.FromFind.{if_held, place_found, word_to, answer_to}
+use Rattle.table_relabel.specs.FromFind.{place_found, answer_to}
 
 -- ---- words
-
--- a word that is not "held"
-pub not_at : (w : Word) (n : ℕ) → (w ≡ word.Held → ⊥) → if_held w n ≡ 0
-not_at word.Added n h = refl
-not_at word.Held n h = absurd (h refl)
-not_at word.Gone n h = refl
-not_at word.None n h = refl
-not_at word.Relabelled n h = refl
-
-pub word_kept : (w : Word) → (w ≡ word.Held → ⊥) → word_to w ≡ w
-word_kept word.Added h = refl
-word_kept word.Held h = absurd (h refl)
-word_kept word.Gone h = refl
-word_kept word.None h = refl
-word_kept word.Relabelled h = refl
 
 -- "held", or another answer, which has no place and stays
 pub data Told : Answer → Type 0 where

@@ -29,7 +29,7 @@ use Rattle.text_sheet.specs.Row.{heading, rows}
 use Rattle.text_sheet.specs.Pages.{page_count, pairs_on, page_text}
 use Rattle.text_sheet.specs.Answers.{page_room, records, damage_due, page_due, page_put, page_call}
 use Rattle.text_sheet.specs.Steps.{Lines, first_record, page_after}
-use Rattle.text_sheet.specs.theory.Pages.{count_bounds, count_least, count_none}
+use Rattle.text_sheet.proofs.Pages.{count_bounds, count_least, count_none}
 use Rattle.text_sheet.specs.declared.PageAnswer.{PageAnswer}
 use Rattle.text_sheet.specs.declared.PageAnswer.TheVariants as paging
 

@@ -70,11 +70,6 @@ module _ (ps : List Pair) (out₀ : List ℕ) where
     unfolding front
     front_is = u.are ∙ sym (append_assoc (take 51 out₀) (rows (take n ps)) (drop (51 + 51 * n) out₀))
 
-    pub upto_length : length out ≡ length out₀
-    upto_length =
-        let a = ap (λ (x : List ℕ). length x) front_is in
-        omega (arith, length-append front (drop (51 + 51 * n) out₀), front_long, length-drop (51 + 51 * n) out₀, u.few)
-
     module _ (p : Pair) (qs : List Pair) (e : rest ≡ p ∷ qs) (few : n < 40) (one : length (pair_row p) ≡ 51) (line : List ℕ) (k : ℕ)
         (wide : 51 ≤ length (take k (drop (51 + 51 * n) out))) (put : line ≡ pair_row p ++ drop 51 (take k (drop (51 + 51 * n) out))) where
       more : drop n ps ≡ p ∷ qs

@@ -50,7 +50,7 @@ use Rattle.text_calls.specs.declared.calls.TextAnswer.{TextAnswer}
 use Rattle.text_calls.specs.Asked.{Asked, by_key, by_text, verb_asked, table_call}
 use Rattle.text_sheet.specs.Pages.{page_text}
 use Rattle.text_sheet.specs.Answers.{page_room, records, damage_due, page_due, page_call}
-use Rattle.text_sheet.specs.theory.Sheet.{page_fits}
+use Rattle.text_sheet.proofs.Sheet.{page_fits}
 use Rattle.text_sheet.specs.declared.PageAnswer.{PageAnswer}
 use Rattle.text_sheet.specs.declared.PageAnswer.TheVariants as paging
 use Rattle.demand1.specs.Claim.{Said, refused, told, of_make, of_key, of_check, of_written, of_page, make, ask, Writes, makes, enters, relabels, deletes, Untouched}

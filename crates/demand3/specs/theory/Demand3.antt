@@ -11,15 +11,15 @@ use Rattle.plain_set.specs.Rebuilt.{Pair, rebuilt_pairs}
 use Rattle.plain_set.proofs.Agree.{Agree, agree_holds}
 use Rattle.plain_set.specs.theory.Answers.{made_opened, sound_opened}
 use Rattle.plain_set.proofs.Start.{sound_agree, new_agree}
-use Rattle.demand3.specs.Claim.{Lending, Behaves}
-use Rattle.demand3.specs.theory.Lent.{lent_follows}
+use Rattle.demand3.specs.Claim.{Lending, Behaves, set_after}
+use Rattle.demand3.specs.theory.Lent.{lent_call, lent_follows}
 
 -- from bytes and a set that agree, every list of calls behaves
 agree_behaves : (s : Settings) → Legal s → {t : List ℕ} {T : List (List ℕ)} {ps : List Pair} → Agree s t T ps → (cs : List Lending) → Behaves s t ps cs
 agree_behaves s right a [] = agree_holds s right a
-agree_behaves s right a (c ∷ cs) =
+agree_behaves s right {t = t} {T = T} {ps = ps} a (c ∷ cs) =
     let w = lent_follows right a c in
-    (agree_holds s right a, w.answers, agree_behaves s right w.agree cs)
+    (agree_holds s right a, w.answers, agree_behaves s right {t = (lent_call s t c).bytes} {T = w.after} {ps = (set_after s t ps c).after} w.agree cs)
 
 -- clause 8.2: beside a table that check finds sound, the set starts as the pairs rebuilt from it
 pub demand_three : (s : Settings) (t m : List ℕ) → Bytes t → (check_call s t m).answer ≡ checking.Sound

@@ -15,7 +15,7 @@ use Rattle.plain_set.specs.theory.Answers.{made_opened, sound_opened}
 use Rattle.plain_set.proofs.Longer.{bytes_take}
 use Rattle.plain_set.proofs.NumberCalls.{Belongs, Numbers, belongs_gives, lent_numbers}
 use Rattle.plain_set.proofs.Start.{sound_agree, new_agree}
-use Rattle.demand3.specs.Claim.{Lending, given}
+use Rattle.demand3.specs.Claim.{Lending, given, set_after}
 use Rattle.demand3.specs.Numbers.{Stays, NumbersGood}
 use Rattle.demand3.specs.theory.Lent.{call_is, lent_call, lent_follows}
 
@@ -35,16 +35,16 @@ module _ {s : Settings} (right : Legal s) where
   belongs_stays : {t : List ℕ} {T : List (List ℕ)} {ps : List Pair} {k n : ℕ} → Agree s t T ps → Belongs s t k n
       → (cs : List Lending) → Stays s t ps k n cs
   belongs_stays a b [] = belongs_gives right a b
-  belongs_stays {k = k} {n = n} a b (c ∷ cs) = (
+  belongs_stays {t = t} {T = T} {ps = ps} {k = k} {n = n} a b (c ∷ cs) = (
     belongs_gives right a b,
-    (λ q. belongs_stays (lent_follows right a c).agree ((call_numbers a c).stays q k n b) cs),
+    (λ q. belongs_stays {t = (lent_call s t c).bytes} {T = (lent_follows right a c).after} {ps = (set_after s t ps c).after} {k = k} {n = n} (lent_follows right a c).agree ((call_numbers a c).stays q k n b) cs),
   )
 
   agree_numbers : {t : List ℕ} {T : List (List ℕ)} {ps : List Pair} → Agree s t T ps → (cs : List Lending) → NumbersGood s t ps cs
   agree_numbers a [] = tt
-  agree_numbers a (c ∷ cs) =
+  agree_numbers {t = t} {T = T} {ps = ps} a (c ∷ cs) =
       let w = lent_follows right a c in
-      ((λ n q. belongs_stays w.agree ((call_numbers a c).told n q) cs), agree_numbers w.agree cs)
+      ((λ n q. belongs_stays w.agree ((call_numbers a c).told n q) cs), agree_numbers {t = (lent_call s t c).bytes} {T = w.after} {ps = (set_after s t ps c).after} w.agree cs)
 
 -- beside a table that check finds sound
 pub numbers_good : (s : Settings) (t m : List ℕ) → Bytes t → (check_call s t m).answer ≡ checking.Sound

@@ -1,0 +1,25 @@
+-- The first `done` bytes have been taken.
+use Rattle.std.proofs.Common.{◌-◌, ◌≤◌, length, length-take, length-drop, arith}
+use Rattle.filter.proofs.Moves.{short, takes_more}
+use Rattle.filter.proofs.write_out.Goals as goal
+use Rattle.filter.proofs.write_out.Goals.{in-Ok+else-n-eq0, in-Err+else-ne}
+
+pub returns-then-n-eq0 : goal.returns-then-n-eq0
+returns-then-n-eq0 c = short c.loop-turns.done _ c.loop-turns.invariant.takes
+
+pub returns-then-ne : goal.returns-then-ne
+returns-then-ne c = short c.loop-turns.done _ c.loop-turns.invariant.takes
+
+pub loop-turns-preserved : goal.loop-turns-preserved
+loop-turns-preserved c =
+    let s = c.args.buf.now in
+    let done = c.loop-turns.done in
+    elim c.match-write_once.branch [
+      in-Ok+else-n-eq0 w ↦
+          let h : w.in-Ok.n ≤ length s - done = omega (arith, simp (length-take, length-drop) at w.in-Ok.ensures.0) in
+          rw w.done-is (record { within = omega (arith, h, c.if-done-buf.false); takes = takes_more s done w.in-Ok.n (length s - done) c.loop-turns.invariant.takes h w.in-Ok.ensures.1 })
+    | in-Err+else-ne w ↦ rw w.done-is c.loop-turns.invariant
+    ]
+
+pub returns : goal.returns
+returns c = short c.loop-turns.done _ c.loop-turns.invariant.takes

@@ -1,0 +1,84 @@
+-- The answer of the free chain decides, and whether its block is one of the list's.
+use mathlib.Core.Path.{sym, ap, ◌∙◌}
+use native.Mathlib.Omega.{arith}
+use Rattle.keys.specs.Key.{key_number}
+use Rattle.table.specs.Answer.{said}
+use Rattle.table.specs.declared.answers.Word.TheVariants as word
+use Rattle.table.specs.Decode.{decode}
+use Rattle.table_read.specs.theory.Reads.{link_lt}
+use Rattle.table_read.specs.theory.Walks.{followed, ended_own}
+use Rattle.table_store.specs.theory.StoreLaws.{slot_lt}
+use Rattle.table_enter.proofs.FreeLaws.{Takes, takes}
+use Rattle.table_enter.proofs.AppendLaws.{more_refused, more_met, append_more}
+use Rattle.table_enter.proofs.append.append_more.Goals as goal
+use Rattle.table_enter.proofs.append.append_more.Goals.{In-Block}
+
+took : (c : In-Block) → Takes c.args.g (decode c.args.g c.args.t.now) c.in-Block.number.0 c.in-Block.next.0
+took c = takes _ _ _ _ (sym c.first_free.ensures ∙ c.in-Block.is)
+
+pub first_free-requires : goal.first_free-requires
+first_free-requires c = c.requires.0.table
+
+pub list_has_block-requires : goal.list_has_block-requires
+list_has_block-requires c = (
+  c.requires.0.table,
+  ended_own c.args.g (decode c.args.g c.args.t.now).overflow c.args.i.0
+      (followed c.args.g (decode c.args.g c.args.t.now).overflow c.args.i.0 c.args.g.nob c.args.h.0 (omega (arith, c.requires.1.last, c.requires.1.low))),
+)
+
+pub returns-then-list_has_block : goal.returns-then-list_has_block
+returns-then-list_has_block c =
+    let g = c.args.g in
+    let T = c.requires.0.table in
+    let v = c.args.v in
+    more_met g c.args.t.now T (λ j. omega (arith, c.slice_known-1.given j)) c.args.i.0 v c.requires.0.list
+    (slot_lt g T.proper (key_number v.entry) v.label c.requires.0.slotted) c.args.h.0 c.args.j.0 c.requires.1 c.requires.2 _ _
+    (took (goal.at.returns-then-list_has_block c).In-Block)
+    (sym c.if-list_has_block.true ∙ c.list_has_block.ensures)
+
+pub overflow_link-displaced-requires : goal.overflow_link-displaced-requires
+overflow_link-displaced-requires c = (c.requires.0.table, c.requires.1.low)
+
+pub put_overflow_front-requires : goal.put_overflow_front-requires
+put_overflow_front-requires c =
+    let k = took (goal.at.put_overflow_front-requires c).In-Block in
+    (c.requires.0.table, c.requires.1.low, omega arith, omega (arith, k.low, c.requires.0.table.proper.link_holds))
+
+pub take-requires : goal.take-requires
+take-requires c =
+    let k = took (goal.at.take-requires c).In-Block in (
+      c.put_overflow_front.ensures.table,
+      c.requires.0.list,
+      k.low,
+      rw c.overflow_link-displaced.ensures (link_lt c.args.g c.args.t.now c.requires.0.table c.args.j.0 c.requires.1.low),
+      k.next_low,
+      c.requires.0.slotted,
+    )
+
+pub overflow_number-requires : goal.overflow_number-requires
+overflow_number-requires c =
+    let T = c.requires.0.table in
+    (T.proper, (took (goal.at.overflow_number-requires c).In-Block).low, T.proper.sio_low)
+
+pub returns-else-list_has_block : goal.returns-else-list_has_block
+returns-else-list_has_block c =
+    let g = c.args.g in
+    let T = c.requires.0.table in
+    let v = c.args.v in
+    append_more g c.args.t.now T (λ j. omega (arith, c.slice_known-1.given j)) c.args.i.0 v c.requires.0.list
+    (slot_lt g T.proper (key_number v.entry) v.label c.requires.0.slotted) c.args.h.0 c.args.j.0 c.requires.1 c.requires.2 _ _ _
+    (took (goal.at.returns-else-list_has_block c).In-Block)
+    (sym c.if-list_has_block.false ∙ c.list_has_block.ensures)
+    c.overflow_link-displaced.ensures _ _ _
+    c.put_overflow_front.ensures
+    c.take.ensures
+    (c.added.ensures ∙ ap (said word.Added _ _) c.overflow_number.ensures)
+
+pub returns-in-Refused : goal.returns-in-Refused
+returns-in-Refused c =
+    let g = c.args.g in
+    let T = c.requires.0.table in
+    let v = c.args.v in
+    more_refused g c.args.t.now T (λ j. omega (arith, c.slice_known-1.given j)) c.args.i.0 v c.requires.0.list
+    (slot_lt g T.proper (key_number v.entry) v.label c.requires.0.slotted) c.args.h.0 c.args.j.0 c.requires.1 c.requires.2 _
+    (sym c.first_free.ensures ∙ c.in-Refused.is)

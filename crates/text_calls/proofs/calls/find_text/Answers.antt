@@ -1,0 +1,76 @@
+-- What was admitted decides: the call with the key, or its refusal.
+use mathlib.Core.Path.{◌≡◌, sym, ap, ◌∙◌}
+use lib.ListN.{length}
+use borrow.Author.Rules.{rules}
+use Rattle.settings.specs.Reply.{Reply}
+use Rattle.settings.specs.Made.{laid_of}
+use Rattle.settings.specs.declared.layout.Laid.TheVariants as laid
+use Rattle.table.specs.Calls.{find}
+use Rattle.table_find.specs.Seek.{open_of}
+use Rattle.table_find.specs.theory.Seeks.{found_call}
+use Rattle.table_find.specs.theory.SoughtLaws.{placed_at, sought_as}
+use Rattle.table_find.specs.declared.Sought.{Sought}
+use Rattle.text_calls.specs.declared.calls.TextAnswer.{TextAnswer}
+use Rattle.text_read.specs.declared.Parsed.{Parsed}
+use Rattle.text_calls.specs.TextCalls.{for_key}
+use Rattle.text_calls.specs.Admits.{admitted_of}
+use Rattle.text_calls.specs.theory.TextCalls.{admitted_open, admitted_illegal, admitted_call}
+use Rattle.text_calls.proofs.calls.find_text.Goals as goal
+use Rattle.text_calls.proofs.calls.find_text.Goals.{After-admit, In-Key, In-Layout}
+
+-- the layout is the settings'
+laid_out : (c : In-Layout) → laid_of c.args.s ≡ laid.Layout c.in-Layout.g
+laid_out c = sym c.layout.ensures ∙ c.in-Layout.is
+
+-- what was admitted
+admitted : (c : After-admit) (p : Parsed) → c.admit.result ≡ p
+    → let a = c.args in admitted_of a.s a.t.now a.text.now ≡ p
+admitted c p e = sym c.admit.ensures ∙ e
+
+laid_out_at_after_key : (c : In-Key) → laid_of c.args.s ≡ laid.Layout c.in-Layout.g
+laid_out_at_after_key c = sym c.layout.ensures ∙ c.in-Layout.is
+
+admitted_at_after_key : (c : In-Key) (p : Parsed) → c.admit.result ≡ p
+    → let a = c.args in admitted_of a.s a.t.now a.text.now ≡ p
+admitted_at_after_key c p e = sym c.admit.ensures ∙ e
+
+-- a key: the table is opened for it
+open_at : (c : In-Key) → let a = c.args in open_of a.s (length a.t.now) c.in-Key.key ≡ laid.Layout c.in-Layout.g
+open_at c =
+    let a = c.args in
+    admitted_open a.s a.t.now a.text.now (laid_out_at_after_key c) (admitted_at_after_key c _ c.in-Key.is)
+
+pub admit-requires : goal.admit-requires
+admit-requires c = laid_out (goal.at.admit-requires c).In-Layout
+
+pub place-place-requires : goal.place-place-requires
+place-place-requires c =
+    let a = c.args in
+    (placed_at a.s c.in-Key.key a.t.now (open_at (goal.at.place-place-requires c).In-Key)).place
+
+pub find_in-answer-requires : goal.find_in-answer-requires
+find_in-answer-requires c =
+    let a = c.args in
+    rw c.place-place.ensures (placed_at a.s c.in-Key.key a.t.now (open_at (goal.at.find_in-answer-requires c).In-Key)).find
+
+pub returns-in-Key : goal.returns-in-Key
+returns-in-Key c =
+    let a = c.args in
+    ap (for_key c.in-Key.key)
+    (ap (λ (v : Sought). v.found) (sought_as a.s c.in-Key.key a.t.now (open_at (goal.at.returns-in-Key c).In-Key) c.place-place.result c.find_in-answer.result c.place-place.ensures c.find_in-answer.ensures)
+    ∙ found_call a.s c.in-Key.key a.t.now (open_at (goal.at.returns-in-Key c).In-Key))
+    ∙ sym (ap (λ (o : Reply TextAnswer). o.answer) (admitted_call a.s a.t.now a.text.now find _ (admitted (goal.at.returns-in-Key c).After-admit _ c.in-Key.is)))
+
+pub returns-in-Refused-admit : goal.returns-in-Refused-admit
+returns-in-Refused-admit c =
+    let a = c.args in
+    c.refused.ensures
+    ∙ sym (ap (λ (o : Reply TextAnswer). o.answer) (admitted_call a.s a.t.now a.text.now find _ (admitted (goal.at.returns-in-Refused-admit c).After-admit _ c.in-Refused-admit.is)))
+
+pub returns-in-Refused : goal.returns-in-Refused
+returns-in-Refused c =
+    let a = c.args in
+    c.refused-in-Refused.ensures
+    ∙ sym (ap (λ (o : Reply TextAnswer). o.answer)
+    (admitted_call a.s a.t.now a.text.now find _
+    (admitted_illegal a.s a.t.now a.text.now c.in-Refused.why (sym c.layout.ensures ∙ c.in-Refused.is))))
