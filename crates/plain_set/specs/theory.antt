@@ -19,16 +19,5 @@ pub mod Check
 pub mod Keys
 pub mod SetLaws
 pub mod Rows
-pub mod Refusals
 pub mod OneList
-pub mod Lists
-pub mod Agree
-pub mod Stored
-pub mod Longer
-pub mod StateSteps
-pub mod NumberSteps
-pub mod NumberCalls
-pub mod Start
 pub mod Answers
-pub mod Nth
-pub mod Relabel

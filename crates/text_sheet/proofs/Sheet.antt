@@ -20,7 +20,7 @@ use Rattle.table_cursor.specs.Undamaged.{undamaged}
 use Rattle.table_cursor.specs.theory.Undamaged.{test_undamaged, undamaged_test}
 use Rattle.plain_set.specs.Rebuilt.{Pair, pair, slots_of, pairs_of, rebuilt_from, rebuilt_pairs}
 use Rattle.plain_set.specs.theory.Answers.{sound_opened}
-use Rattle.plain_set.specs.theory.Nth.{record_nth}
+use Rattle.plain_set.proofs.Nth.{record_nth}
 use Rattle.text_sheet.specs.Row.{heading, rows}
 use Rattle.text_sheet.specs.Pages.{page_count, pairs_on, page_text}
 use Rattle.text_sheet.specs.Answers.{page_room, records, page_call}

@@ -8,9 +8,9 @@ use Rattle.table.specs.Calls.{held, make_call, check_call}
 use Rattle.table.specs.declared.answers.MakeAnswer.TheVariants as making
 use Rattle.table.specs.declared.answers.CheckAnswer.TheVariants as checking
 use Rattle.plain_set.specs.Rebuilt.{Pair, rebuilt_pairs}
-use Rattle.plain_set.specs.theory.Agree.{Agree, agree_holds}
+use Rattle.plain_set.proofs.Agree.{Agree, agree_holds}
 use Rattle.plain_set.specs.theory.Answers.{made_opened, sound_opened}
-use Rattle.plain_set.specs.theory.Start.{sound_agree, new_agree}
+use Rattle.plain_set.proofs.Start.{sound_agree, new_agree}
 use Rattle.demand3.specs.Claim.{Lending, Behaves, set_after}
 use Rattle.demand3.specs.theory.Lent.{lent_call, lent_follows}
 

@@ -22,12 +22,12 @@ use Rattle.plain_set.specs.Set.{Step, key_step}
 use Rattle.plain_set.specs.Plain.{plain}
 use Rattle.plain_set.specs.theory.Rep.{Stores}
 use Rattle.settings.specs.theory.Dues.{NoneDue}
-use Rattle.plain_set.specs.theory.Refusals.{legal_call}
+use Rattle.plain_set.proofs.Refusals.{legal_call}
 use Rattle.plain_set.specs.theory.OneList.{Told, told, row_told, row_after}
-use Rattle.plain_set.specs.theory.Lists.{row_of, is_full, lists_told, lists_after, Stands, call_agrees}
-use Rattle.plain_set.specs.theory.StateSteps.{state_after, call_formed, call_acts}
-use Rattle.plain_set.specs.theory.Agree.{Agree}
-use Rattle.plain_set.specs.theory.Stored.{agree_written}
+use Rattle.plain_set.proofs.Lists.{row_of, is_full, lists_told, lists_after, Stands, call_agrees}
+use Rattle.plain_set.proofs.StateSteps.{state_after, call_formed, call_acts}
+use Rattle.plain_set.proofs.Agree.{Agree}
+use Rattle.plain_set.proofs.Stored.{agree_written}
 
 -- What a call makes of each list -------------------------------------------------------------------------------------------
 

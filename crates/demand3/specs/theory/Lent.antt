@@ -20,10 +20,10 @@ use Rattle.text_read.specs.declared.Parsed.{Parsed}
 use Rattle.text_read.specs.declared.Parsed.TheVariants as parsed
 use Rattle.text_calls.specs.TextCalls.{key_read, not_read, for_key, text_call}
 use Rattle.plain_set.specs.Set.{Call, call, text, key_given, refused, Step, step, key_step, call_due, set_step}
-use Rattle.plain_set.specs.theory.Refusals.{legal_call, key_refused, none_due}
+use Rattle.plain_set.proofs.Refusals.{legal_call, key_refused, none_due}
 use Rattle.settings.specs.theory.Dues.{by_dues}
-use Rattle.plain_set.specs.theory.Agree.{Agree}
-use Rattle.plain_set.specs.theory.Longer.{bytes_take, bytes_drop, agree_append, agree_front}
+use Rattle.plain_set.proofs.Agree.{Agree}
+use Rattle.plain_set.proofs.Longer.{bytes_take, bytes_drop, agree_append, agree_front}
 use Rattle.text_calls.specs.Asked.{Asked, by_key, by_text, table_call}
 use Rattle.demand3.specs.Claim.{Lending, memory_after, as_read, given, set_after}
 use Rattle.demand3.specs.theory.KeySteps.{Follows, legal_follows}

@@ -10,11 +10,11 @@ use Rattle.table.specs.declared.answers.MakeAnswer.TheVariants as making
 use Rattle.table.specs.declared.answers.CheckAnswer.TheVariants as checking
 use Rattle.plain_set.specs.Rebuilt.{Pair, rebuilt_pairs}
 use Rattle.plain_set.specs.Set.{key_given}
-use Rattle.plain_set.specs.theory.Agree.{Agree}
+use Rattle.plain_set.proofs.Agree.{Agree}
 use Rattle.plain_set.specs.theory.Answers.{made_opened, sound_opened}
-use Rattle.plain_set.specs.theory.Longer.{bytes_take}
-use Rattle.plain_set.specs.theory.NumberCalls.{Belongs, Numbers, belongs_gives, lent_numbers}
-use Rattle.plain_set.specs.theory.Start.{sound_agree, new_agree}
+use Rattle.plain_set.proofs.Longer.{bytes_take}
+use Rattle.plain_set.proofs.NumberCalls.{Belongs, Numbers, belongs_gives, lent_numbers}
+use Rattle.plain_set.proofs.Start.{sound_agree, new_agree}
 use Rattle.demand3.specs.Claim.{Lending, given, set_after}
 use Rattle.demand3.specs.Numbers.{Stays, NumbersGood}
 use Rattle.demand3.specs.theory.Lent.{call_is, lent_call, lent_follows}

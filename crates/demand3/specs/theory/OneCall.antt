@@ -14,8 +14,8 @@ use Rattle.plain_set.specs.Set.{key_given, call_due}
 use Rattle.plain_set.specs.Plain.{plain}
 use Rattle.plain_set.specs.OwnRefusal.{OwnRefusal}
 use Rattle.plain_set.specs.OnlyLabel.{RelabelsOnly}
-use Rattle.plain_set.specs.theory.Refusals.{refused_only}
-use Rattle.plain_set.specs.theory.Relabel.{given_relabel}
+use Rattle.plain_set.proofs.Refusals.{refused_only}
+use Rattle.plain_set.proofs.Relabel.{given_relabel}
 use Rattle.text_calls.specs.Asked.{Asked, by_key, by_text, verb_asked, table_call}
 use Rattle.demand3.specs.Claim.{Lending, given}
 use Rattle.demand3.specs.theory.Lent.{call_is}

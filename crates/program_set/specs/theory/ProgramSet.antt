@@ -33,8 +33,8 @@ use Rattle.program_stream.specs.Run.{joined, Run}
 use Rattle.program_stream.specs.theory.Whole.{whole_program}
 use Rattle.plain_set.specs.Set.{Call, refused, lookup, no_vacant_slot, list_length, all_blocks_used, Step, step, find_step, enter_step, relabel_step, delete_step, key_step, set_step}
 use Rattle.plain_set.specs.Plain.{plain}
-use Rattle.plain_set.specs.theory.Agree.{Agree, agree_holds}
-use Rattle.plain_set.specs.theory.Start.{new_agree}
+use Rattle.plain_set.proofs.Agree.{Agree, agree_holds}
+use Rattle.plain_set.proofs.Start.{new_agree}
 use Rattle.text_calls.specs.Asked.{Asked, by_text, table_call}
 use Rattle.demand3.specs.Claim.{given}
 use Rattle.demand3.specs.theory.Lent.{lent_follows}

@@ -27,7 +27,7 @@ use Rattle.plain_set.specs.theory.Change.{rep_content}
 use Rattle.plain_set.specs.theory.Check.{sound_check}
 use Rattle.plain_set.specs.theory.Keys.{layout_lists, entry_fits, number_below}
 use Rattle.plain_set.specs.theory.Rows.{pairs_from, RowsFit, count_key, count_above}
-use Rattle.plain_set.specs.theory.Lists.{Stands}
+use Rattle.plain_set.proofs.Lists.{Stands}
 
 -- the bytes t hold the lists T; the lists stand for the set ps; and the fill is zero
 pub record Agree (s : Settings) (t : List ℕ) (T : List (List ℕ)) (ps : List Pair) : Type 0 where

@@ -34,10 +34,10 @@ use Rattle.plain_set.specs.theory.Follow.{holds_length}
 use Rattle.plain_set.specs.theory.Change.{Extended, rep_content, append_refused, append_done, store_done, delete_done}
 use Rattle.plain_set.specs.theory.Numbers.{number_front}
 use Rattle.plain_set.specs.theory.Keys.{slot_fits, slot_entry, in_table}
-use Rattle.plain_set.specs.theory.Refusals.{label_below}
+use Rattle.plain_set.proofs.Refusals.{label_below}
 use Rattle.plain_set.specs.theory.OneList.{place_in, slot_for}
-use Rattle.plain_set.specs.theory.Lists.{row_of, holds_key, place_there, place_entry, is_full}
-use Rattle.plain_set.specs.theory.StateSteps.{state_after}
+use Rattle.plain_set.proofs.Lists.{row_of, holds_key, place_there, place_entry, is_full}
+use Rattle.plain_set.proofs.StateSteps.{state_after}
 
 module _ (g : Layout) where
   -- n is the number of a slot of list i that holds the entry e

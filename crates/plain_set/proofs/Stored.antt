@@ -14,8 +14,8 @@ use Rattle.table.specs.Check.{fill_zero}
 use Rattle.table.specs.theory.Formed.{Formed}
 use Rattle.table.specs.theory.Written.{decode_written, written_length, written_bytes, written_outside}
 use Rattle.plain_set.specs.theory.Rep.{Stores}
-use Rattle.plain_set.specs.theory.Lists.{Stands}
-use Rattle.plain_set.specs.theory.Agree.{Agree}
+use Rattle.plain_set.proofs.Lists.{Stands}
+use Rattle.plain_set.proofs.Agree.{Agree}
 
 -- the table's bits are within the lent bytes
 pub bits_room : (s : Settings) (t : List ℕ) → table_bytes s ≤ length t → (layout_of s).bits ≤ 8 * length t

@@ -39,12 +39,12 @@ use Rattle.plain_set.specs.theory.Rep.{Links, Chain, Rep}
 use Rattle.plain_set.specs.theory.Change.{rep_content, store_done}
 use Rattle.plain_set.specs.theory.Keys.{slot_fits, slot_entry, slot_label, in_table}
 use Rattle.plain_set.specs.theory.OneList.{place_in, label_in, slot_for}
-use Rattle.plain_set.specs.theory.Lists.{row_of, holds_key, place_there, place_entry}
-use Rattle.plain_set.specs.theory.Refusals.{legal_call, label_below, none_due}
-use Rattle.plain_set.specs.theory.StateSteps.{call_formed}
-use Rattle.plain_set.specs.theory.Agree.{Agree}
-use Rattle.plain_set.specs.theory.Stored.{bits_room}
-use Rattle.plain_set.specs.theory.Start.{sound_agree}
+use Rattle.plain_set.proofs.Lists.{row_of, holds_key, place_there, place_entry}
+use Rattle.plain_set.proofs.Refusals.{legal_call, label_below, none_due}
+use Rattle.plain_set.proofs.StateSteps.{call_formed}
+use Rattle.plain_set.proofs.Agree.{Agree}
+use Rattle.plain_set.proofs.Stored.{bits_room}
+use Rattle.plain_set.proofs.Start.{sound_agree}
 use Rattle.plain_set.specs.theory.Answers.{sound_opened}
 
 -- The free chain ---------------------------------------------------------------------------------------------------------

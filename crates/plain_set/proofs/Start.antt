@@ -26,10 +26,10 @@ use Rattle.plain_set.specs.theory.New.{up_from, new_rep}
 use Rattle.plain_set.specs.theory.Checked.{check_sound}
 use Rattle.plain_set.specs.theory.Keys.{layout_lists}
 use Rattle.plain_set.specs.theory.Rows.{pairs_from, RowsFit}
-use Rattle.plain_set.specs.theory.Lists.{Stands}
-use Rattle.plain_set.specs.theory.Agree.{Agree, rep_rebuilt, single_keys}
-use Rattle.plain_set.specs.theory.Stored.{agree_written}
-use Rattle.plain_set.specs.theory.Longer.{bytes_append, bytes_drop, fill_append}
+use Rattle.plain_set.proofs.Lists.{Stands}
+use Rattle.plain_set.proofs.Agree.{Agree, rep_rebuilt, single_keys}
+use Rattle.plain_set.proofs.Stored.{agree_written}
+use Rattle.plain_set.proofs.Longer.{bytes_append, bytes_drop, fill_append}
 
 -- A sound table ---------------------------------------------------------------------------------------------------------------
 

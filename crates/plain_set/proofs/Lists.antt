@@ -27,7 +27,7 @@ use Rattle.plain_set.specs.theory.Swap.{swap_out, count_swap, all_swap}
 use Rattle.plain_set.specs.theory.Rows.{pairs_from, RowsFit, count_at_row, count_put, fit_put, count_key, count_list}
 use Rattle.plain_set.specs.theory.OneList.{Told, in_row, place_in, label_in, slot_for, row_told, row_after}
 use Rattle.settings.specs.theory.Dues.{NoneDue}
-use Rattle.plain_set.specs.theory.Refusals.{label_below}
+use Rattle.plain_set.proofs.Refusals.{label_below}
 
 -- A call on the lists ----------------------------------------------------------------------------------------------------
 

@@ -33,13 +33,13 @@ use Rattle.plain_set.specs.Numbers.{number_in, is_gone, Gives}
 use Rattle.plain_set.specs.theory.Change.{rep_content}
 use Rattle.plain_set.specs.theory.Numbers.{number_below, number_retrieves}
 use Rattle.plain_set.specs.theory.Keys.{in_table, key_of_entry}
-use Rattle.plain_set.specs.theory.Refusals.{legal_call, none_due}
-use Rattle.plain_set.specs.theory.Lists.{row_of, lookup_at}
-use Rattle.plain_set.specs.theory.StateSteps.{state_after, call_formed}
-use Rattle.plain_set.specs.theory.NumberSteps.{Numbered, call_keeps}
-use Rattle.plain_set.specs.theory.Agree.{Agree}
-use Rattle.plain_set.specs.theory.Stored.{bits_room}
-use Rattle.plain_set.specs.theory.Longer.{decode_append, agree_front}
+use Rattle.plain_set.proofs.Refusals.{legal_call, none_due}
+use Rattle.plain_set.proofs.Lists.{row_of, lookup_at}
+use Rattle.plain_set.proofs.StateSteps.{state_after, call_formed}
+use Rattle.plain_set.proofs.NumberSteps.{Numbered, call_keeps}
+use Rattle.plain_set.proofs.Agree.{Agree}
+use Rattle.plain_set.proofs.Stored.{bits_room}
+use Rattle.plain_set.proofs.Longer.{decode_append, agree_front}
 
 module _ (s : Settings) where
   -- n is the number of a slot of the table in t, and that slot holds the key k

@@ -25,9 +25,9 @@ use Rattle.plain_set.specs.theory.Rep.{Stores}
 use Rattle.plain_set.specs.theory.Change.{rep_content, append_refused, append_done, store_done, delete_done}
 use Rattle.plain_set.specs.theory.Keys.{slot_fits, in_table}
 use Rattle.settings.specs.theory.Dues.{NoneDue}
-use Rattle.plain_set.specs.theory.Refusals.{label_below}
+use Rattle.plain_set.proofs.Refusals.{label_below}
 use Rattle.plain_set.specs.theory.OneList.{Told, told, place_in, slot_for, row_told, row_after}
-use Rattle.plain_set.specs.theory.Lists.{row_of, holds_key, place_there, is_full, lists_told, lists_after}
+use Rattle.plain_set.proofs.Lists.{row_of, holds_key, place_there, is_full, lists_told, lists_after}
 
 -- what a call with legal inputs writes, on any formed state, is formed
 pub call_formed : (s : Settings) → Legal s → (k : ℕ) → k < 2 ^ s.w → {st : State} → Formed (layout_of s) st

@@ -18,8 +18,8 @@ use Rattle.table.specs.Check.{fill_zero}
 use Rattle.table.specs.theory.Decode.{image_decode}
 use Rattle.table.specs.theory.Formed.{decode_formed}
 use Rattle.table.specs.theory.Written.{image_inj}
-use Rattle.plain_set.specs.theory.Agree.{Agree}
-use Rattle.plain_set.specs.theory.Stored.{bits_room}
+use Rattle.plain_set.proofs.Agree.{Agree}
+use Rattle.plain_set.proofs.Stored.{bits_room}
 
 -- Bytes with more behind them -------------------------------------------------------------------------------------------------
 
