@@ -1,4 +1,2 @@
 -- The claim.
 pub mod Claim
--- What is proved of it.
-pub mod theory

@@ -1,3 +1,2 @@
 // Demand 1, what calls leave in lent bytes: theorems only.
 #![tactic(auto)]
-

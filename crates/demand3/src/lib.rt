@@ -1,3 +1,2 @@
 // Demand 3, stated and proved: theorems only.
 #![tactic(auto)]
-

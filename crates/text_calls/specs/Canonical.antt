@@ -1,5 +1,5 @@
 -- RFC 5952, sections 4 and 5, once more, as a relation: which text is the canonical form of which address. It stands on the grammar's relation
--- (text_read's `Grammar`) and shares nothing with text_write's `Writing`, which computes what this says; theory/Canonical proves that what is written
+-- (text_read's `Grammar`) and shares nothing with text_write's `Writing`, which computes what this says; proofs/Canonical proves that what is written
 -- for an address is the one text that this relates to it.
 use Rattle.std.specs.Prelude.{◌≡◌, ◌⊎◌, List, [], ◌∷◌, ◌++◌, ℕ, ◌≤◌, ◌<◌, length, replicate}
 use Rattle.keys.specs.Key.{key_number}

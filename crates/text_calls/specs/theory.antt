@@ -4,7 +4,6 @@ pub mod Texts
 pub mod Mapped
 pub mod RoundTrip
 pub mod Fields
-pub mod Canonical
 pub mod TextCalls
 pub mod Followed
 pub mod Computing

@@ -37,7 +37,7 @@ use Rattle.plain_set.proofs.Agree.{Agree, agree_holds}
 use Rattle.plain_set.proofs.Start.{new_agree}
 use Rattle.text_calls.specs.Asked.{Asked, by_text, table_call}
 use Rattle.demand3.specs.Claim.{given}
-use Rattle.demand3.specs.theory.Lent.{lent_follows}
+use Rattle.demand3.proofs.Lent.{lent_follows}
 use Rattle.program_set.specs.Claim.{call_of, command_step, line_step, key_named, printed, Behaves, set_lines, Line, says, refuses_text, refuses_label, refuses_block, refuses_line, refuses_known}
 use Rattle.program_set.specs.theory.Printed.{command_printed}
 

@@ -1,7 +1,6 @@
 -- What was admitted decides: the call with the key, or its refusal, which leaves every byte.
 use mathlib.Core.Path.{◌≡◌, sym, ◌∙◌}
 use lib.ListN.{length}
-use borrow.Author.Rules.{rules}
 use Rattle.settings.specs.Made.{laid_of}
 use Rattle.settings.specs.declared.layout.Laid.TheVariants as laid
 use Rattle.table.specs.Calls.{delete}

@@ -1,7 +1,6 @@
 -- What was admitted decides: the call with the key, or its refusal.
 use mathlib.Core.Path.{◌≡◌, sym, ap, ◌∙◌}
 use lib.ListN.{length}
-use borrow.Author.Rules.{rules}
 use Rattle.settings.specs.Reply.{Reply}
 use Rattle.settings.specs.Made.{laid_of}
 use Rattle.settings.specs.declared.layout.Laid.TheVariants as laid

@@ -2,8 +2,7 @@
 use mathlib.Core.Path.{◌≡◌, refl, sym, ◌∙◌}
 use Prim.Native.Nat.{◌^◌, ◌<◌}
 use lib.ListN.{length}
-use borrow.Author.Tests.{ltb-true, not-true, not-false}
-use borrow.Author.Rules.{rules}
+use borrow.Author.Tests.{ltb-true}
 use Rattle.settings.specs.Made.{laid_of}
 use Rattle.settings.specs.declared.layout.Laid.TheVariants as laid
 use Rattle.table.specs.Calls.{relabel}

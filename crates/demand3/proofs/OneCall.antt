@@ -18,8 +18,8 @@ use Rattle.plain_set.proofs.Refusals.{refused_only}
 use Rattle.plain_set.proofs.Relabel.{given_relabel}
 use Rattle.text_calls.specs.Asked.{Asked, by_key, by_text, verb_asked, table_call}
 use Rattle.demand3.specs.Claim.{Lending, given}
-use Rattle.demand3.specs.theory.Lent.{call_is}
-use Rattle.demand3.specs.theory.Demand3.{demand_three}
+use Rattle.demand3.proofs.Lent.{call_is}
+use Rattle.demand3.proofs.Demand3.{demand_three}
 
 module _ (s : Settings) (t m : List ℕ) (bytes : Bytes t) (sound : (check_call s t m).answer ≡ checking.Sound) where
   -- clause 8.9: with legal inputs only what the set refuses itself is refused

@@ -1,4 +1,4 @@
--- Its proof.
+-- What is proved of the claims.
 pub mod KeySteps
 pub mod Lent
 pub mod Demand3

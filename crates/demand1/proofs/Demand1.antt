@@ -5,7 +5,7 @@ use Rattle.settings.specs.declared.settings.Settings.{Settings}
 use Rattle.settings.specs.declared.refusal.Refusal.{Refusal}
 use Rattle.settings.specs.Sizes.{table_bytes}
 use Rattle.demand1.specs.Claim.{Call, make, ask, record_at, slot_at, check, read_text, write_text, page_at, Lent, Said, refused, outcome, Writes, makes, enters, relabels, deletes, buffer_bytes, Untouched}
-use Rattle.demand1.specs.theory.Kept.{untouched, Accepted, make_kept, ask_kept, check_kept, write_kept, page_kept}
+use Rattle.demand1.proofs.Kept.{untouched, Accepted, make_kept, ask_kept, check_kept, write_kept, page_kept}
 
 -- what writes the table is no refusal
 writes_accepted : {c : Call} {a : Said} → Writes c a → Accepted a

@@ -26,7 +26,7 @@ use Rattle.plain_set.proofs.Agree.{Agree}
 use Rattle.plain_set.proofs.Longer.{bytes_take, bytes_drop, agree_append, agree_front}
 use Rattle.text_calls.specs.Asked.{Asked, by_key, by_text, table_call}
 use Rattle.demand3.specs.Claim.{Lending, memory_after, as_read, given, set_after}
-use Rattle.demand3.specs.theory.KeySteps.{Follows, legal_follows}
+use Rattle.demand3.proofs.KeySteps.{Follows, legal_follows}
 
 -- Keys and texts -------------------------------------------------------------------------------------------------------------
 

@@ -17,7 +17,7 @@ use Rattle.plain_set.proofs.NumberCalls.{Belongs, Numbers, belongs_gives, lent_n
 use Rattle.plain_set.proofs.Start.{sound_agree, new_agree}
 use Rattle.demand3.specs.Claim.{Lending, given, set_after}
 use Rattle.demand3.specs.Numbers.{Stays, NumbersGood}
-use Rattle.demand3.specs.theory.Lent.{call_is, lent_call, lent_follows}
+use Rattle.demand3.proofs.Lent.{call_is, lent_call, lent_follows}
 
 module _ {s : Settings} (right : Legal s) where
   -- what a call makes of numbers

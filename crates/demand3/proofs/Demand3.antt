@@ -12,7 +12,7 @@ use Rattle.plain_set.proofs.Agree.{Agree, agree_holds}
 use Rattle.plain_set.specs.theory.Answers.{made_opened, sound_opened}
 use Rattle.plain_set.proofs.Start.{sound_agree, new_agree}
 use Rattle.demand3.specs.Claim.{Lending, Behaves, set_after}
-use Rattle.demand3.specs.theory.Lent.{lent_call, lent_follows}
+use Rattle.demand3.proofs.Lent.{lent_call, lent_follows}
 
 -- from bytes and a set that agree, every list of calls behaves
 agree_behaves : (s : Settings) → Legal s → {t : List ℕ} {T : List (List ℕ)} {ps : List Pair} → Agree s t T ps → (cs : List Lending) → Behaves s t ps cs

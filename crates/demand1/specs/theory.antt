@@ -1,3 +1,0 @@
--- Its proof.
-pub mod Kept
-pub mod Demand1
