@@ -1,4 +1,4 @@
 -- The claim.
 pub mod Claim
+
 -- What is proved of it.
-pub mod theory

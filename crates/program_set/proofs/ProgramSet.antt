@@ -39,7 +39,7 @@ use Rattle.text_calls.specs.Asked.{Asked, by_text, table_call}
 use Rattle.demand3.specs.Claim.{given}
 use Rattle.demand3.proofs.Lent.{lent_follows}
 use Rattle.program_set.specs.Claim.{call_of, command_step, line_step, key_named, printed, Behaves, set_lines, Line, says, refuses_text, refuses_label, refuses_block, refuses_line, refuses_known}
-use Rattle.program_set.specs.theory.Printed.{command_printed}
+use Rattle.program_set.proofs.Printed.{command_printed}
 
 lawful : Legal program
 lawful = legal_means program program_legal
@@ -97,9 +97,9 @@ module _ {t : List ℕ} {T : List (List ℕ)} {ps : List Pair} (a : Agree progra
 behaves : {t : List ℕ} {T : List (List ℕ)} {ps : List Pair} → Agree program t T ps → (ls : List (List ℕ)) → Behaves t ps ls
 unfolding line_reply
 behaves a [] = agree_holds program lawful a
-behaves a (l ∷ ls) =
+behaves {t = t} {T = T} {ps = ps} a (l ∷ ls) =
     let w = turn a (command_of l) in
-    (agree_holds program lawful a, w.line, behaves w.agree ls)
+    (agree_holds program lawful a, w.line, behaves {t = (command_reply t (command_of l)).bytes} w.agree ls)
 
 -- what is written is the set's lines, one after the other
 output_lines : (t : List ℕ) (ps : List Pair) (ls : List (List ℕ)) → Behaves t ps ls → answers_to t ls ≡ joined (set_lines t ps ls)

@@ -1,0 +1,3 @@
+-- What is proved of the claim on the program.
+pub mod Printed
+pub mod ProgramSet

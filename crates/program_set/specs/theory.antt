@@ -1,3 +1,0 @@
--- Its proof.
-pub mod Printed
-pub mod ProgramSet
