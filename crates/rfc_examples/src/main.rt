@@ -2,17 +2,17 @@
 // Its input is examples of the RFCs and of our own; docs/DECISIONS.md says where what it must write comes from.
 #![tactic(auto)]
 
-ghost use Rattle.std.specs.Prelude.{◌≤◌, length};
+ghost use Rattle.std.specs.Prelude.{◌≤◌, length, IfOk};
 
 use settings::Refusal;
 use std::io;
-use std::io::{Read, Write};
-use std::rt::Stdout;
+use std::io::{ErrorKind, Read, Write};
+use std::rt::{Stdin, Stdout};
 use text_read::Parsed;
 use text_write::Written;
 
 // What is read of the input at most.
-const MOST_BYTES: u64 = 65536;
+const MOST_BYTES: usize = 65536;
 
 // "refused" and the number.
 fn refuse(out: &mut Stdout, why: Refusal) -> io::Result<()> {
@@ -58,8 +58,34 @@ fn answer_all(out: &mut Stdout, text: &[u8]) -> io::Result<()> {
     Ok(())
 }
 
+// How many bytes of the input were read into the buffer: all of them, or as many as it has room for.
+fn read_all(input: &mut Stdin, buffer: &mut [u8]) -> io::Result<usize>
+    ensures { IfOk result (λ n. n ≤ length buffer.old) }
+{
+    let mut n: usize = 0;
+    for _ in 0..u64::MAX {
+        if n == buffer.len() {
+            return Ok(n);
+        }
+        match input.read(&mut buffer[n..]) {
+            Ok(k) => {
+                if k == 0 {
+                    return Ok(n);
+                }
+                n += k;
+            }
+            Err(e) => {
+                if e.kind() != ErrorKind::Interrupted {
+                    return Err(e);
+                }
+            }
+        }
+    }
+    Ok(n)
+}
+
 fn main(rt: HostRuntime) -> io::Result<()> {
-    let mut text = Vec::new(rt.alloc());
-    rt.stdin().take(MOST_BYTES).read_to_end(&mut text)?;
-    answer_all(&mut rt.stdout(), &text)
+    let mut buffer = [0u8; MOST_BYTES];
+    let n = read_all(&mut rt.stdin(), &mut buffer)?;
+    answer_all(&mut rt.stdout(), &buffer[..n])
 }
