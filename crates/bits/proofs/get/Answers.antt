@@ -5,7 +5,6 @@ use native.Mathlib.Omega.{arith}
 use Rattle.bits.specs.Field.{field}
 use Rattle.bits.specs.theory.Fields.{field_zero, field_fits}
 use Rattle.bits.specs.theory.Words.{field_two, byte_and_bit}
-use borrow.Author.Rules.{rules}
 use Rattle.bits.proofs.get.Goals as goal
 use Rattle.bits.proofs.get.Goals.{After-get-3}
 

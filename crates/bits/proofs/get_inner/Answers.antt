@@ -1,6 +1,5 @@
 -- The field is the word's: it starts in the word's first byte, so that at most 7 bits stand before it.
 use Rattle.bits.specs.theory.Words.{byte_and_bit}
-use borrow.Author.Rules.{rules}
 use Rattle.bits.proofs.get_inner.Goals as goal
 
 pub returns : goal.returns

@@ -7,7 +7,6 @@ use lib.Pow.{pow_pos, shr_lt}
 use Rattle.bits.specs.Put.{put_field}
 use Rattle.bits.specs.theory.Puts.{put_zero}
 use Rattle.bits.specs.theory.Words.{put_two, byte_and_bit}
-use borrow.Author.Rules.{rules}
 use Rattle.bits.proofs.put.Goals as goal
 
 pub returns-then-n-eq0 : goal.returns-then-n-eq0

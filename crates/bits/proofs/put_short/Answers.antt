@@ -1,6 +1,5 @@
 -- The field is written in the word, where it starts after the first bits of one byte (`byte_and_bit`), or near the end.
 use Rattle.bits.specs.theory.Words.{byte_and_bit}
-use borrow.Author.Rules.{rules}
 use Rattle.bits.proofs.put_short.Goals as goal
 
 pub returns : goal.returns

@@ -8,7 +8,6 @@ use lib.Pow.{pow_pos, pow_mono, shr_lt}
 use Rattle.bits.specs.Put.{put_field}
 use Rattle.bits.specs.theory.Numbers.{low_two, no_high}
 use Rattle.bits.specs.theory.Words.{put_two, put_three}
-use borrow.Author.Rules.{rules}
 use Rattle.bits.proofs.put_wide.Goals as goal
 use Rattle.bits.proofs.put_wide.Goals.{After-part_of_two, Start}
 

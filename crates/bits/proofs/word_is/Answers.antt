@@ -3,7 +3,6 @@ use mathlib.Core.Path.{ap, ◌∙◌}
 use Prim.Native.Nat.{ℕ}
 use native.Mathlib.Omega.{arith}
 use lib.Dec.{eqb}
-use borrow.Author.Rules.{rules}
 use Rattle.laws.specs.Tests.{eqb_iff}
 use Rattle.bits.specs.theory.Words.{word_same, same_word}
 use Rattle.bits.proofs.word_is.Goals as goal

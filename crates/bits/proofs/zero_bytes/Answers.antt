@@ -1,9 +1,7 @@
 -- After i turns the first i bytes are zero and the others as before.
 use mathlib.Core.Path.{◌≡◌, refl, ◌∙◌}
-use mathlib.Core.List.{◌++◌}
-use Prim.Native.Nat.{◌≤◌, ◌-◌}
 use native.Mathlib.Omega.{arith}
-use lib.ListN.{length, drop, replicate, length-set}
+use lib.ListN.{length, replicate, length-set}
 use lib.Seq.{drop-length}
 use mathlib.Core.List.{append-nil}
 use borrow.Author.Fill.{fill_none, fill_more}

@@ -1,20 +1,12 @@
 -- After i turns the first i bytes are zero and the others as before.
-use mathlib.Core.Path.{◌≡◌, refl, ◌∙◌}
+use mathlib.Core.Path.{◌≡◌}
 use mathlib.Core.List.{◌++◌}
 use Prim.Native.Nat.{◌≤◌, ◌-◌}
-use native.Mathlib.Omega.{arith}
-use lib.ListN.{length, drop, replicate, length-set}
-use lib.Seq.{drop-length}
-use mathlib.Core.List.{append-nil}
-use borrow.Author.Fill.{fill_none, fill_more}
+use lib.ListN.{length, drop, replicate}
 use Rattle.bits.proofs.zero_bytes.Given as goal
 
 abbrev pub invariant-loop-i : goal.invariant-loop-i
 invariant-loop-i l = (l.i ≤ length l.initial.s) × (length l.s ≡ length l.initial.s) × (l.s ≡ replicate l.i 0 ++ drop l.i l.initial.s)
 
--- was: invariant s₀ i₀ s i
-
 abbrev pub decreases-loop-i : goal.decreases-loop-i
 decreases-loop-i l = length l.initial.s - l.i
-
--- was: decreases s₀ i₀ s i

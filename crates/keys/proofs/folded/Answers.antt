@@ -1,8 +1,7 @@
 -- Each word is below 2 ^ 32, so the sum is below 22,023 * 2 ^ 32, and its product with a below 22,023 * 2 ^ 48.
-use Prim.Native.Nat.{ℕ, ◌+◌, ◌*◌, ◌/◌, ◌%◌, ◌^◌, ◌≤◌}
+use Prim.Native.Nat.{◌+◌, ◌*◌, ◌/◌, ◌%◌, ◌^◌, ◌≤◌}
 use native.Mathlib.Nat.{mul-le-mul_right}
 use native.Mathlib.Omega.{arith}
-use borrow.Author.Rules.{rules}
 use Rattle.keys.proofs.folded.Goals as goal
 use Rattle.keys.proofs.folded.Goals.{Start}
 

@@ -4,7 +4,6 @@ use Prim.Native.Nat.{ℕ, ◌+◌, ◌-◌, ◌*◌, ◌/◌, ◌%◌, ◌^◌, 
 use native.Mathlib.Nat.{le_antisymm, mod-eq_of_lt}
 use native.Mathlib.Omega.{arith}
 use lib.ListN.{get_or}
-use borrow.Author.Rules.{rules}
 use Rattle.settings.specs.theory.Arms.{at_least}
 use Rattle.settings.specs.Prime.{prime_above}
 use Rattle.settings.specs.theory.Primes.{primes, prime_table}

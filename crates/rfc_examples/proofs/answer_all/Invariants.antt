@@ -1,8 +1,6 @@
 -- Each turn goes past a line.
 use Prim.Native.Nat.{◌+◌, ◌-◌, ◌≤◌}
-use native.Mathlib.Omega.{arith}
 use lib.ListN.{length}
-use borrow.Author.Rules.{rules}
 use Rattle.rfc_examples.proofs.answer_all.Given as goal
 
 abbrev pub invariant-loop-from : goal.invariant-loop-from

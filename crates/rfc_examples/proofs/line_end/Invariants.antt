@@ -1,6 +1,5 @@
 -- The place stays between where it began and the end of the text.
 use Prim.Native.Nat.{◌-◌, ◌≤◌}
-use native.Mathlib.Omega.{arith}
 use lib.ListN.{length}
 use Rattle.rfc_examples.proofs.line_end.Given as goal
 

@@ -1,5 +1,5 @@
 -- What is left of the numbers behind the arms of a match.
-use Rattle.std.specs.Prelude.{◌≡◌, ℕ, zero, suc, ◌≤◌, ◌≢◌}
+use Rattle.std.specs.Prelude.{ℕ, zero, suc, ◌≤◌, ◌≢◌}
 use Rattle.std.proofs.Common.{sym, zero-le}
 use Rattle.std.proofs.Math.Arith.{lt_of_le-ne}
 

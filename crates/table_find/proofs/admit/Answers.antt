@@ -6,7 +6,6 @@ use Prim.Native.Nat.{◌^◌}
 use native.Mathlib.Omega.{arith}
 use lib.ListN.{length}
 use lib.Dec.{ltb}
-use borrow.Author.Tests.{not-true, not-false}
 use Rattle.settings.specs.Legal.{legal}
 use Rattle.settings.specs.Layout.{layout_of}
 use Rattle.settings.specs.Due.{unless_due, key_due}
@@ -19,11 +18,11 @@ use Rattle.table_find.proofs.admit.Goals as goal
 use Rattle.table_find.proofs.admit.Goals.{After-within, Start}
 
 -- the settings are legal, and the layout is theirs
-is-laid : (s : Start) → (legal s.args.s ≡ true) × (layout_of s.args.s ≡ s.args.g)
-is-laid s = laid_layout s.args.s s.args.g s.requires
+is_laid : (s : Start) → (legal s.args.s ≡ true) × (layout_of s.args.s ≡ s.args.g)
+is_laid s = laid_layout s.args.s s.args.g s.requires
 
-is-laid_at_after_within : (s : After-within) → (legal s.args.s ≡ true) × (layout_of s.args.s ≡ s.args.g)
-is-laid_at_after_within s = laid_layout s.args.s s.args.g s.requires
+is_laid_at_after_within : (s : After-within) → (legal s.args.s ≡ true) × (layout_of s.args.s ≡ s.args.g)
+is_laid_at_after_within s = laid_layout s.args.s s.args.g s.requires
 
 -- the bytes are enough: what is left is the test of the key
 long : (c : After-within) → let a = c.args in
@@ -32,7 +31,7 @@ unfolding open_of
 long c =
     let a = c.args in
     due_later laid.Refused a.s (length a.t.now) (key_due a.s (key_number a.key) ∷ []) (laid.Layout (layout_of a.s))
-    a.g (is-laid_at_after_within c).0 (is-laid_at_after_within c).1 (omega arith)
+    a.g (is_laid_at_after_within c).0 (is_laid_at_after_within c).1 (omega arith)
 
 pub returns-then-t-g : goal.returns-then-t-g
 unfolding open_of
@@ -40,11 +39,11 @@ returns-then-t-g c =
     let a = c.args in
     sym
     (due_short laid.Refused a.s (length a.t.now) (key_due a.s (key_number a.key) ∷ []) (laid.Layout (layout_of a.s))
-    a.g (is-laid (goal.at.returns-then-t-g c).Start).0 (is-laid (goal.at.returns-then-t-g c).Start).1 (omega arith))
+    a.g (is_laid (goal.at.returns-then-t-g c).Start).0 (is_laid (goal.at.returns-then-t-g c).Start).1 (omega arith))
 
 pub within-requires : goal.within-requires
 within-requires c =
-    (legal_means c.args.s (is-laid (goal.at.within-requires c).Start).0).ranges.w_high
+    (legal_means c.args.s (is_laid (goal.at.within-requires c).Start).0).ranges.w_high
 
 pub returns-then-not-within : goal.returns-then-not-within
 returns-then-not-within c =
@@ -56,4 +55,4 @@ pub returns : goal.returns
 returns c =
     let a = c.args in
     let w : ltb (key_number a.key) (2 ^ a.s.w) ≡ true = sym c.within.ensures ∙ c.if-not-within.false in
-    sym (long (goal.at.returns c).After-within ∙ rw w (ap laid.Layout (is-laid (goal.at.returns c).Start).1))
+    sym (long (goal.at.returns c).After-within ∙ rw w (ap laid.Layout (is_laid (goal.at.returns c).Start).1))

@@ -10,7 +10,6 @@ use Rattle.table_find.specs.Seek.{open_of, laid_if}
 use Rattle.table_find.specs.declared.Admission.{Admission}
 use Rattle.table_find.specs.theory.Seeks.{open_illegal, open_refused, found_call}
 use Rattle.table_find.specs.theory.SoughtLaws.{placed_at}
-use borrow.Author.Rules.{rules}
 use Rattle.table_find.proofs.find.Goals as goal
 use Rattle.table_find.proofs.find.Goals.{After-admit, After-place-place}
 

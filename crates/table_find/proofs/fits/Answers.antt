@@ -1,5 +1,4 @@
 -- The quotient is 0 where no bit stands above.
-use borrow.Author.Rules.{rules}
 use Rattle.table_find.proofs.Bits.{fits_is}
 use Rattle.table_find.proofs.fits.Goals as goal
 

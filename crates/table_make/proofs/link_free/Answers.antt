@@ -1,10 +1,9 @@
 -- After j turns the first j blocks are linked.
 use mathlib.Core.Path.{◌≡◌, refl, ap, ap₂, ◌∙◌}
 use mathlib.Core.List.{List}
-use Prim.Native.Nat.{ℕ, suc, ◌-◌, ◌≤◌, ◌<◌}
+use Prim.Native.Nat.{ℕ, suc, ◌<◌}
 use native.Mathlib.Omega.{arith}
 use native.Mathlib.Numerals.{add-one}
-use lib.ListN.{length}
 use Rattle.bits.specs.Put.{put_field}
 use Rattle.settings.specs.declared.layout.Layout.{Layout}
 use Rattle.table.specs.Decode.{link_at}

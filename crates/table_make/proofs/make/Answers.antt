@@ -6,7 +6,6 @@ use Prim.Native.Nat.{ℕ, ◌≤◌}
 use native.Mathlib.Omega.{arith}
 use lib.ListN.{length, take, drop, replicate, length-take}
 use lib.Seq.{length-take-le}
-use borrow.Author.Rules.{rules}
 use Rattle.settings.specs.Legal.{legal}
 use Rattle.settings.specs.Layout.{layout_of}
 use Rattle.settings.specs.theory.Legal.{laid_layout, laid_refused}

@@ -3,7 +3,6 @@ use Prim.Native.Nat.{ℕ, ◌-◌, ◌/◌, ◌%◌, ◌^◌}
 use mathlib.Core.Path.{sym, ap, ◌∙◌}
 use native.Mathlib.Omega.{arith}
 use Rattle.bits.specs.theory.Fields.{field_in}
-use borrow.Author.Rules.{rules}
 use Rattle.bits.proofs.byte.get.Goals as goal
 
 pub returns : goal.returns

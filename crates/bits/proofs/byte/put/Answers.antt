@@ -7,7 +7,6 @@ use lib.ListN.{get_or, set}
 use Rattle.bits.specs.Put.{replaced}
 use Rattle.bits.specs.theory.Numbers.{replaced_lt}
 use Rattle.bits.specs.theory.Puts.{put_in}
-use borrow.Author.Rules.{rules}
 use Rattle.bits.proofs.byte.put.Goals as goal
 use Rattle.bits.proofs.byte.put.Goals.{After-replace}
 

@@ -4,7 +4,6 @@ use native.Mathlib.Nat.{mod-lt}
 use native.Mathlib.Omega.{arith}
 use lib.Pow.{pow_pos}
 use Rattle.bits.specs.theory.Numbers.{across_two}
-use borrow.Author.Rules.{rules}
 use Rattle.bits.proofs.number.across.Goals as goal
 use Rattle.bits.proofs.number.across.Goals.{Start}
 

@@ -1,6 +1,5 @@
 -- The power is the one that the contract names, so that its bound is the bound on the code's sum.
 use native.Mathlib.Omega.{arith}
-use borrow.Author.Rules.{rules}
 use Rattle.bits.proofs.number.join.Goals as goal
 
 pub overflow_mul-result : goal.overflow_mul-result

@@ -1,7 +1,6 @@
 -- Two shifts cut the bits out (`cut`).
 use native.Mathlib.Omega.{arith}
 use Rattle.bits.specs.theory.Numbers.{cut}
-use borrow.Author.Rules.{rules}
 use Rattle.bits.proofs.number.part.Goals as goal
 
 pub returns : goal.returns

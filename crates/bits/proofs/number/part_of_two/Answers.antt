@@ -5,7 +5,6 @@ use native.Mathlib.Nat.{div-one}
 use native.Mathlib.Omega.{arith}
 use lib.Pow.{low}
 use Rattle.bits.specs.theory.Numbers.{above_two}
-use borrow.Author.Rules.{rules}
 use Rattle.bits.proofs.number.part_of_two.Goals as goal
 
 pub returns-then-k-eq0 : goal.returns-then-k-eq0

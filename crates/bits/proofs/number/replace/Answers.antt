@@ -1,7 +1,6 @@
 -- Taking the old bits off and putting the new ones on is replacing them (`exchanged`), and nothing wraps on the way.
 use native.Mathlib.Omega.{arith}
 use Rattle.bits.specs.theory.Numbers.{Exchanged, exchanged}
-use borrow.Author.Rules.{rules}
 use Rattle.bits.proofs.number.replace.Goals as goal
 use Rattle.bits.proofs.number.replace.Goals.{After-part}
 

@@ -3,7 +3,6 @@ use Prim.Native.Nat.{◌*◌}
 use mathlib.Core.Path.{◌∙◌}
 use native.Mathlib.Omega.{arith}
 use Rattle.bits.specs.theory.Puts.{put_sub}
-use borrow.Author.Rules.{rules}
 use Rattle.bits.proofs.word.put.Goals as goal
 
 pub returns : goal.returns

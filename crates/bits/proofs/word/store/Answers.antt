@@ -2,7 +2,6 @@
 use mathlib.Core.Path.{◌∙◌}
 use native.Mathlib.Omega.{arith}
 use Rattle.bits.specs.theory.Words.{store_word}
-use borrow.Author.Rules.{rules}
 use Rattle.bits.proofs.word.store.Goals as goal
 
 pub returns : goal.returns

@@ -1,7 +1,6 @@
 -- The four stores are those of `set_four`, one by one.
 use native.Mathlib.Omega.{arith}
 use lib.ListN.{length-set}
-use borrow.Author.Rules.{rules}
 use Rattle.bits.proofs.word.store_four.Goals as goal
 
 pub bounds-s-i-2 : goal.bounds-s-i-2

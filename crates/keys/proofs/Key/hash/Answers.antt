@@ -3,7 +3,6 @@ use mathlib.Core.Path.{◌≡◌, sym, ap, ◌∙◌}
 use Prim.Native.Nat.{ℕ, ◌-◌, ◌%◌, ◌^◌}
 use native.Mathlib.Nat.{mod-lt}
 use lib.Pow.{pow_pos}
-use borrow.Author.Rules.{rules}
 use Rattle.settings.specs.Sizes.{bie}
 use Rattle.keys.specs.Key.{key_number, hash}
 use Rattle.keys.specs.theory.Keys.{entry_whole}

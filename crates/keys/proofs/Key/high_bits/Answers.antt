@@ -4,7 +4,6 @@ use Prim.Native.Nat.{◌+◌, ◌-◌, ◌*◌, ◌/◌, ◌^◌, ◌≤◌, ◌
 use native.Mathlib.Nat.{div-eq_of_lt, le_of_eq, lt_of_le_of_lt}
 use native.Mathlib.Omega.{arith}
 use lib.Pow.{pow_pos, shr_lt}
-use borrow.Author.Rules.{rules}
 use Rattle.keys.specs.Key.{key_number}
 use Rattle.keys.specs.theory.Keys.{key_below}
 use Rattle.keys.specs.theory.Halves.{div_high, div_low}

@@ -4,7 +4,6 @@ use Prim.Native.Nat.{◌^◌, ◌<◌}
 use native.Mathlib.Nat.{zero-add, mod-eq_of_lt, mod-le, lt_of_le_of_lt}
 use native.Mathlib.Omega.{arith}
 use lib.Pow.{pow_pos}
-use borrow.Author.Rules.{rules}
 use Rattle.keys.specs.Key.{key_number}
 use Rattle.keys.specs.theory.Keys.{key_below, key_from}
 use Rattle.keys.specs.theory.Halves.{mod_high, mod_low}

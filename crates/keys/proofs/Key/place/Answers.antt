@@ -5,7 +5,6 @@ use native.Mathlib.Nat.{lt_of_lt_of_le}
 use native.Mathlib.Omega.{arith}
 use lib.Bits.{bit_xor}
 use lib.Pow.{pow_mono}
-use borrow.Author.Rules.{rules}
 use Rattle.keys.specs.Key.{key_number, index, entry, hash, list_number, place_of}
 use Rattle.keys.specs.theory.Keys.{number_key}
 use Rattle.keys.proofs.Key.place.Goals as goal

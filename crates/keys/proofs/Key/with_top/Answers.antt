@@ -4,7 +4,6 @@ use Prim.Native.Nat.{ℕ, ◌+◌, ◌-◌, ◌*◌, ◌%◌, ◌^◌, ◌≤◌
 use native.Mathlib.Nat.{zero-add, le-add_left, le_of_eq, lt_of_le_of_lt}
 use native.Mathlib.Omega.{arith}
 use lib.Pow.{pow_pos}
-use borrow.Author.Rules.{rules}
 use Rattle.keys.specs.Key.{key_number}
 use Rattle.keys.specs.theory.Keys.{key_from}
 use Rattle.keys.specs.theory.Halves.{no_top, high_fits, only_low, join_high, join_low, join_low_fits}

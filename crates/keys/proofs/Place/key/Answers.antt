@@ -5,7 +5,6 @@ use native.Mathlib.Nat.{lt_of_lt_of_le}
 use native.Mathlib.Omega.{arith}
 use lib.Bits.{bit_xor}
 use lib.Pow.{pow_mono}
-use borrow.Author.Rules.{rules}
 use Rattle.settings.specs.Sizes.{bie}
 use Rattle.keys.specs.Key.{key_number, key_of, hash, rebuilt}
 use Rattle.keys.specs.theory.Keys.{entry_whole, rebuilt_below}

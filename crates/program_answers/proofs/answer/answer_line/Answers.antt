@@ -13,12 +13,6 @@ parsing c = asks_request c.args.line.now c.in-Request.q c.parse.ensures c.in-Req
 pub slice_bounds-read_by-count : goal.slice_bounds-read_by-count
 slice_bounds-read_by-count c = omega (arith, (parsing (goal.at.slice_bounds-read_by-count c).In-Request).low, (parsing (goal.at.slice_bounds-read_by-count c).In-Request).high)
 
--- GONE slice-bounds-read-by-start
--- part-read-by-start c = omega (arith, (parsing c.before).low, (parsing c.before).high)
-
--- GONE slice-bounds-read-by-end
--- part-read-by-end c = omega (arith, (parsing c.before).low, (parsing c.before).high)
-
 pub unread-requires : goal.unread-requires
 unread-requires c =
     let q = parsing (goal.at.unread-requires c).In-Request in

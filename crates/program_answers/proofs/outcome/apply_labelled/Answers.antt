@@ -16,11 +16,11 @@ use Rattle.program_answers.proofs.Verbs.{given}
 use Rattle.program_answers.proofs.outcome.apply_labelled.Goals as goal
 
 -- the label is all that is refused for it
-due-for : (o : Op) (label : ℕ) → takes_label o ≡ true → verb_due program (verb_of o label) ≡ label_due program label ∷ []
-due-for op.Enter label e = refl
-due-for op.Relabel label e = refl
-due-for op.Delete label e = absurd (true≢false (sym e))
-due-for op.Find label e = absurd (true≢false (sym e))
+due_for : (o : Op) (label : ℕ) → takes_label o ≡ true → verb_due program (verb_of o label) ≡ label_due program label ∷ []
+due_for op.Enter label e = refl
+due_for op.Relabel label e = refl
+due_for op.Delete label e = absurd (true≢false (sym e))
+due_for op.Find label e = absurd (true≢false (sym e))
 
 -- what takes a label and does not enter relabels
 relabels : (o : Op) → takes_label o ≡ true → (o ≡ op.Enter → ⊥) → o ≡ op.Relabel
@@ -32,7 +32,7 @@ relabels op.Find e n = absurd (true≢false (sym e))
 pub returns-then-not-fits : goal.returns-then-not-fits
 returns-then-not-fits c =
     let a = c.args in
-    label_refused a.t.now (verb_of a.op a.label) a.label (due-for a.op a.label c.requires.0) (open_means program a.key _ _ c.requires.1)
+    label_refused a.t.now (verb_of a.op a.label) a.label (due_for a.op a.label c.requires.0) (open_means program a.key _ _ c.requires.1)
     (sym c.fits.ensures ∙ c.if-not-fits.true)
 
 pub returns-in-Enter : goal.returns-in-Enter

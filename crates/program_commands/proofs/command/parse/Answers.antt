@@ -29,9 +29,9 @@ sized_at_after_shared_slice_known3 : (c : After-shared_slice_known-3-1) → (3 �
 sized_at_after_shared_slice_known3 c = size_fits c.args.line.now c.if-n.false
 
 -- behind the test of the second byte too
-begins-at : (c : After-shared_slice_known-3-1)
+begins_at : (c : After-shared_slice_known-3-1)
     → Begins c.args.line.now (get_or c.args.line.now 0 0)
-begins-at c =
+begins_at c =
     let f = sized_at_after_shared_slice_known3 c in
     record { low = f.0; high = f.1; first = refl; second = c.if-line-ne32.false }
 
@@ -39,7 +39,7 @@ pub parse_labelled-requires : goal.parse_labelled-requires
 unfolding op_of
 parse_labelled-requires c = record {
   byte = 43;
-  begins = rw c.if-c-eq43.true at (begins-at (goal.at.parse_labelled-requires c).After-shared_slice_known-3-1);
+  begins = rw c.if-c-eq43.true at (begins_at (goal.at.parse_labelled-requires c).After-shared_slice_known-3-1);
   stands = refl;
   takes = refl;
 }
@@ -48,16 +48,16 @@ pub returns-then-c-eq43 : goal.returns-then-c-eq43
 returns-then-c-eq43 c = c.parse_labelled.ensures
 
 pub returns-then-c-eq45 : goal.returns-then-c-eq45
-returns-then-c-eq45 c = delete_asks _ (rw c.if-c-eq45.true at (begins-at (goal.at.returns-then-c-eq45 c).After-shared_slice_known-3-1))
+returns-then-c-eq45 c = delete_asks _ (rw c.if-c-eq45.true at (begins_at (goal.at.returns-then-c-eq45 c).After-shared_slice_known-3-1))
 
 pub returns-then-c-eq63 : goal.returns-then-c-eq63
-returns-then-c-eq63 c = find_asks _ (rw c.if-c-eq63.true at (begins-at (goal.at.returns-then-c-eq63 c).After-shared_slice_known-3-1))
+returns-then-c-eq63 c = find_asks _ (rw c.if-c-eq63.true at (begins_at (goal.at.returns-then-c-eq63 c).After-shared_slice_known-3-1))
 
 pub parse_labelled-requires-then-c-eq61 : goal.parse_labelled-requires-then-c-eq61
 unfolding op_of
 parse_labelled-requires-then-c-eq61 c = record {
   byte = 61;
-  begins = rw c.if-c-eq61.true at (begins-at (goal.at.parse_labelled-requires-then-c-eq61 c).After-shared_slice_known-3-1);
+  begins = rw c.if-c-eq61.true at (begins_at (goal.at.parse_labelled-requires-then-c-eq61 c).After-shared_slice_known-3-1);
   stands = refl;
   takes = refl;
 }
@@ -67,4 +67,4 @@ returns-then-c-eq61 c = c.parse_labelled-then-c-eq61.ensures
 
 pub returns : goal.returns
 returns c =
-    malformed _ (unknown_line _ _ (begins-at (goal.at.returns c).After-shared_slice_known-3-1) c.if-c-eq43.false c.if-c-eq45.false c.if-c-eq63.false c.if-c-eq61.false)
+    malformed _ (unknown_line _ _ (begins_at (goal.at.returns c).After-shared_slice_known-3-1) c.if-c-eq43.false c.if-c-eq45.false c.if-c-eq63.false c.if-c-eq61.false)

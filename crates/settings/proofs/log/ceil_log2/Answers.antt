@@ -1,5 +1,5 @@
 -- 0 has width 0; that of other numbers the leading zeros tell.
-use Rattle.std.proofs.Common.{ℕ, ◌-◌, ◌^◌, ◌<◌, ap, ◌∙◌, arith, rules}
+use Rattle.std.proofs.Common.{ℕ, ◌-◌, ◌^◌, ◌<◌, ap, ◌∙◌, arith}
 use lib.Count.{count_leading_zeros, leading_le}
 use Rattle.settings.specs.theory.Logs.{log_least, leading_log, leading_behind, leading_below}
 use Rattle.settings.proofs.log.ceil_log2.Goals as goal

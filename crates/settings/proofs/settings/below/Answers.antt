@@ -1,5 +1,5 @@
 -- The difference wraps exactly at 0, and the largest number is not below p - 1.
-use Rattle.std.proofs.Common.{◌≡◌, ℕ, ◌+◌, ◌-◌, ◌%◌, ◌^◌, ◌<◌, ◌&&◌, ltb, leb, arith, rules, le-ltb, leb-false, leb-true}
+use Rattle.std.proofs.Common.{◌≡◌, ℕ, ◌+◌, ◌-◌, ◌%◌, ◌^◌, ◌<◌, ◌&&◌, ltb, leb, arith, le-ltb, leb-false, leb-true}
 use Rattle.laws.specs.Cases.{cases}
 use Rattle.laws.specs.Tests.{ltb_iff}
 use Rattle.settings.proofs.settings.below.Goals as goal

@@ -24,13 +24,13 @@ returns-in_default c =
     (damaged_none (content c.args.g (decode c.args.g c.args.t.now) c.loop-i.i) (sym c.list_length.ensures ∙ c.in_default.is))
 
 -- list i has k entries
-length-is : (c : In-Entries) → let s = c.args in
+length_is : (c : In-Entries) → let s = c.args in
     list_length (content s.g (decode s.g s.t.now) c.loop-i.i) ≡ Entries c.in-Entries.k
-length-is c = sym c.list_length.ensures ∙ c.in-Entries.is
+length_is c = sym c.list_length.ensures ∙ c.in-Entries.is
 
 pub overflow_add-more : goal.overflow_add-more
 overflow_add-more c =
-    omega (arith, c.requires.proper.lists_high, c.loop-i.invariant.0.within, c.loop-i.invariant.0.few, list_few c.args.g c.args.t.now c.requires c.loop-i.i _ (length-is (goal.at.overflow_add-more c).In-Entries))
+    omega (arith, c.requires.proper.lists_high, c.loop-i.invariant.0.within, c.loop-i.invariant.0.few, list_few c.args.g c.args.t.now c.requires c.loop-i.i _ (length_is (goal.at.overflow_add-more c).In-Entries))
 
 pub overflow_sub-skip : goal.overflow_sub-skip
 overflow_sub-skip c =
@@ -51,7 +51,7 @@ loop-i-preserved c =
     let low = c.loop-i-test.true in
     let x = c.in-Entries.k in
     let P = c.loop-i.invariant.0 in
-    let e = length-is (goal.at.loop-i-preserved c).In-Entries in (
+    let e = length_is (goal.at.loop-i-preserved c).In-Entries in (
       passed_on g t c.requires c.loop-i.count c.loop-i.i x P low e,
       elim c.if-count-n.branch [
         | then-count-n y ↦ stands_here g t c.requires c.loop-i.count c.loop-i.i x P low e c.args.n c.if-count-n.list c.if-count-n.skip y.if-count-n.true y.list-is y.skip-is

@@ -45,8 +45,8 @@ way_at_after_overflow_counter c =
     c.basic_head.ensures c.end_of-end.ensures
 
 -- the last block has the slot that its counter names
-slot-there : (c : After-overflow_counter-n) → c.overflow_counter-n.result < c.args.g.sio
-slot-there c = omega (arith, (way_at_after_overflow_counter c).few, c.overflow_counter-n.ensures)
+slot_there : (c : After-overflow_counter-n) → c.overflow_counter-n.result < c.args.g.sio
+slot_there c = omega (arith, (way_at_after_overflow_counter c).few, c.overflow_counter-n.ensures)
 
 -- the counter that was read is the last block's
 told : (c : After-cannot_free) → let a = c.args in c.cannot_free.result ≡ cannot_free_at a.g c.end_of-end.result.last.0 (decode a.g a.t.now)
@@ -61,18 +61,18 @@ returns-then-cannot_free c =
     c.cannot_free.result (told (goal.at.returns-then-cannot_free c).After-cannot_free) c.if-cannot_free.true
 
 pub overflow_slot-at-requires : goal.overflow_slot-at-requires
-overflow_slot-at-requires c = (c.requires.0.proper, (way (goal.at.overflow_slot-at-requires c).After-end_of-end).low, slot-there (goal.at.overflow_slot-at-requires c).After-overflow_counter-n)
+overflow_slot-at-requires c = (c.requires.0.proper, (way (goal.at.overflow_slot-at-requires c).After-end_of-end).low, slot_there (goal.at.overflow_slot-at-requires c).After-overflow_counter-n)
 
 pub get_slot-moved-requires : goal.get_slot-moved-requires
 get_slot-moved-requires c =
     let F = c.requires.0.proper in
-    let l = overflow_slot_ends c.args.g F _ (way (goal.at.get_slot-moved-requires c).After-end_of-end).low _ (slot-there (goal.at.get_slot-moved-requires c).After-overflow_counter-n) in
+    let l = overflow_slot_ends c.args.g F _ (way (goal.at.get_slot-moved-requires c).After-end_of-end).low _ (slot_there (goal.at.get_slot-moved-requires c).After-overflow_counter-n) in
     let p = c.overflow_slot-at.ensures in
     (omega (arith, l, p, F.slot_is, c.requires.0.room), omega (arith, l, p, F.slot_is, bits_high c.args.g F), F.bie_high, F.val_high)
 
-value-is : (c : After-get_slot-moved) → let a = c.args in
+value_is : (c : After-get_slot-moved) → let a = c.args in
     (let g = c.args.g in slot_of g (key_number c.get_slot-moved.result.entry) c.get_slot-moved.result.label) ≡ field a.t.now c.overflow_slot-at.result a.g.slot
-value-is c =
+value_is c =
     let g = c.args.g in
     let at = c.overflow_slot-at.result in
     ap₂ (λ (x y : ℕ). x * 2 ^ g.val + y) c.get_slot-moved.ensures.0 c.get_slot-moved.ensures.1
@@ -115,4 +115,4 @@ returns c =
     let p = c.overflow_slot-at in
     removed_open a.g a.t.now c.requires.0 a.i.0 a.p c.requires.2 (sized a.g a.t.now c.requires.0) c.requires.3 c.basic_head.result c.end_of-end.result (way (goal.at.returns c).After-end_of-end)
     c.cannot_free.result (told (goal.at.returns c).After-cannot_free) c.if-cannot_free.false n.result p.result ((let g = c.args.g in slot_of g (key_number c.get_slot-moved.result.entry) c.get_slot-moved.result.label))
-    n.ensures p.ensures (value-is (goal.at.returns c).After-get_slot-moved) _ _ c.store_at_place.ensures c.shrink.ensures
+    n.ensures p.ensures (value_is (goal.at.returns c).After-get_slot-moved) _ _ c.store_at_place.ensures c.shrink.ensures

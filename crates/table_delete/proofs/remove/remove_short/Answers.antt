@@ -16,19 +16,19 @@ use Rattle.table_delete.proofs.remove.remove_short.Goals as goal
 use Rattle.table_delete.proofs.remove.remove_short.Goals.{After-basic_slot-hole, Joined-hole-last, then-hole-last, else-hole-last}
 
 -- the two slots are in the table
-last-ends : (c : After-basic_slot-hole) → c.basic_slot-last.result + c.args.g.slot ≤ c.args.g.bits
-last-ends c =
+last_ends : (c : After-basic_slot-hole) → c.basic_slot-last.result + c.args.g.slot ≤ c.args.g.bits
+last_ends c =
     let k : c.args.c - 1 < c.args.g.sib = omega arith in
     omega (arith, basic_slot_ends c.args.g c.requires.0.proper c.args.i.0 c.requires.1 (c.args.c - 1) k, c.basic_slot-last.ensures)
 
-hole-ends : (c : After-basic_slot-hole) → c.basic_slot-hole.result + c.args.g.slot ≤ c.args.g.bits
-hole-ends c =
+hole_ends : (c : After-basic_slot-hole) → c.basic_slot-hole.result + c.args.g.slot ≤ c.args.g.bits
+hole_ends c =
     let k : c.args.p < c.args.g.sib = omega arith in
     omega (arith, basic_slot_ends c.args.g c.requires.0.proper c.args.i.0 c.requires.1 c.args.p k, c.basic_slot-hole.ensures)
 
 pub copy-requires : goal.copy-requires
 copy-requires c =
-    copy_asks c.args.g c.args.t.now c.requires.0 _ _ (omega (arith, last-ends (goal.at.copy-requires c).After-basic_slot-hole, hole-ends (goal.at.copy-requires c).After-basic_slot-hole)) (omega (arith, last-ends (goal.at.copy-requires c).After-basic_slot-hole, hole-ends (goal.at.copy-requires c).After-basic_slot-hole))
+    copy_asks c.args.g c.args.t.now c.requires.0 _ _ (omega (arith, last_ends (goal.at.copy-requires c).After-basic_slot-hole, hole_ends (goal.at.copy-requires c).After-basic_slot-hole)) (omega (arith, last_ends (goal.at.copy-requires c).After-basic_slot-hole, hole_ends (goal.at.copy-requires c).After-basic_slot-hole))
 
 -- in either case the last slot is in the hole
 moved : (c : Joined-hole-last) → let a = c.args in
@@ -49,7 +49,7 @@ long c = ap length (moved c) ∙ put_length _ _ _ _
 
 pub clear-requires : goal.clear-requires
 clear-requires c =
-    omega (arith, last-ends (goal.at.clear-requires c).After-basic_slot-hole, long (goal.at.clear-requires c).Joined-hole-last, bits_high c.args.g c.requires.0.proper, c.requires.0.room)
+    omega (arith, last_ends (goal.at.clear-requires c).After-basic_slot-hole, long (goal.at.clear-requires c).Joined-hole-last, bits_high c.args.g c.requires.0.proper, c.requires.0.room)
 
 pub put_basic_counter-requires : goal.put_basic_counter-requires
 put_basic_counter-requires c =

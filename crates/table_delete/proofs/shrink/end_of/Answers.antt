@@ -14,11 +14,11 @@ pub loop-k-init : goal.loop-k-init
 loop-k-init c =
     ending_first c.args.g (decode c.args.g c.args.t.now).overflow c.args.first.0 c.requires.1
 
-block-low : (c : At-loop-k) → c.loop-k.b.0 < c.args.g.nob
-block-low c = let s = c.args in chain_low s.g (decode s.g s.t.now).overflow c.loop-k.invariant.chain
+block_low : (c : At-loop-k) → c.loop-k.b.0 < c.args.g.nob
+block_low c = let s = c.args in chain_low s.g (decode s.g s.t.now).overflow c.loop-k.invariant.chain
 
 pub overflow_front-requires : goal.overflow_front-requires
-overflow_front-requires c = (c.requires.0, block-low (goal.at.overflow_front-requires c).At-loop-k)
+overflow_front-requires c = (c.requires.0, block_low (goal.at.overflow_front-requires c).At-loop-k)
 
 pub returns-in_default : goal.returns-in_default
 returns-in_default c =

@@ -12,8 +12,8 @@ use Rattle.table_enter.proofs.append.append.Goals as goal
 use Rattle.table_enter.proofs.append.append.Goals.{After-block_slot_of-last, Else-c-g-2, Start}
 
 -- the basic block's counter, where it has all the entries
-counter-is : (s : Start) → let a = s.args in a.v.compared ≤ a.g.sib → a.v.compared ≡ (basic_at (decode a.g a.t.now).basic a.i.0).counter
-counter-is s h =
+counter_is : (s : Start) → let a = s.args in a.v.compared ≤ a.g.sib → a.v.compared ≡ (basic_at (decode a.g a.t.now).basic a.i.0).counter
+counter_is s h =
     let a = s.args in
     few a.g (decode a.g a.t.now) a.i.0 a.v.compared s.requires.1 (sized a.g a.t.now s.requires.0.table) h
 
@@ -23,11 +23,11 @@ many c = omega (arith, c.if-c-g.false, c.if-c-g-2.false)
 
 pub append_room-requires : goal.append_room-requires
 append_room-requires c =
-    (c.requires.0, c.if-c-g.true, counter-is (goal.at.append_room-requires c).Start (omega (arith, c.if-c-g.true)))
+    (c.requires.0, c.if-c-g.true, counter_is (goal.at.append_room-requires c).Start (omega (arith, c.if-c-g.true)))
 
 pub append_first-requires : goal.append_first-requires
 append_first-requires c =
-    (c.requires.0, sym (counter-is (goal.at.append_first-requires c).Start (omega (arith, c.if-c-g-2.true))) ∙ c.if-c-g-2.true)
+    (c.requires.0, sym (counter_is (goal.at.append_first-requires c).Start (omega (arith, c.if-c-g-2.true))) ∙ c.if-c-g-2.true)
 
 pub overflow_sub-c-2 : goal.overflow_sub-c-2
 overflow_sub-c-2 c = omega (arith, many (goal.at.overflow_sub-c-2 c).Else-c-g-2)

@@ -21,20 +21,20 @@ opened c x e = sym c.admit.ensures ∙ ap (laid_if c.in-Layout.g) e
 open_at : (c : In-Granted) → let a = c.args in open_of a.s (length a.t.now) a.key ≡ laid.Layout c.in-Layout.g
 open_at c = sym c.admit.ensures ∙ ap (laid_if c.in-Layout.g) c.in-Granted.is
 
-open-means-at : (c : In-Granted) → let a = c.args in Opened a.s (length a.t.now) a.key c.in-Layout.g
-open-means-at c = let a = c.args in open_means a.s a.key (length a.t.now) _ (open_at c)
+open_means_at : (c : In-Granted) → let a = c.args in Opened a.s (length a.t.now) a.key c.in-Layout.g
+open_means_at c = let a = c.args in open_means a.s a.key (length a.t.now) _ (open_at c)
 
 pub admit-requires : goal.admit-requires
 admit-requires c =
     sym c.layout.ensures ∙ c.in-Layout.is
 
 pub fits-requires : goal.fits-requires
-fits-requires c = val_high (open-means-at (goal.at.fits-requires c).In-Granted)
+fits-requires c = val_high (open_means_at (goal.at.fits-requires c).In-Granted)
 
 pub returns-then-not-fits : goal.returns-then-not-fits
 returns-then-not-fits c =
     let a = c.args in
-    label_refused a.t.now (enter a.label) a.label refl (open-means-at (goal.at.returns-then-not-fits c).In-Granted) (sym c.fits.ensures ∙ c.if-not-fits.true)
+    label_refused a.t.now (enter a.label) a.label refl (open_means_at (goal.at.returns-then-not-fits c).In-Granted) (sym c.fits.ensures ∙ c.if-not-fits.true)
 
 -- the label fits
 low : (c : Else-not-fits) → let a = c.args in a.label < 2 ^ a.s.val
@@ -54,7 +54,7 @@ find_in-found-requires c =
 
 pub overflow_cast-label : goal.overflow_cast-label
 overflow_cast-label c =
-    record { fits = label_word (open-means-at (goal.at.overflow_cast-label c).In-Granted) (low (goal.at.overflow_cast-label c).Else-not-fits) }
+    record { fits = label_word (open_means_at (goal.at.overflow_cast-label c).In-Granted) (low (goal.at.overflow_cast-label c).Else-not-fits) }
 
 pub enter_sought-requires : goal.enter_sought-requires
 enter_sought-requires c =

@@ -3,7 +3,6 @@ use mathlib.Core.Path.{◌≡◌, sym, ap, ◌∙◌}
 use mathlib.Core.List.{List}
 use Prim.Native.Nat.{ℕ, ◌+◌, ◌-◌, ◌*◌, ◌≤◌, ◌<◌}
 use native.Mathlib.Omega.{arith}
-use borrow.Author.Rules.{rules}
 use lib.ListN.{length}
 use Rattle.settings.specs.Legal.{most_bits}
 use Rattle.keys.specs.Key.{key_number}
@@ -11,7 +10,7 @@ use Rattle.settings.specs.declared.layout.Layout.{Layout}
 use Rattle.table.specs.State.{Overflow}
 use Rattle.table.specs.Decode.{decode}
 use Rattle.table.specs.Find.{position}
-use Rattle.table_read.specs.Steps.{slots_in, overflow_run, Followed, gather_from, find_from}
+use Rattle.table_read.specs.Steps.{slots_in, overflow_run, gather_from, find_from}
 use Rattle.table_read.specs.BlockSlots.{number_from}
 use Rattle.table.specs.Answer.{said}
 use Rattle.table.specs.declared.answers.Answer.{Answer}

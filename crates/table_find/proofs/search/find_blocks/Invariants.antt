@@ -1,28 +1,14 @@
 -- What is found from here on, with the slots passed, is what is found from the first block on.
-use mathlib.Core.Path.{◌≡◌, sym, ap, ◌∙◌}
+use mathlib.Core.Path.{◌≡◌}
 use mathlib.Core.List.{List}
-use Prim.Native.Nat.{ℕ, ◌+◌, ◌-◌, ◌*◌, ◌≤◌, ◌<◌}
-use native.Mathlib.Omega.{arith}
-use borrow.Author.Rules.{rules}
-use lib.ListN.{length}
-use Rattle.settings.specs.Legal.{most_bits}
+use Prim.Native.Nat.{ℕ, ◌+◌, ◌-◌, ◌*◌, ◌≤◌}
 use Rattle.keys.specs.Key.{key_number}
 use Rattle.settings.specs.declared.layout.Layout.{Layout}
 use Rattle.table.specs.State.{Overflow}
 use Rattle.table.specs.Decode.{decode}
-use Rattle.table.specs.Find.{position}
-use Rattle.table_read.specs.Steps.{slots_in, overflow_run, Followed, gather_from, find_from}
+use Rattle.table_read.specs.Steps.{Followed, gather_from, find_from}
 use Rattle.table_read.specs.BlockSlots.{number_from}
-use Rattle.table.specs.Answer.{said}
 use Rattle.table.specs.declared.answers.Answer.{Answer}
-use Rattle.table.specs.declared.answers.Word.TheVariants as word
-use Rattle.table_read.specs.theory.Reads.{overflow_run_within}
-use Rattle.table.specs.theory.Ways.{told_further, told_other}
-use Rattle.table_read.specs.theory.Walks.{OneStep, one_step}
-use Rattle.table_read.specs.theory.Finds.{block_held, block_none, block_on}
-use Rattle.table_read.specs.theory.Scans.{overflow_row, label_inside, plain_position, held_plain}
-use Rattle.table_read.specs.declared.slots.Slots.{Slots}
-use Rattle.std.proofs.Common.{inl}
 use Rattle.table_find.proofs.search.find_blocks.Given as goal
 
 abbrev pub from : Layout → ℕ → ℕ → List Overflow → ℕ → ℕ → Answer

@@ -4,7 +4,6 @@ use native.Mathlib.Omega.{arith}
 use Rattle.keys.specs.Key.{key_number}
 use Rattle.table_read.specs.Steps.{basic_run}
 use Rattle.table_read.specs.theory.Finds.{find_counted, find_high}
-use borrow.Author.Rules.{rules}
 use Rattle.table_find.proofs.search.find_in.Goals as goal
 
 pub returns-then-front-g : goal.returns-then-front-g

@@ -15,7 +15,6 @@ use Rattle.table_read.specs.theory.Scans.{run_row, label_inside, first_position,
 use Rattle.table_read.specs.declared.slots.Slots.{Slots}
 use Rattle.table.specs.Answer.{said}
 use Rattle.table.specs.declared.answers.Word.TheVariants as word
-use borrow.Author.Rules.{rules}
 use Rattle.settings.specs.Legal.{most_bits}
 use Rattle.table_find.proofs.search.find_long.Goals as goal
 use Rattle.table_find.proofs.search.find_long.Goals.{After-displaced_run-run, After-scan_displaced-j, In-Block, Then-j-g}

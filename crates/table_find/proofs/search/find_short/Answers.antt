@@ -17,7 +17,6 @@ use Rattle.table_read.specs.theory.Scans.{basic_row, label_inside, plain_positio
 use Rattle.table_read.specs.declared.slots.Slots.{Slots}
 use Rattle.table.specs.Answer.{said}
 use Rattle.table.specs.declared.answers.Word.TheVariants as word
-use borrow.Author.Rules.{rules}
 use Rattle.settings.specs.Legal.{most_bits}
 use Rattle.table_find.proofs.search.find_short.Goals as goal
 use Rattle.table.specs.Table.{Table}

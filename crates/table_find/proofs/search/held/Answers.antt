@@ -4,7 +4,6 @@ use Prim.Native.Nat.{ℕ}
 use Rattle.bits.specs.theory.Fields.{field_fits}
 use Rattle.table.specs.Answer.{said}
 use Rattle.table.specs.declared.answers.Word.TheVariants as word
-use borrow.Author.Rules.{rules}
 use Rattle.table_find.proofs.search.held.Goals as goal
 
 pub overflow_cast-result : goal.overflow_cast-result

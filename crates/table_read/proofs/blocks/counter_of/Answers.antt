@@ -1,8 +1,6 @@
 -- The counter is within the block.
 use mathlib.Core.Path.{ap, ◌∙◌}
 use Prim.Native.Nat.{ℕ}
-use native.Mathlib.Omega.{arith}
-use borrow.Author.Rules.{rules}
 use Rattle.bits.specs.Field.{field}
 use Rattle.table_read.proofs.blocks.counter_of.Goals as goal
 

@@ -1,5 +1,4 @@
 -- The free start stands first.
-use borrow.Author.Rules.{rules}
 use Rattle.table.specs.Decode.{decode}
 use Rattle.table_read.proofs.blocks.free_start.Goals as goal
 

@@ -1,9 +1,7 @@
 -- The counter is the first bits of the field that was read, and the link its last bits.
 use mathlib.Core.Path.{◌≡◌, ap, ap₂, ◌∙◌}
 use Prim.Native.Nat.{ℕ, ◌+◌, ◌/◌, ◌%◌}
-use native.Mathlib.Omega.{arith}
 use lib.Pow.{pow_pos}
-use borrow.Author.Rules.{rules}
 use Rattle.bits.specs.Field.{field}
 use Rattle.bits.specs.theory.Fields.{first_field, last_field}
 use Rattle.table.specs.Decode.{block_at}

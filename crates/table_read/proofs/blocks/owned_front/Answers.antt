@@ -3,7 +3,6 @@ use mathlib.Core.Path.{◌≡◌, ap₂, ◌∙◌}
 use Prim.Native.Nat.{ℕ, ◌+◌, ◌/◌, ◌%◌, ◌^◌}
 use native.Mathlib.Omega.{arith}
 use lib.Pow.{pow_pos}
-use borrow.Author.Rules.{rules}
 use Rattle.bits.specs.Field.{field}
 use Rattle.bits.specs.theory.Fields.{first_field, last_field}
 use Rattle.table.specs.Decode.{block_at}
@@ -43,31 +42,22 @@ all c =
     ∙ ap₂ (λ (x n : ℕ). field s.t.now x n) c.counter_at.ensures e
 
 -- the number that the owner, or the link, is cut off by
-owner-pow : (c : After-get_short-all) → c.pow-owner.result ≡ 2 ^ c.args.g.owner
-owner-pow c = c.pow-owner.ensures
+owner_pow : (c : After-get_short-all) → c.pow-owner.result ≡ 2 ^ c.args.g.owner
+owner_pow c = c.pow-owner.ensures
 
-link-pow : (c : After-get_short-all) → c.pow-link.result ≡ 2 ^ c.args.g.link
-link-pow c = c.pow-link.ensures
+link_pow : (c : After-get_short-all) → c.pow-link.result ≡ 2 ^ c.args.g.link
+link_pow c = c.pow-link.ensures
 
 pub nonzero_div-both : goal.nonzero_div-both
-nonzero_div-both c = rw (owner-pow (goal.at.nonzero_div-both c).After-get_short-all) (pow_pos c.args.g.owner)
-
--- GONE nonzero-div-t12
--- div-t12 c = rw (link-pow c) (pow_pos (start c.before).args.g.link)
-
--- GONE nonzero-rem-t13
--- rem-t13 c = rw (link-pow c) (pow_pos (start c.before).args.g.link)
-
--- GONE nonzero-rem-t15
--- rem-t15 c = rw (owner-pow c) (pow_pos (start c.before).args.g.owner)
+nonzero_div-both c = rw (owner_pow (goal.at.nonzero_div-both c).After-get_short-all) (pow_pos c.args.g.owner)
 
 pub returns : goal.returns
 returns c =
     let g = c.args.g in
     let t = c.args.t.now in
     let at = block_at g.overflow c.args.j.0 in
-    let both = ap₂ (λ (x y : ℕ). x / y) (all (goal.at.returns c).After-get_short-all) (owner-pow (goal.at.returns c).After-get_short-all) ∙ first_field t at (g.overflow.counter + g.link) g.owner in (
-      ap₂ (λ (x y : ℕ). x / y) both (link-pow (goal.at.returns c).After-get_short-all) ∙ first_field t at g.overflow.counter g.link ∙ overflow_counter_field g t c.requires.0 c.args.j.0 c.requires.1,
-      ap₂ (λ (x y : ℕ). x % y) both (link-pow (goal.at.returns c).After-get_short-all) ∙ last_field t at g.overflow.counter g.link ∙ link_field g t c.requires.0 c.args.j.0 c.requires.1,
-      ap₂ (λ (x y : ℕ). x % y) (all (goal.at.returns c).After-get_short-all) (owner-pow (goal.at.returns c).After-get_short-all) ∙ last_field t at (g.overflow.counter + g.link) g.owner ∙ owner_field g t c.requires.0 c.args.j.0 c.requires.1,
+    let both = ap₂ (λ (x y : ℕ). x / y) (all (goal.at.returns c).After-get_short-all) (owner_pow (goal.at.returns c).After-get_short-all) ∙ first_field t at (g.overflow.counter + g.link) g.owner in (
+      ap₂ (λ (x y : ℕ). x / y) both (link_pow (goal.at.returns c).After-get_short-all) ∙ first_field t at g.overflow.counter g.link ∙ overflow_counter_field g t c.requires.0 c.args.j.0 c.requires.1,
+      ap₂ (λ (x y : ℕ). x % y) both (link_pow (goal.at.returns c).After-get_short-all) ∙ last_field t at g.overflow.counter g.link ∙ link_field g t c.requires.0 c.args.j.0 c.requires.1,
+      ap₂ (λ (x y : ℕ). x % y) (all (goal.at.returns c).After-get_short-all) (owner_pow (goal.at.returns c).After-get_short-all) ∙ last_field t at (g.overflow.counter + g.link) g.owner ∙ owner_field g t c.requires.0 c.args.j.0 c.requires.1,
     )

@@ -2,7 +2,6 @@
 use mathlib.Core.Path.{sym, ap, ◌∙◌}
 use Rattle.bits.specs.Field.{field}
 use Rattle.bits.specs.theory.Fields.{field_zero}
-use borrow.Author.Rules.{rules}
 use Rattle.table_read.proofs.blocks.short_field.Goals as goal
 
 pub returns-then-n-eq0 : goal.returns-then-n-eq0

@@ -1,6 +1,5 @@
 -- Each field is the one that the definition has.
 use Rattle.table_read.specs.Steps.{basic_run}
-use borrow.Author.Rules.{rules}
 use Rattle.table_read.proofs.lists.basic_run.Goals as goal
 
 pub returns : goal.returns

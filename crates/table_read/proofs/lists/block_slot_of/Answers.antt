@@ -2,11 +2,10 @@
 use Rattle.std.proofs.Common.{inl}
 use mathlib.Core.Path.{◌∙◌}
 use native.Mathlib.Omega.{arith}
-use borrow.Author.Rules.{rules}
 use Rattle.table.specs.Decode.{decode}
 use Rattle.table_read.specs.theory.Reads.{sized}
 use Rattle.table.specs.theory.Ways.{told_further, told_other}
-use Rattle.table_read.specs.theory.BlockSlots.{chain_low, Going, going_first, going_here, going_on, going_full}
+use Rattle.table_read.specs.theory.BlockSlots.{chain_low, going_first, going_here, going_on, going_full}
 use Rattle.table_read.proofs.lists.block_slot_of.Goals as goal
 
 pub loop-q-init : goal.loop-q-init

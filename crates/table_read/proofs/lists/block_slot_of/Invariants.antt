@@ -1,11 +1,6 @@
 -- The place from here on, less the slots of the blocks passed, is that of the whole list.
-use mathlib.Core.Path.{◌∙◌}
-use native.Mathlib.Omega.{arith}
-use borrow.Author.Rules.{rules}
 use Rattle.table.specs.Decode.{decode}
-use Rattle.table_read.specs.theory.Reads.{sized}
-use Rattle.table.specs.theory.Ways.{told_further, told_other}
-use Rattle.table_read.specs.theory.BlockSlots.{chain_low, Going, going_first, going_here, going_on, going_full}
+use Rattle.table_read.specs.theory.BlockSlots.{Going}
 use Rattle.table_read.proofs.lists.block_slot_of.Given as goal
 
 abbrev pub invariant-loop-q : goal.invariant-loop-q

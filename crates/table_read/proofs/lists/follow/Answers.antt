@@ -1,10 +1,8 @@
 -- The last block from here on, with the blocks that are left, is that of the whole list.
 use mathlib.Core.Path.{◌≡◌, sym, ap, ◌∙◌}
-use Prim.Native.Nat.{ℕ, ◌+◌, ◌-◌, ◌≤◌}
-use mathlib.Core.List.{List}
+use Prim.Native.Nat.{◌+◌, ◌-◌}
 use native.Mathlib.Omega.{arith}
-use borrow.Author.Rules.{rules}
-use Rattle.table.specs.State.{Overflow, overflow_at}
+use Rattle.table.specs.State.{overflow_at}
 use Rattle.table.specs.Decode.{decode}
 use Rattle.table_read.specs.Steps.{last_from, last_as}
 use Rattle.table.specs.theory.Ways.{told_last, told_further, told_damage}

@@ -1,11 +1,9 @@
 -- The invariant: the list goes on at block b, and the answer is the same from there. The measure is the turns left.
 use Rattle.std.proofs.Common.{inl}
 use mathlib.Core.Path.{◌≡◌, sym, ap, ◌∙◌}
-use Prim.Native.Nat.{ℕ, ◌+◌, ◌-◌, ◌≤◌}
+use Prim.Native.Nat.{ℕ, ◌+◌, ◌-◌}
 use native.Mathlib.Omega.{arith}
-use borrow.Author.Rules.{rules}
 use Rattle.table.specs.Decode.{decode}
-use Rattle.table_read.specs.Steps.{Followed}
 use Rattle.table.specs.theory.Ways.{told_further, told_other}
 use Rattle.table_read.specs.theory.Walks.{OneStep, one_step}
 use Rattle.table_read.specs.BlockSlots.{has_block}

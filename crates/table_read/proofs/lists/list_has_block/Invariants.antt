@@ -1,14 +1,9 @@
 -- The invariant: the list goes on at block b, and the answer is the same from there. The measure is the turns left.
-use mathlib.Core.Path.{◌≡◌, sym, ap, ◌∙◌}
-use Prim.Native.Nat.{ℕ, ◌+◌, ◌-◌, ◌≤◌}
-use native.Mathlib.Omega.{arith}
-use borrow.Author.Rules.{rules}
+use mathlib.Core.Path.{◌≡◌}
+use Prim.Native.Nat.{◌-◌, ◌≤◌}
 use Rattle.table.specs.Decode.{decode}
 use Rattle.table_read.specs.Steps.{Followed}
-use Rattle.table.specs.theory.Ways.{told_further, told_other}
-use Rattle.table_read.specs.theory.Walks.{OneStep, one_step}
 use Rattle.table_read.specs.BlockSlots.{has_block}
-use Rattle.table_read.specs.theory.BlockSlots.{has_here, has_last, has_on}
 use Rattle.table_read.proofs.lists.list_has_block.Given as goal
 
 abbrev pub invariant-loop-q : goal.invariant-loop-q

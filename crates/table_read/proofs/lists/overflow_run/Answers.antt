@@ -3,7 +3,6 @@ use mathlib.Core.Path.{ap, ◌∙◌}
 use Prim.Native.Nat.{ℕ, min}
 use native.Mathlib.Numerals.{add-one}
 use Rattle.table_read.specs.Steps.{overflow_run}
-use borrow.Author.Rules.{rules}
 use Rattle.table_read.proofs.lists.overflow_run.Goals as goal
 
 pub returns : goal.returns

@@ -2,7 +2,6 @@
 use Prim.Native.Nat.{◌*◌, ◌≤◌}
 use native.Mathlib.Nat.{mul-le-mul}
 use native.Mathlib.Omega.{arith}
-use borrow.Author.Rules.{rules}
 use Rattle.table_read.proofs.numbers.basic_number.Goals as goal
 use Rattle.table_read.proofs.numbers.basic_number.Goals.{Start}
 

@@ -1,6 +1,5 @@
 -- The link, the owner and the slots up to p are within the block.
 use native.Mathlib.Omega.{arith}
-use borrow.Author.Rules.{rules}
 use native.Mathlib.Nat.{mul-le-mul_right}
 use Rattle.table.specs.Decode.{overflow_slots}
 use Rattle.table_read.specs.Places.{overflow_slot}

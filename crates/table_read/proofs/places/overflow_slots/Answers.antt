@@ -1,6 +1,5 @@
 -- The slots of an overflow block stand behind its link and its owner.
 use native.Mathlib.Omega.{arith}
-use borrow.Author.Rules.{rules}
 use Rattle.table.specs.Decode.{overflow_slots}
 use Rattle.table_read.specs.theory.Places.{over_fields}
 use Rattle.table_read.proofs.places.overflow_slots.Goals as goal

@@ -1,6 +1,5 @@
 -- The divisors are powers of two, which are not 0.
 use lib.Pow.{pow_pos}
-use borrow.Author.Rules.{rules}
 use Rattle.table_read.proofs.slots.bits_above.Goals as goal
 
 pub nonzero_div-result : goal.nonzero_div-result

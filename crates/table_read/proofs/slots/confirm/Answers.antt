@@ -5,7 +5,6 @@ use native.Mathlib.Omega.{arith}
 use lib.ListN.{length}
 use borrow.Author.Count.{below_more}
 use borrow.Author.Tests.{eqb-true, eqb-false}
-use borrow.Author.Rules.{rules}
 use Rattle.settings.specs.Legal.{most_bits}
 use Rattle.keys.specs.Key.{key_number}
 use Rattle.table_read.specs.theory.Rows.{entry_inside}

@@ -1,7 +1,6 @@
 -- The entry in one number, or in two side by side.
 use native.Mathlib.Omega.{arith}
 use mathlib.Core.Path.{refl}
-use borrow.Author.Rules.{rules}
 use Rattle.table_read.specs.Steps.{restored_bytes}
 use Rattle.table_read.specs.theory.Reads.{short_key, long_key}
 use Rattle.table_read.proofs.slots.entry_at.Goals as goal

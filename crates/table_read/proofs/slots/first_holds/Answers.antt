@@ -7,7 +7,6 @@ use Rattle.keys.specs.Key.{key_number}
 use Rattle.keys.specs.theory.Halves.{mod_low}
 use Rattle.table_read.specs.Steps.{restored_bytes, FieldWithin}
 use Rattle.table_read.specs.theory.Reads.{restored_bytes_out, last_differ}
-use borrow.Author.Rules.{rules}
 use Rattle.table_read.proofs.slots.first_holds.Goals as goal
 use Rattle.table_read.proofs.slots.first_holds.Goals.{Start}
 

@@ -6,7 +6,6 @@ use lib.Dec.{eqb}
 use Rattle.keys.specs.Key.{key_number}
 use Rattle.keys.specs.declared.Key.{Key}
 use Rattle.table_read.specs.theory.Reads.{entry_low, entry_differs, entry_halves}
-use borrow.Author.Rules.{rules}
 use Rattle.table_read.proofs.slots.holds.Goals as goal
 use Rattle.table_read.proofs.slots.holds.Goals.{Start}
 

@@ -4,7 +4,6 @@ use native.Mathlib.Omega.{arith}
 use Rattle.bits.specs.theory.Fields.{field_fits}
 use Rattle.table_read.specs.Steps.{restored_bytes}
 use Rattle.table_read.specs.theory.Reads.{restored_bytes_out}
-use borrow.Author.Rules.{rules}
 use Rattle.table_read.proofs.slots.label_at.Goals as goal
 
 pub overflow_cast-result : goal.overflow_cast-result

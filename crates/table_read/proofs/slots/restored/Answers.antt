@@ -6,7 +6,6 @@ use Rattle.bits.specs.Field.{field}
 use Rattle.bits.specs.theory.Fields.{field_fits}
 use Rattle.table_read.specs.Steps.{restored_bytes}
 use Rattle.table_read.specs.theory.Reads.{restored_bytes_out, restored_bytes_in, restored_bytes_across}
-use borrow.Author.Rules.{rules}
 use Rattle.table_read.proofs.slots.restored.Goals as goal
 use Rattle.table_read.proofs.slots.restored.Goals.{After-get-2}
 

@@ -5,7 +5,6 @@ use native.Mathlib.Omega.{arith}
 use lib.Dec.{eqb}
 use Rattle.table_read.specs.Steps.{restored_bytes}
 use Rattle.table_read.specs.theory.Reads.{entry_low, entry_differs, entry_halves}
-use borrow.Author.Rules.{rules}
 use Rattle.table_read.proofs.slots.same_entry.Goals as goal
 
 pub returns-then-n-le64 : goal.returns-then-n-le64

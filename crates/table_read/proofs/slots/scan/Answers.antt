@@ -2,7 +2,6 @@
 use native.Mathlib.Omega.{arith}
 use Rattle.keys.specs.Key.{key_number}
 use Rattle.table_read.specs.theory.Rows.{fewer, none_first}
-use borrow.Author.Rules.{rules}
 use Rattle.table_read.proofs.slots.scan.Goals as goal
 
 pub candidate-requires : goal.candidate-requires

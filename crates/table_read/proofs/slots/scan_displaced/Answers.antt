@@ -10,7 +10,6 @@ use Rattle.bits.specs.theory.Puts.{put_out}
 use Rattle.keys.specs.Key.{key_number}
 use Rattle.table_read.specs.Steps.{restored_bytes}
 use Rattle.table_read.specs.theory.Rows.{behind, found_behind}
-use borrow.Author.Rules.{rules}
 use Rattle.table_read.proofs.slots.scan_displaced.Goals as goal
 use Rattle.table_read.proofs.slots.scan_displaced.Goals.{Start}
 

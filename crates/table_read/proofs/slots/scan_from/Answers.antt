@@ -1,12 +1,11 @@
 -- No slot that was passed holds the entry.
-use mathlib.Core.Path.{◌≡◌, sym, ◌∙◌}
-use Prim.Native.Nat.{ℕ, ◌+◌, ◌-◌, ◌*◌, ◌^◌, ◌≤◌, ◌<◌}
+use mathlib.Core.Path.{sym, ◌∙◌}
+use Prim.Native.Nat.{ℕ, ◌+◌, ◌*◌, ◌≤◌, ◌<◌}
 use native.Mathlib.Omega.{arith}
 use borrow.Author.Count.{below_more}
 use borrow.Author.Tests.{eqb-true, eqb-false}
 use lib.ListN.{length}
 use Rattle.settings.specs.Legal.{most_bits}
-use Rattle.bits.specs.Field.{field}
 use Rattle.keys.specs.Key.{key_number}
 use Rattle.table_read.specs.theory.Rows.{entry_inside}
 use Rattle.table_read.proofs.slots.scan_from.Goals as goal

@@ -4,7 +4,6 @@ use Prim.Native.Nat.{ℕ, ◌+◌, ◌-◌, ◌*◌, ◌/◌, ◌%◌, ◌^◌, 
 use native.Mathlib.Omega.{arith}
 use native.Mathlib.Nat.{mod-lt}
 use lib.Pow.{pow_pos, mod-mod-pow}
-use borrow.Author.Rules.{rules}
 use Rattle.bits.specs.Word.{swapped}
 use Rattle.bits.specs.theory.Words.{swapped_twice}
 use Rattle.table_read.proofs.WindowLaws.{by_window, words_within, tails_within, last_of, all_of, swapped_four}

@@ -1,8 +1,8 @@
 -- From the last slot back, no slot from j up to r has the bits (`Past`).
-use mathlib.Core.Path.{◌≡◌, ◌∙◌}
-use Prim.Native.Nat.{◌+◌, ◌-◌, ◌*◌, ◌≤◌}
+use mathlib.Core.Path.{◌∙◌}
+use Prim.Native.Nat.{◌-◌}
 use native.Mathlib.Omega.{arith}
-use Rattle.table_read.proofs.WindowLaws.{Back, back, Past, past_here, past_more, past_all}
+use Rattle.table_read.proofs.WindowLaws.{Back, back, past_here, past_more, past_all}
 use Rattle.table_read.proofs.windows.first_tail.Goals as goal
 use Rattle.table_read.proofs.windows.first_tail.Goals.{In-loop-j}
 

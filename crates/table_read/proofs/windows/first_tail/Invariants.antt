@@ -1,8 +1,7 @@
 -- From the last slot back, no slot from j up to r has the bits (`Past`).
-use mathlib.Core.Path.{◌≡◌, ◌∙◌}
-use Prim.Native.Nat.{◌+◌, ◌-◌, ◌*◌, ◌≤◌}
-use native.Mathlib.Omega.{arith}
-use Rattle.table_read.proofs.WindowLaws.{Back, back, Past, past_here, past_more, past_all}
+use mathlib.Core.Path.{◌≡◌}
+use Prim.Native.Nat.{◌+◌, ◌*◌, ◌≤◌}
+use Rattle.table_read.proofs.WindowLaws.{Past}
 use Rattle.table_read.proofs.windows.first_tail.Given as goal
 
 abbrev pub invariant-loop-j : goal.invariant-loop-j

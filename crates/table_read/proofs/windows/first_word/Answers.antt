@@ -1,10 +1,9 @@
 -- From the last slot back, no slot from j up to r has the bits (`Past`).
-use mathlib.Core.Path.{◌≡◌, sym, ◌∙◌}
-use Prim.Native.Nat.{◌+◌, ◌-◌, ◌*◌, ◌≤◌}
+use mathlib.Core.Path.{sym, ◌∙◌}
+use Prim.Native.Nat.{◌-◌}
 use native.Mathlib.Omega.{arith}
 use borrow.Author.Tests.{eqb-false}
-use Rattle.bits.specs.Word.{swapped}
-use Rattle.table_read.proofs.WindowLaws.{Back, back, in_bits, Past, past_here, past_more, past_all}
+use Rattle.table_read.proofs.WindowLaws.{Back, back, in_bits, past_here, past_more, past_all}
 use Rattle.table_read.proofs.windows.first_word.Goals as goal
 use Rattle.table_read.proofs.windows.first_word.Goals.{In-loop-j}
 

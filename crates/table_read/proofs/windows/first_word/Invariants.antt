@@ -1,10 +1,8 @@
 -- From the last slot back, no slot from j up to r has the bits (`Past`).
-use mathlib.Core.Path.{◌≡◌, sym, ◌∙◌}
-use Prim.Native.Nat.{◌+◌, ◌-◌, ◌*◌, ◌≤◌}
-use native.Mathlib.Omega.{arith}
-use borrow.Author.Tests.{eqb-false}
+use mathlib.Core.Path.{◌≡◌}
+use Prim.Native.Nat.{◌+◌, ◌*◌, ◌≤◌}
 use Rattle.bits.specs.Word.{swapped}
-use Rattle.table_read.proofs.WindowLaws.{Back, back, in_bits, Past, past_here, past_more, past_all}
+use Rattle.table_read.proofs.WindowLaws.{Past}
 use Rattle.table_read.proofs.windows.first_word.Given as goal
 
 abbrev pub invariant-loop-j : goal.invariant-loop-j

@@ -1,9 +1,7 @@
 -- No slot that was passed has the bits.
-use mathlib.Core.Path.{◌≡◌, ◌∙◌}
-use Prim.Native.Nat.{◌+◌, ◌-◌, ◌*◌}
+use mathlib.Core.Path.{◌∙◌}
 use native.Mathlib.Omega.{arith}
 use native.Mathlib.Nat.{mul-le-mul_right}
-use Rattle.table_read.specs.Rows.{Unlike}
 use Rattle.table_read.proofs.WindowLaws.{unlike_none, unlike_more}
 use Rattle.table_read.proofs.windows.next_tail.Goals as goal
 

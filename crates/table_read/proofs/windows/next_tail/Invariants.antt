@@ -1,10 +1,7 @@
 -- No slot that was passed has the bits.
-use mathlib.Core.Path.{◌≡◌, ◌∙◌}
+use mathlib.Core.Path.{◌≡◌}
 use Prim.Native.Nat.{◌+◌, ◌-◌, ◌*◌}
-use native.Mathlib.Omega.{arith}
-use native.Mathlib.Nat.{mul-le-mul_right}
 use Rattle.table_read.specs.Rows.{Unlike}
-use Rattle.table_read.proofs.WindowLaws.{unlike_none, unlike_more}
 use Rattle.table_read.proofs.windows.next_tail.Given as goal
 
 abbrev pub invariant-loop-j : goal.invariant-loop-j

@@ -1,11 +1,8 @@
 -- No slot that was passed has the bits.
-use mathlib.Core.Path.{◌≡◌, sym, ◌∙◌}
-use Prim.Native.Nat.{◌+◌, ◌-◌, ◌*◌}
+use mathlib.Core.Path.{sym, ◌∙◌}
 use native.Mathlib.Omega.{arith}
 use native.Mathlib.Nat.{mul-le-mul_right}
 use borrow.Author.Tests.{eqb-false}
-use Rattle.bits.specs.Word.{swapped}
-use Rattle.table_read.specs.Rows.{Unlike}
 use Rattle.table_read.proofs.WindowLaws.{in_bits, unlike_none, unlike_more}
 use Rattle.table_read.proofs.windows.next_word.Goals as goal
 

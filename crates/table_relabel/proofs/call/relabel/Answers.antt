@@ -33,20 +33,20 @@ opened_at_after_enum_told c x e = sym c.admit.ensures ∙ ap (laid_if c.in-Layou
 open_at : (c : In-Granted) → let a = c.args in open_of a.s (length a.t.now) a.key ≡ laid.Layout c.in-Layout.g
 open_at c = opened_at_after_enum_told c _ c.in-Granted.is
 
-open-means-at : (c : In-Granted) → let a = c.args in Opened a.s (length a.t.now) a.key c.in-Layout.g
-open-means-at c = let a = c.args in open_means a.s a.key (length a.t.now) _ (open_at c)
+open_means_at : (c : In-Granted) → let a = c.args in Opened a.s (length a.t.now) a.key c.in-Layout.g
+open_means_at c = let a = c.args in open_means a.s a.key (length a.t.now) _ (open_at c)
 
 pub admit-requires : goal.admit-requires
 admit-requires c =
     sym c.layout.ensures ∙ c.in-Layout.is
 
 pub fits-requires : goal.fits-requires
-fits-requires c = val_high (open-means-at (goal.at.fits-requires c).In-Granted)
+fits-requires c = val_high (open_means_at (goal.at.fits-requires c).In-Granted)
 
 pub returns-then-not-fits : goal.returns-then-not-fits
 returns-then-not-fits c =
     let a = c.args in
-    label_refused a.t.now (relabel a.label) a.label refl (open-means-at (goal.at.returns-then-not-fits c).In-Granted) (sym c.fits.ensures ∙ c.if-not-fits.true)
+    label_refused a.t.now (relabel a.label) a.label refl (open_means_at (goal.at.returns-then-not-fits c).In-Granted) (sym c.fits.ensures ∙ c.if-not-fits.true)
 
 -- the label fits
 low : (c : Else-not-fits) → let a = c.args in a.label < 2 ^ a.s.val
@@ -85,7 +85,7 @@ returns-then-n-eq0 c =
 
 pub overflow_cast-label : goal.overflow_cast-label
 overflow_cast-label c =
-    record { fits = label_word (open-means-at (goal.at.overflow_cast-label c).In-Granted) (low (goal.at.overflow_cast-label c).Else-not-fits) }
+    record { fits = label_word (open_means_at (goal.at.overflow_cast-label c).In-Granted) (low (goal.at.overflow_cast-label c).Else-not-fits) }
 
 opened_at_else2 : (c : Else-n-eq0) (x : Admission) → c.admit.result ≡ x
     → let a = c.args in open_of a.s (length a.t.now) a.key ≡ laid_if c.in-Layout.g x
@@ -94,8 +94,8 @@ opened_at_else2 c x e = sym c.admit.ensures ∙ ap (laid_if c.in-Layout.g) e
 open_at_at_else2 : (c : Else-n-eq0) → let a = c.args in open_of a.s (length a.t.now) a.key ≡ laid.Layout c.in-Layout.g
 open_at_at_else2 c = opened_at_else2 c _ c.in-Granted.is
 
-open-means-at_at_else2 : (c : Else-n-eq0) → let a = c.args in Opened a.s (length a.t.now) a.key c.in-Layout.g
-open-means-at_at_else2 c = let a = c.args in open_means a.s a.key (length a.t.now) _ (open_at_at_else2 c)
+open_means_at_at_else2 : (c : Else-n-eq0) → let a = c.args in Opened a.s (length a.t.now) a.key c.in-Layout.g
+open_means_at_at_else2 c = let a = c.args in open_means a.s a.key (length a.t.now) _ (open_at_at_else2 c)
 
 low_at_else2 : (c : Else-n-eq0) → let a = c.args in a.label < 2 ^ a.s.val
 low_at_else2 c =
@@ -118,7 +118,7 @@ relabellable e =
       table = (sought_at_else2 e).table;
       list = (sought_at_else2 e).list_below;
       placed = found_placed (sought_at_else2 e) a.label (low_at_else2 e) e.find_in-found.result refl _ e.place_found-n.ensures (omega (arith, e.if-n-eq0.false));
-      fits = label_slot (open-means-at_at_else2 e) (low_at_else2 e);
+      fits = label_slot (open_means_at_at_else2 e) (low_at_else2 e);
     }
 
 pub relabel_plain-requires : goal.relabel_plain-requires
@@ -130,7 +130,7 @@ relabel_plain-requires c =
 
 pub overflow_cast-label-in-Granted : goal.overflow_cast-label-in-Granted
 overflow_cast-label-in-Granted c =
-    record { fits = label_word (open-means-at (goal.at.overflow_cast-label-in-Granted c).In-Granted) (low (goal.at.overflow_cast-label-in-Granted c).Else-not-fits) }
+    record { fits = label_word (open_means_at (goal.at.overflow_cast-label-in-Granted c).In-Granted) (low (goal.at.overflow_cast-label-in-Granted c).Else-not-fits) }
 
 pub relabel_place-requires : goal.relabel_place-requires
 relabel_place-requires c = relabellable (goal.at.relabel_place-requires c).Else-n-eq0

@@ -40,21 +40,21 @@ start_is : (c : After-displaced_run-run) → let a = c.args in c.displaced_run-r
 unfolding displaced_run
 start_is c = ap (λ (b : Slots). b.start) c.displaced_run-run.ensures
 
-displaced-is : (c : After-displaced_run-run) → c.displaced_run-run.result.displaced ≡ c.args.g.link
+displaced_is : (c : After-displaced_run-run) → c.displaced_run-run.result.displaced ≡ c.args.g.link
 unfolding displaced_run
-displaced-is c = ap (λ (b : Slots). b.displaced) c.displaced_run-run.ensures
+displaced_is c = ap (λ (b : Slots). b.displaced) c.displaced_run-run.ensures
 
-value-is : (c : After-displaced_run-run) → c.displaced_run-run.result.value ≡ c.overflow_link-old.result
+value_is : (c : After-displaced_run-run) → c.displaced_run-run.result.value ≡ c.overflow_link-old.result
 unfolding displaced_run
-value-is c = ap (λ (b : Slots). b.value) c.displaced_run-run.ensures
+value_is c = ap (λ (b : Slots). b.value) c.displaced_run-run.ensures
 
 end_at_after_overflow_link : (c : After-overflow_link-old) →
     let a = c.args in
     EndsAt a.g (last_from a.g a.i.0 a.g.nob (decode a.g a.t.now).overflow a.first.0) c.in-Block.last
 end_at_after_overflow_link c = ends_at _ _ _ (sym c.follow.ensures ∙ c.in-Block.is)
 
-old-fits : (c : After-overflow_link-old) → c.overflow_link-old.result < 2 ^ c.args.g.link
-old-fits c =
+old_fits : (c : After-overflow_link-old) → c.overflow_link-old.result < 2 ^ c.args.g.link
+old_fits c =
     omega (arith, c.overflow_link-old.ensures, link_lt c.args.g c.args.t.now c.requires.0.table _ (end_at_after_overflow_link c).low)
 
 pub store_over_displaced-new-requires : goal.store_over_displaced-new-requires
@@ -64,12 +64,12 @@ store_over_displaced-new-requires c =
     let T = c.requires.0.table in
     let F = T.proper in
     let l = label_ends c.requires.0 _ c.requires.2 c.requires.1 in
-    let r = basic_room a.g a.t.now T a.i.0 c.requires.0.list in record { val_bound = (omega (arith, l, T.room), omega (arith, l, bits_high a.g F), omega arith, F.val_high, omega arith, c.requires.0.fits); displaced_bound = (omega (arith, start_is (goal.at.store_over_displaced-new-requires c).After-displaced_run-run, displaced-is (goal.at.store_over_displaced-new-requires c).After-displaced_run-run, r, F.link_fits, T.room), omega (arith, displaced-is (goal.at.store_over_displaced-new-requires c).After-displaced_run-run, F.link_high), rw (displaced-is (goal.at.store_over_displaced-new-requires c).After-displaced_run-run, value-is (goal.at.store_over_displaced-new-requires c).After-displaced_run-run) (old-fits (goal.at.store_over_displaced-new-requires c).After-overflow_link-old)) }
+    let r = basic_room a.g a.t.now T a.i.0 c.requires.0.list in record { val_bound = (omega (arith, l, T.room), omega (arith, l, bits_high a.g F), omega arith, F.val_high, omega arith, c.requires.0.fits); displaced_bound = (omega (arith, start_is (goal.at.store_over_displaced-new-requires c).After-displaced_run-run, displaced_is (goal.at.store_over_displaced-new-requires c).After-displaced_run-run, r, F.link_fits, T.room), omega (arith, displaced_is (goal.at.store_over_displaced-new-requires c).After-displaced_run-run, F.link_high), rw (displaced_is (goal.at.store_over_displaced-new-requires c).After-displaced_run-run, value_is (goal.at.store_over_displaced-new-requires c).After-displaced_run-run) (old_fits (goal.at.store_over_displaced-new-requires c).After-overflow_link-old)) }
 
 pub put_overflow_link-requires : goal.put_overflow_link-requires
 put_overflow_link-requires c =
-    let new : c.store_over_displaced-new.result < 2 ^ c.args.g.link = rw (c.store_over_displaced-new.ensures.head, displaced-is (goal.at.put_overflow_link-requires c).After-displaced_run-run) (field_lt _ _ _) in
-    let old = old-fits (goal.at.put_overflow_link-requires c).After-overflow_link-old in
+    let new : c.store_over_displaced-new.result < 2 ^ c.args.g.link = rw (c.store_over_displaced-new.ensures.head, displaced_is (goal.at.put_overflow_link-requires c).After-displaced_run-run) (field_lt _ _ _) in
+    let old = old_fits (goal.at.put_overflow_link-requires c).After-overflow_link-old in
     (table_kept _ c.store_over_displaced-new.auto.t c.requires.0.table, (end (goal.at.put_overflow_link-requires c).In-Block).low, omega arith)
 
 pub returns : goal.returns
@@ -77,5 +77,5 @@ unfolding key_number
 returns c =
     let l = (end (goal.at.returns c).In-Block).is ∙ ends_there c.requires.0 c.requires.3 _ c.requires.4 in
     relabelled_under c.requires.0 c.requires.3 c.requires.1 _ _ _ _ _ _ _ _ _ _
-    l (value-is (goal.at.returns c).After-displaced_run-run ∙ c.overflow_link-old.ensures) (displaced-is (goal.at.returns c).After-displaced_run-run) (start_is (goal.at.returns c).After-displaced_run-run) c.requires.2 (omega arith) (omega arith)
+    l (value_is (goal.at.returns c).After-displaced_run-run ∙ c.overflow_link-old.ensures) (displaced_is (goal.at.returns c).After-displaced_run-run) (start_is (goal.at.returns c).After-displaced_run-run) c.requires.2 (omega arith) (omega arith)
     c.store_over_displaced-new.ensures c.put_overflow_link.ensures

@@ -11,12 +11,12 @@ use Rattle.table_relabel.proofs.label.relabel_place.Goals as goal
 use Rattle.table_relabel.proofs.label.relabel_place.Goals.{After-basic_slot}
 
 -- where the label begins
-at-is : (c : After-basic_slot) → let a = c.args in c.basic_slot.result + a.g.bie ≡ basic_slot a.g a.i.0 a.p + a.g.bie
-at-is c = ap (λ (n : ℕ). n + c.args.g.bie) c.basic_slot.ensures
+at_is : (c : After-basic_slot) → let a = c.args in c.basic_slot.result + a.g.bie ≡ basic_slot a.g a.i.0 a.p + a.g.bie
+at_is c = ap (λ (n : ℕ). n + c.args.g.bie) c.basic_slot.ensures
 
 label_in_lem : (c : After-basic_slot) → let a = c.args in c.basic_slot.result + a.g.bie + a.g.val ≤ a.g.bits
 label_in_lem c =
-    label_ends c.requires _ (at-is c) c.if-p-g.false
+    label_ends c.requires _ (at_is c) c.if-p-g.false
 
 pub overflow_add-begin : goal.overflow_add-begin
 overflow_add-begin c =
@@ -29,7 +29,7 @@ overflow_add-basic_slots c =
 
 pub relabel_first-requires : goal.relabel_first-requires
 relabel_first-requires c =
-    (c.requires, c.if-p-g.false, at-is (goal.at.relabel_first-requires c).After-basic_slot)
+    (c.requires, c.if-p-g.false, at_is (goal.at.relabel_first-requires c).After-basic_slot)
 
 pub put-requires : goal.put-requires
 put-requires c =
@@ -41,4 +41,4 @@ returns c =
     let a = c.args in
     relabelled_plain c.requires (λ j. omega (arith, c.slice_known-1.given j))
     c.if-p-g.false (omega (arith, c.if-begin-basic_slots.false, c.basic_slots.ensures, c.basic_slot.ensures)) _
-    (c.put.ensures ∙ ap (λ (n : ℕ). put_field a.t.now n a.g.val a.label) (at-is (goal.at.returns c).After-basic_slot))
+    (c.put.ensures ∙ ap (λ (n : ℕ). put_field a.t.now n a.g.val a.label) (at_is (goal.at.returns c).After-basic_slot))

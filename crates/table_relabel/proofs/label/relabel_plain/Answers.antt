@@ -12,8 +12,8 @@ use Rattle.table_relabel.proofs.label.relabel_plain.Goals as goal
 use Rattle.table_relabel.proofs.label.relabel_plain.Goals.{After-basic_slot}
 
 -- where the label begins
-at-is : (c : After-basic_slot) → let a = c.args in c.basic_slot.result + a.g.bie ≡ basic_slot a.g a.i.0 a.p + a.g.bie
-at-is c = ap (λ (n : ℕ). n + c.args.g.bie) c.basic_slot.ensures
+at_is : (c : After-basic_slot) → let a = c.args in c.basic_slot.result + a.g.bie ≡ basic_slot a.g a.i.0 a.p + a.g.bie
+at_is c = ap (λ (n : ℕ). n + c.args.g.bie) c.basic_slot.ensures
 
 -- no slot begins before the first
 first_slot : (g : Layout) (i p : ℕ) → basic_slots g i ≤ basic_slot g i p
@@ -22,15 +22,15 @@ first_slot g i p = omega arith
 
 pub overflow_add-at : goal.overflow_add-at
 overflow_add-at c =
-    omega (arith, label_ends c.requires.0 _ (at-is (goal.at.overflow_add-at c).After-basic_slot) c.requires.1, bits_high c.args.g c.requires.0.table.proper)
+    omega (arith, label_ends c.requires.0 _ (at_is (goal.at.overflow_add-at c).After-basic_slot) c.requires.1, bits_high c.args.g c.requires.0.table.proper)
 
 pub put-requires : goal.put-requires
 put-requires c =
-    record { within = label_within c.requires.0 _ (at-is (goal.at.put-requires c).After-basic_slot) c.requires.1; v_bound = c.requires.0.fits }
+    record { within = label_within c.requires.0 _ (at_is (goal.at.put-requires c).After-basic_slot) c.requires.1; v_bound = c.requires.0.fits }
 
 pub returns : goal.returns
 returns c =
     let a = c.args in
     relabelled_plain c.requires.0 (λ j. omega (arith, c.slice_known-1.given j)) c.requires.1
     (omega (arith, first_slot a.g a.i.0 a.p, c.requires.2)) _
-    (c.put.ensures ∙ ap (λ (n : ℕ). put_field a.t.now n a.g.val a.label) (at-is (goal.at.returns c).After-basic_slot))
+    (c.put.ensures ∙ ap (λ (n : ℕ). put_field a.t.now n a.g.val a.label) (at_is (goal.at.returns c).After-basic_slot))

@@ -1,6 +1,5 @@
 -- The counter of a block of the table.
 use native.Mathlib.Omega.{arith}
-use borrow.Author.Rules.{rules}
 use Rattle.table_read.specs.theory.Places.{basic_in}
 use Rattle.table_store.specs.Stores.{basic_counter_put}
 use Rattle.table_store.proofs.fields.put_basic_counter.Goals as goal

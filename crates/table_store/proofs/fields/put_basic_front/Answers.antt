@@ -1,6 +1,5 @@
 -- The first fields of a block of the table.
 use native.Mathlib.Omega.{arith}
-use borrow.Author.Rules.{rules}
 use Rattle.table.specs.Decode.{basic_slots}
 use Rattle.table_read.specs.theory.Places.{basic_in}
 use Rattle.table_store.specs.Stores.{basic_counter_put, head_put}

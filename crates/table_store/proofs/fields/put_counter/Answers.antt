@@ -1,7 +1,6 @@
 -- The counter is within the block.
 use mathlib.Core.Path.{ap, ◌∙◌}
 use Prim.Native.Nat.{ℕ}
-use borrow.Author.Rules.{rules}
 use Rattle.bits.specs.Put.{put_field}
 use Rattle.table_store.proofs.fields.put_counter.Goals as goal
 

@@ -1,5 +1,4 @@
 -- The free start stands first.
-use borrow.Author.Rules.{rules}
 use Rattle.table_store.specs.Stores.{free_put}
 use Rattle.table_store.proofs.fields.put_free_start.Goals as goal
 

@@ -2,7 +2,6 @@
 use mathlib.Core.Path.{ap₂, ◌∙◌}
 use Prim.Native.Nat.{ℕ, ◌+◌}
 use native.Mathlib.Omega.{arith}
-use borrow.Author.Rules.{rules}
 use Rattle.bits.specs.Put.{put_field}
 use Rattle.table.specs.Decode.{block_at}
 use Rattle.table.specs.theory.Written.{join_fits}

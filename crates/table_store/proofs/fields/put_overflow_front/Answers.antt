@@ -1,6 +1,5 @@
 -- The first fields of a block of the table.
 use native.Mathlib.Omega.{arith}
-use borrow.Author.Rules.{rules}
 use Rattle.table.specs.Decode.{link_at}
 use Rattle.table_read.specs.theory.Places.{over_in}
 use Rattle.table_store.specs.Stores.{overflow_counter_put, link_put}

@@ -2,7 +2,6 @@
 use mathlib.Core.Path.{ap, ◌∙◌}
 use Prim.Native.Nat.{ℕ}
 use native.Mathlib.Omega.{arith}
-use borrow.Author.Rules.{rules}
 use Rattle.bits.specs.Put.{put_field}
 use Rattle.table.specs.Decode.{link_at}
 use Rattle.table_read.specs.Places.{BlockIn}

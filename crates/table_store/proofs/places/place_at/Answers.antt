@@ -2,7 +2,6 @@
 use mathlib.Core.Path.{◌≡◌, sym, ap, ◌∙◌}
 use Prim.Native.Nat.{◌-◌, ◌<◌}
 use native.Mathlib.Omega.{arith}
-use borrow.Author.Rules.{rules}
 use borrow.Author.Tests.{lt-ltb, le-ltb}
 use Rattle.table.specs.Decode.{decode}
 use Rattle.table_read.specs.Places.{overflow_slot}
@@ -22,8 +21,8 @@ pub block_slot_of-s-requires : goal.block_slot_of-s-requires
 block_slot_of-s-requires c = (c.requires.0, c.requires.1.reaches c.if-p-g.false)
 
 -- the place is in a block of the table
-block-slot-low : (c : After-block_slot_of-s) → (c.block_slot_of-s.result.block.0 < c.args.g.nob) × (c.block_slot_of-s.result.slot.0 < c.args.g.sio)
-block-slot-low c =
+block_slot_low : (c : After-block_slot_of-s) → (c.block_slot_of-s.result.block.0 < c.args.g.nob) × (c.block_slot_of-s.result.slot.0 < c.args.g.sio)
+block_slot_low c =
     let a = c.args in
     let k = in_blocks_at a.g (decode a.g a.t.now).overflow (sized a.g a.t.now c.requires.0) a.h.0 (a.p - a.g.sib) (c.requires.1.reaches c.if-p-g.false) in
     let b : c.block_slot_of-s.result.block.0 ≡ _ = ap (λ (x : BlockSlot). x.block.0) c.block_slot_of-s.ensures in
@@ -31,7 +30,7 @@ block-slot-low c =
     (omega (arith, b, k.low), omega (arith, d, k.few))
 
 pub overflow_slot-requires : goal.overflow_slot-requires
-overflow_slot-requires c = let k = block-slot-low (goal.at.overflow_slot-requires c).After-block_slot_of-s in (c.requires.0.proper, k.0, k.1)
+overflow_slot-requires c = let k = block_slot_low (goal.at.overflow_slot-requires c).After-block_slot_of-s in (c.requires.0.proper, k.0, k.1)
 
 pub returns : goal.returns
 unfolding place_from

@@ -3,7 +3,6 @@ use mathlib.Core.Path.{◌≡◌}
 use Prim.Native.Nat.{◌-◌, ◌*◌, ◌/◌, ◌%◌, ◌^◌}
 use native.Mathlib.Omega.{arith}
 use lib.Pow.{shl_exact}
-use borrow.Author.Rules.{rules}
 use Rattle.table_store.specs.theory.StoreLaws.{high_word}
 use Rattle.table_store.proofs.slots.above.Goals as goal
 use Rattle.table_store.proofs.slots.above.Goals.{Start}

@@ -1,5 +1,4 @@
 -- The label's bits are those that the shift leaves free.
-use borrow.Author.Rules.{rules}
 use Rattle.table_store.specs.theory.StoreLaws.{low_word}
 use Rattle.table_store.proofs.slots.below.Goals as goal
 

@@ -8,7 +8,6 @@ use Rattle.bits.specs.Put.{put_field}
 use Rattle.bits.specs.theory.Fields.{field_lt, field_parts}
 use Rattle.bits.specs.theory.Words.{field_two}
 use Rattle.table_store.specs.theory.StoreLaws.{put_back}
-use borrow.Author.Rules.{rules}
 use Rattle.table_store.proofs.slots.copy.Goals as goal
 use Rattle.table_store.proofs.slots.copy.Goals.{After-get-low, After-get-low-2}
 

@@ -1,7 +1,6 @@
 -- Up to 64 bits of an entry are its low half; of more, the last 64.
 use Prim.Native.Nat.{◌+◌, ◌-◌}
 use native.Mathlib.Omega.{arith}
-use borrow.Author.Rules.{rules}
 use Rattle.bits.specs.theory.Fields.{field_fits, field_parts}
 use Rattle.keys.specs.Key.{key_number}
 use Rattle.table_store.proofs.slots.get_slot.Goals as goal

@@ -3,7 +3,6 @@ use mathlib.Core.Path.{◌≡◌, refl, ap, ap₂, ◌∙◌}
 use Prim.Native.Nat.{ℕ, ◌+◌, ◌*◌, ◌^◌}
 use native.Mathlib.Nat.{zero-add}
 use native.Mathlib.Omega.{arith}
-use borrow.Author.Rules.{rules}
 use Rattle.table.specs.theory.Written.{join_fits}
 use Rattle.bits.specs.Put.{put_field}
 use Rattle.table_store.specs.theory.StoreLaws.{slot_words, entry_high, put_back}

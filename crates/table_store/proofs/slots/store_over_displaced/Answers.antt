@@ -3,7 +3,6 @@ use mathlib.Core.Path.{◌≡◌}
 use Prim.Native.Nat.{◌^◌, ◌<◌}
 use native.Mathlib.Omega.{arith}
 use lib.ListN.{length}
-use borrow.Author.Rules.{rules}
 use Rattle.bits.specs.theory.Fields.{field_lt}
 use Rattle.keys.specs.Key.{key_number}
 use Rattle.table_store.specs.theory.StoreLaws.{stored_over}

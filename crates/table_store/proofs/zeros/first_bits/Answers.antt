@@ -2,7 +2,6 @@
 use Prim.Native.Nat.{◌-◌, ◌*◌, ◌/◌, ◌≤◌}
 use native.Mathlib.Omega.{arith}
 use lib.Pow.{pow_pos, split}
-use borrow.Author.Rules.{rules}
 use Rattle.table_store.specs.theory.StoreLaws.{first_bits}
 use Rattle.table_store.proofs.zeros.first_bits.Goals as goal
 use Rattle.table_store.proofs.zeros.first_bits.Goals.{After-pow-q}

@@ -3,7 +3,6 @@ use mathlib.Core.Path.{◌≡◌, ap, ◌∙◌}
 use Prim.Native.Nat.{ℕ, ◌-◌, ◌%◌, ◌^◌}
 use native.Mathlib.Omega.{arith}
 use lib.Pow.{pow_pos, split}
-use borrow.Author.Rules.{rules}
 use Rattle.table_store.specs.theory.StoreLaws.{last_bits}
 use Rattle.table_store.proofs.zeros.last_bits.Goals as goal
 use Rattle.table_store.proofs.zeros.last_bits.Goals.{After-pow}

@@ -24,9 +24,9 @@ use Rattle.text_calls.specs.Admits.{admitted_of}
 use Rattle.text_calls.proofs.calls.admit.Goals as goal
 
 -- reading refuses with 4 alone, so that the last refusal is what was read
-read-due : (x : List ℕ) (p : Parsed) → reading_of x ≡ p → unless_due (text_due x ∷ []) parsed.Refused (parsed.Key (key_read (reading_of x))) ≡ p
-read-due x (parsed.Key k) e = rw e
-read-due x (parsed.Refused why) e = rw e (ap parsed.Refused (read_refused x why e))
+read_due : (x : List ℕ) (p : Parsed) → reading_of x ≡ p → unless_due (text_due x ∷ []) parsed.Refused (parsed.Key (key_read (reading_of x))) ≡ p
+read_due x (parsed.Key k) e = rw e
+read_due x (parsed.Refused why) e = rw e (ap parsed.Refused (read_refused x why e))
 
 module _ (s : Settings) (t x : List ℕ) (g : Layout) (e : laid_of s ≡ laid.Layout g) where
   -- what goes on behind refusals 1 to 4
@@ -50,7 +50,7 @@ module _ (s : Settings) (t x : List ℕ) (g : Layout) (e : laid_of s ≡ laid.La
     narrow w = later ∙ rw w
 
     wide : eqb s.w 128 ≡ true → (p : Parsed) → reading_of x ≡ p → admitted_of s t x ≡ p
-    wide w p r = later ∙ rw w (read-due x p r)
+    wide w p r = later ∙ rw w (read_due x p r)
 
 pub returns-then-t-g : goal.returns-then-t-g
 returns-then-t-g c =

@@ -38,20 +38,20 @@ open_at c =
     let a = c.args in
     admitted_open a.s a.t.now a.text.now (laid_out_at_after_key c) (admitted_at_after_key c _ c.in-Key.is)
 
-open-means-at : (c : In-Key) → let a = c.args in Opened a.s (length a.t.now) c.in-Key.key c.in-Layout.g
-open-means-at c = let a = c.args in open_means a.s c.in-Key.key (length a.t.now) _ (open_at c)
+open_means_at : (c : In-Key) → let a = c.args in Opened a.s (length a.t.now) c.in-Key.key c.in-Layout.g
+open_means_at c = let a = c.args in open_means a.s c.in-Key.key (length a.t.now) _ (open_at c)
 
 pub admit-requires : goal.admit-requires
 admit-requires c = laid_out (goal.at.admit-requires c).In-Layout
 
 pub fits-requires : goal.fits-requires
-fits-requires c = val_high (open-means-at (goal.at.fits-requires c).In-Key)
+fits-requires c = val_high (open_means_at (goal.at.fits-requires c).In-Key)
 
 pub returns-then-not-fits : goal.returns-then-not-fits
 returns-then-not-fits c =
     let a = c.args in
     admitted_key a.s a.t.now a.text.now (enter a.label) (admitted (goal.at.returns-then-not-fits c).After-admit _ c.in-Key.is)
-    (label_refused a.t.now (enter a.label) a.label refl (open-means-at (goal.at.returns-then-not-fits c).In-Key) (sym c.fits.ensures ∙ c.if-not-fits.true))
+    (label_refused a.t.now (enter a.label) a.label refl (open_means_at (goal.at.returns-then-not-fits c).In-Key) (sym c.fits.ensures ∙ c.if-not-fits.true))
 
 -- the label fits
 low : (c : Else-not-fits) → let a = c.args in a.label < 2 ^ a.s.val
@@ -71,7 +71,7 @@ find_in-found-requires c =
 
 pub overflow_cast-label : goal.overflow_cast-label
 overflow_cast-label c =
-    record { fits = label_word (open-means-at (goal.at.overflow_cast-label c).In-Key) (low (goal.at.overflow_cast-label c).Else-not-fits) }
+    record { fits = label_word (open_means_at (goal.at.overflow_cast-label c).In-Key) (low (goal.at.overflow_cast-label c).Else-not-fits) }
 
 pub enter_sought-answer-requires : goal.enter_sought-answer-requires
 enter_sought-answer-requires c =

@@ -15,10 +15,10 @@ use Rattle.text_read.specs.declared.reader.Part.TheVariants as answer
 use Rattle.text_read.proofs.reader.after_gap.Goals as goal
 
 -- a part that is not the whole rest is refused
-not-whole : (v n : ℕ) (p : Part) → ((g : Groups) → p ≡ answer.Whole g → ⊥) → tail_answer v n p ≡ parsed.Refused refusal.Text
-not-whole v n answer.Bad t = refl
-not-whole v n (answer.Gap g next) t = refl
-not-whole v n (answer.Whole g) t = absurd (t g refl)
+not_whole : (v n : ℕ) (p : Part) → ((g : Groups) → p ≡ answer.Whole g → ⊥) → tail_answer v n p ≡ parsed.Refused refusal.Text
+not_whole v n answer.Bad t = refl
+not_whole v n (answer.Gap g next) t = refl
+not_whole v n (answer.Whole g) t = absurd (t g refl)
 
 -- the part behind the gap, which does not begin the text
 part : {p : Part} (s : List ℕ) {i : ℕ} → 0 < i → p ≡ part_at 0 0 (drop i s) i → p ≡ part_from 0 0 (drop i s) i
@@ -36,7 +36,7 @@ returns-in_default c =
     let h = c.args.head in
     c.refused.ensures
     ∙ sym (after_here (number_of h) h.count s i (omega (arith, c.requires.2, c.if-at-text.false))
-    ∙ ap (tail_answer (number_of h) h.count) (sym (part _ c.requires.1 c.read_part.ensures)) ∙ not-whole (number_of h) h.count c.read_part.result (search rules))
+    ∙ ap (tail_answer (number_of h) h.count) (sym (part _ c.requires.1 c.read_part.ensures)) ∙ not_whole (number_of h) h.count c.read_part.result (search rules))
 
 pub filled-requires-2 : goal.filled-requires-2
 filled-requires-2 c =

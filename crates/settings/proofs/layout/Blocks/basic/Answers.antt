@@ -1,5 +1,5 @@
 -- The widths are small, and the blocks are made of them.
-use Rattle.std.proofs.Common.{◌≡◌, ℕ, ◌+◌, ◌*◌, ◌≤◌, arith, rules}
+use Rattle.std.proofs.Common.{◌≡◌, ℕ, ◌+◌, ◌*◌, ◌≤◌, arith}
 use Rattle.settings.specs.Log.{ceil_log2}
 use Rattle.settings.specs.Sizes.{slot_bits, free_start_bits, basic_counter_bits, basic_block_bits}
 use Rattle.settings.specs.Layout.{basic_blocks}
@@ -8,12 +8,12 @@ use Rattle.settings.specs.declared.settings.Settings.{Settings}
 use Rattle.settings.proofs.layout.Blocks.basic.Goals as goal
 use Rattle.settings.proofs.layout.Blocks.basic.Goals.{After-wide}
 
-small-counter : (c : After-wide) → c.ceil_log2-counter.result ≤ 9
+small_counter : (c : After-wide) → c.ceil_log2-counter.result ≤ 9
 unfolding basic_counter_bits
-small-counter c = omega (arith, c.ceil_log2-counter.ensures, (widths_small c.args.s c.requires.0).2)
+small_counter c = omega (arith, c.ceil_log2-counter.ensures, (widths_small c.args.s c.requires.0).2)
 
 pub block_bits-requires : goal.block_bits-requires
-block_bits-requires c = (omega (arith, small-counter (goal.at.block_bits-requires c).After-wide), omega (arith, c.wide.ensures), omega (arith, c.requires.1))
+block_bits-requires c = (omega (arith, small_counter (goal.at.block_bits-requires c).After-wide), omega (arith, c.wide.ensures), omega (arith, c.requires.1))
 
 made : (s : Settings) {slot : ℕ} (f c b x : ℕ) → slot ≡ slot_bits s → f ≡ ceil_log2 (1 + s.nob) → c ≡ ceil_log2 (2 + s.sib) → x ≡ s.sib
     → b ≡ c + x * slot → record { start = f; counter = c; bits = b } ≡ basic_blocks s

@@ -1,5 +1,5 @@
 -- Each number is what its callee promises, and all sums are linear.
-use Rattle.std.proofs.Common.{◌≡◌, ℕ, ◌+◌, ◌-◌, ◌*◌, ◌/◌, ◌^◌, ◌≤◌, ap, arith, pow_mono, rules}
+use Rattle.std.proofs.Common.{◌≡◌, ℕ, ◌+◌, ◌-◌, ◌*◌, ◌/◌, ◌^◌, ◌≤◌, ap, arith, pow_mono}
 use Rattle.settings.specs.Log.{ceil_log2}
 use Rattle.settings.specs.Sizes.{link_bits, lists, overflow_start, table_bits, table_bytes}
 use Rattle.settings.specs.Layout.{basic_blocks, overflow_blocks, layout_of}

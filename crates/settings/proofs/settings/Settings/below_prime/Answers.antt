@@ -1,5 +1,5 @@
 -- Each of the two is what `below` ensures, and p is above 2 ^ bii.
-use Rattle.std.proofs.Common.{◌≡◌, ℕ, ◌≤◌, Bool, ◌&&◌, ltb, leb, sym, arith, rules}
+use Rattle.std.proofs.Common.{◌≡◌, ℕ, ◌≤◌, Bool, ◌&&◌, ltb, leb, sym, arith}
 use mathlib.Core.Bool.{and_assoc}
 use Rattle.settings.specs.Prime.{prime_above}
 use Rattle.settings.specs.Legal.{below_prime}

@@ -1,5 +1,5 @@
 -- The code's `&` is the definition's `&&`, in other groups.
-use Rattle.std.proofs.Common.{◌≡◌, Bool, ◌&&◌, ltb, leb, rules}
+use Rattle.std.proofs.Common.{◌≡◌, Bool, ◌&&◌, ltb, leb}
 use mathlib.Core.Bool.{and_assoc}
 use Rattle.settings.specs.Legal.{in_ranges}
 use Rattle.settings.specs.declared.settings.Settings.{Settings}

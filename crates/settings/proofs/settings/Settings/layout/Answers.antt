@@ -1,6 +1,5 @@
 -- Settings that fail a test are not legal; those that pass all keep every range and rule.
-use Rattle.std.proofs.Common.{◌≡◌, true, sym, ap, ◌∙◌, rules}
-use borrow.Author.Tests.{not-true, not-false}
+use Rattle.std.proofs.Common.{◌≡◌, true, sym, ap, ◌∙◌}
 use Rattle.settings.specs.Legal.{in_ranges, Ranges}
 use Rattle.settings.specs.theory.Legal.{ranges_of, in_ranges_if, fits_if, below_prime_if, laid_if_lem, refused_if}
 use Rattle.settings.specs.declared.layout.Laid.TheVariants as laid

@@ -1,5 +1,5 @@
 -- What the layout's answer tells decides this one.
-use Rattle.std.proofs.Common.{sym, ap, ◌∙◌, rules}
+use Rattle.std.proofs.Common.{sym, ap, ◌∙◌}
 use Rattle.settings.specs.Made.{made_of}
 use Rattle.settings.specs.theory.Legal.{laid_layout, laid_refused}
 use Rattle.settings.specs.declared.settings.Made.TheVariants as made

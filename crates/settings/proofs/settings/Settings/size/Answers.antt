@@ -1,5 +1,5 @@
 -- What the layout's answer tells decides this one.
-use Rattle.std.proofs.Common.{sym, ap, ◌∙◌, rules}
+use Rattle.std.proofs.Common.{sym, ap, ◌∙◌}
 use Rattle.settings.specs.Layout.{layout_of}
 use Rattle.settings.specs.Made.{size_of}
 use Rattle.settings.specs.theory.Legal.{laid_layout, laid_refused}
