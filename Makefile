@@ -1,6 +1,7 @@
 # make          proves and builds the program and the library's archive, where a crate has changed
 # make run      the same for the program alone, and runs it on examples/sample.txt
-# make test     makes every proof from nothing and passes all tests; the last line is 'N passed, 0 failed'
+# make test     proves every crate, tries the edits that must be refused, and passes all tests; the last line is
+#               'N passed, 0 failed'
 # make bench    prints the benchmarks: some minutes on an idle machine
 # make install  installs the program, the library, its header, a pkg-config file and manual pages, under DESTDIR and
 #               PREFIX
@@ -9,6 +10,8 @@ INSTALLED = $(DESTDIR)$(PREFIX)
 PROGRAM = target/bin/filter
 ARCHIVE = target/staticlib/libshelfegret.a
 SOURCES = crates.txt $(shell find crates -path '*/out' -prune -o \( -name '*.rt' -o -name '*.antt' \) -print)
+# Any x86-64: the toolchain's own choice would want SSE4.1.
+CPU = --cpu=x86-64
 SHELL = /bin/bash
 .SHELLFLAGS = -o pipefail -c
 export LC_ALL = C
@@ -20,14 +23,14 @@ all: $(PROGRAM) $(ARCHIVE)
 
 $(PROGRAM): $(SOURCES)
 	@mkdir -p $(@D)
-	@echo 'rt run, in crates/filter'
-	@cd crates/filter && rt run </dev/null $(call SHOWN,../../target/filter.log)
+	@echo 'rt run $(CPU), in crates/filter'
+	@cd crates/filter && rt run $(CPU) </dev/null $(call SHOWN,../../target/filter.log)
 	@cp crates/filter/out/filter $@
 
 $(ARCHIVE): $(SOURCES)
 	@mkdir -p $(@D)
-	@echo 'rt lib, in crates/shelfegret'
-	@cd crates/shelfegret && rt lib $(call SHOWN,../../target/shelfegret.log)
+	@echo 'rt lib $(CPU), in crates/shelfegret'
+	@cd crates/shelfegret && rt lib $(CPU) $(call SHOWN,../../target/shelfegret.log)
 	@cp crates/shelfegret/out/libshelfegret.a $@
 
 run: $(PROGRAM)

@@ -1,9 +1,9 @@
 -- How much a read or a write has moved.
-use Rattle.std.proofs.Common.{◌≡◌, ℕ, ◌+◌, ◌≤◌, List, [], ◌++◌, take, drop, sym, subst, append_assoc, append-nil, take-add, false, Result, Ok, Err, arith}
+use Rattle.std.proofs.Common.{◌≡◌, ℕ, ◌+◌, ◌≤◌, List, [], ◌++◌, take, drop, sym, subst, append_assoc, append-nil, take-add, Result, Ok, Err}
 use Rattle.std.specs.Prelude.{IfOk}
 use Rattle.std.specs.declared.io.Error.{Error}
 use Rattle.std.proofs.Math.Seq.{take-take}
-use Rattle.filter.specs.World.{Moved, Takes, Wrote, erred}
+use Rattle.filter.specs.World.{Moved, Takes}
 
 -- what std's read and write promise of their count
 pub moved_within : (r : Result ℕ Error) (m : ℕ) (P : ℕ → Type 0) → ((n : ℕ) → P n → n ≤ m) → IfOk r P → Moved m r
@@ -21,7 +21,3 @@ pub takes_more : (buf : List ℕ) (done n k : ℕ) → Takes (take done buf) →
 takes_more buf done n k f h g =
     let part : take n (take k (drop done buf)) ≡ take n (drop done buf) = take-take n k (drop done buf) h in
     subst Takes (sym (take-add done n buf)) (takes_then (take done buf) (take n (drop done buf)) f (subst Takes part g))
-
--- not all of them, since there was an error
-pub short : (n : ℕ) (buf : List ℕ) → Takes (take n buf) → Wrote buf false
-short n buf t = record { much = n; takes = t; whole = λ f. let z : ◌≡◌ {A = ℕ} 0 1 = cc in absurd (omega arith); errs = λ _. erred }

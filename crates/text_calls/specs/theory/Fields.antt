@@ -33,7 +33,7 @@ field_text f = go f.group f
     go : {s : List ℕ} {g : ℕ} → Group s g → Field s g → s ≡ group_text g
     go (hex1 {x = x} {a = a} p) f = rw (text_1 a (digit_below p), digit_text p (f.no_capital [] x [] refl))
     go (hex2 {x = x} {y = y} {a = a} {b = b} p q) f =
-        let n = not_zero p (λ e. f.no_leading_zero_lem y [] (rw e)) in
+        let n = not_zero p (λ e. f.no_leading_zero y [] (rw e)) in
         let m : (a < 16) × (b < 16) = (digit_below p, digit_below q) in
         let g : ℕ = a * 16 + b in
         let i : g / 16 ≡ a = omega arith in
@@ -42,7 +42,7 @@ field_text f = go f.group f
         let w = digit_text q (f.no_capital (x ∷ []) y [] refl) in
         rw (text_2 g (omega arith) (omega arith), i, j, v, w)
     go (hex3 {x = x} {y = y} {z = z} {a = a} {b = b} {c = c} p q r) f =
-        let n = not_zero p (λ e. f.no_leading_zero_lem y (z ∷ []) (rw e)) in
+        let n = not_zero p (λ e. f.no_leading_zero y (z ∷ []) (rw e)) in
         let m : (a < 16) × (b < 16) × (c < 16) = (digit_below p, digit_below q, digit_below r) in
         let g : ℕ = (a * 16 + b) * 16 + c in
         let i : g / 256 ≡ a = omega arith in
@@ -53,7 +53,7 @@ field_text f = go f.group f
         let w = digit_text r (f.no_capital (x ∷ y ∷ []) z [] refl) in
         rw (text_3 g (omega arith) (omega arith), i, j, k, u, v, w)
     go (hex4 {x = x} {y = y} {z = z} {u = o} {a = a} {b = b} {c = c} {d = d} p q r s) f =
-        let n = not_zero p (λ e. f.no_leading_zero_lem y (z ∷ o ∷ []) (rw e)) in
+        let n = not_zero p (λ e. f.no_leading_zero y (z ∷ o ∷ []) (rw e)) in
         let m : (a < 16) × (b < 16) × (c < 16) × (d < 16) = (digit_below p, digit_below q, digit_below r, digit_below s) in
         let g : ℕ = ((a * 16 + b) * 16 + c) * 16 + d in
         let i : g / 4096 ≡ a = omega arith in
@@ -96,7 +96,7 @@ pub group_field : (g : ℕ) → g < 65536 → Field (group_text g) g
 unfolding group_text
 group_field g h =
     let l : List ℕ = g / 4096 ∷ g / 256 % 16 ∷ g / 16 % 16 ∷ g % 16 ∷ [] in
-    record { group = group_written g h; no_leading_zero_lem = no_zeros l; no_capital = no_capitals (trimmed l) }
+    record { group = group_written g h; no_leading_zero = no_zeros l; no_capital = no_capitals (trimmed l) }
 
 -- Fields parted by colons -----------------------------------------------------------------------------------------------
 
