@@ -2,7 +2,9 @@
 #![tactic(auto)]
 
 mod answers;
+mod damage;
 mod step;
 
 pub use answers::{Answer, CheckAnswer, MakeAnswer, RecordAnswer, Word};
+pub use damage::Damage;
 pub use step::{Before, Step};
