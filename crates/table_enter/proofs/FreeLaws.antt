@@ -1,4 +1,5 @@
 -- The first free block, and a list that can be followed.
+use Rattle.std.specs.Prelude.{Err}
 use mathlib.Core.Path.{◌≡◌, refl, sym, ap, ap₂, ◌∙◌}
 use mathlib.Core.Bool.{true, false}
 use mathlib.Core.List.{List, [], ◌∷◌}
@@ -23,12 +24,11 @@ use Rattle.table_read.specs.theory.Walks.{last_low, content_short}
 use Rattle.table_read.specs.theory.BlockSlots.{Chained, gather_some, last_block_slot, long_full, long_ends, long_blocks, long_own, long_length}
 use Rattle.table_read.specs.theory.Reads.{unpack_length}
 use Rattle.table_read.specs.declared.lists.BlockSlot.{BlockSlot}
-use Rattle.table.specs.declared.answers.Answer.{Answer}
-use Rattle.table.specs.declared.answers.Answer.TheVariants as answer
 use Rattle.keys.specs.declared.BlockNumber.{BlockNumber}
 use Rattle.keys.specs.declared.FreeStart.{FreeStart}
 use Rattle.table_enter.specs.Enters.{free_block, free_of, EndsIn, Readable}
 use Rattle.table_enter.specs.declared.append.Free.TheVariants as free
+use Rattle.table.specs.Answer.{Answer}
 
 -- ---- the first free block
 
@@ -119,10 +119,10 @@ module _ (g : Layout) (st : State) where
 
   -- where there is no free block, the answer is that refusal, whatever list asks
   pub no_take : (bs : List ℕ) (y : Done) (a : Answer) (why : Refusal) → free_of g st ≡ free.Refused why
-      → answered a (taking g st bs y) ≡ unchanged (answer.Refused why)
+      → answered a (taking g st bs y) ≡ unchanged (Err why)
   unfolding free_of
   no_take bs y a why =
-      let say : Refusal → Answered = λ w. unchanged (answer.Refused w) in
+      let say : Refusal → Answered = λ w. unchanged (Err w) in
       cases (ltb g.nob st.free)
       (λ p. rw p (λ e. ap say (same_why why refusal.Damage e)))
       (λ p. cases (eqb st.free g.nob)

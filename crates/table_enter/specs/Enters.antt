@@ -14,8 +14,7 @@ use Rattle.table_read.specs.Steps.{last_from}
 use Rattle.table.specs.Done.{Done, Answered, answered, replied}
 use Rattle.table.specs.Check.{blocks_of}
 use Rattle.settings.specs.Reply.{Gives}
-use Rattle.table.specs.declared.answers.Answer.{Answer}
-use Rattle.table.specs.Answer.{said}
+use Rattle.table.specs.Answer.{said, Answer}
 use Rattle.table.specs.declared.answers.Word.TheVariants as word
 use Rattle.table_store.specs.Stores.{Slotted}
 use Rattle.table_enter.specs.declared.append.Item.{Item}

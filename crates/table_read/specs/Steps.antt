@@ -13,8 +13,7 @@ use Rattle.table.specs.Find.{position, is_held, label_at}
 use Rattle.table_read.specs.declared.slots.Slots.{Slots}
 use Rattle.table_read.specs.declared.lists.Last.{Last}
 use Rattle.table_read.specs.declared.lists.Last.TheVariants as last
-use Rattle.table.specs.declared.answers.Answer.{Answer}
-use Rattle.table.specs.Answer.{said}
+use Rattle.table.specs.Answer.{said, Answer}
 use Rattle.table.specs.declared.answers.Word.TheVariants as word
 
 -- the bytes in which the first bits of the slots b are what they count as

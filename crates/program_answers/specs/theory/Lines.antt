@@ -1,5 +1,5 @@
 -- What a line comes to, by what was parsed and read of it.
-use Rattle.std.specs.Prelude.{◌≡◌, true, false, List, ℕ, ◌≤◌, ◌<◌, length}
+use Rattle.std.specs.Prelude.{◌≡◌, true, false, List, ℕ, ◌≤◌, ◌<◌, length, Err, Ok}
 use Rattle.std.proofs.Math.Path.{ap}
 use Rattle.std.proofs.Common.{◌∙◌}
 use Rattle.std.proofs.Math.Option.{none}
@@ -9,7 +9,6 @@ use Rattle.settings.specs.Reply.{reply, answering}
 use Rattle.settings.specs.declared.refusal.Refusal.{Refusal}
 use Rattle.settings.specs.declared.refusal.Refusal.TheVariants as refusal
 use Rattle.text_read.specs.Answers.{reading_of}
-use Rattle.text_read.specs.declared.Parsed.TheVariants as parsed
 use Rattle.text_calls.specs.declared.calls.TextAnswer.{TextAnswer}
 use Rattle.program_commands.specs.Command.{mk_command, longest_line, command_of}
 use Rattle.program_commands.specs.Steps.{spaceless, address_in, requested, Asks, unread_for}
@@ -69,12 +68,12 @@ module _ (t l : List ℕ) (q : Request) (e : command_of l ≡ requested l (asked
   broken s = e ∙ rw s
 
   -- the address is read
-  pub line_key : (k : Key) → reading_of address ≡ parsed.Key k → spaceless address ≡ true → line_reply t l ≡ key_reply t q k
+  pub line_key : (k : Key) → reading_of address ≡ Ok k → spaceless address ≡ true → line_reply t l ≡ key_reply t q k
   unfolding command_call
   line_key k r s = spelled s ∙ ap (answering said) (text_key t h (verb_of q.op q.label) address k r)
 
   -- the address is not read; with a space in it, it is none
-  pub line_unread : (why : Refusal) → reading_of address ≡ parsed.Refused why → line_reply t l ≡ reply (refused_text (unread_for address)) t
+  pub line_unread : (why : Refusal) → reading_of address ≡ Err why → line_reply t l ≡ reply (refused_text (unread_for address)) t
   unfolding command_call answer_text unread_for
   line_unread why r =
       cases (spaceless address)

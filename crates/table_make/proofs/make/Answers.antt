@@ -1,4 +1,5 @@
 -- The layout's answer and the length decide the call's; zeroed and linked bytes are the new table's (`new_bytes_lem`).
+use Rattle.std.specs.Prelude.{Err, Ok, ⊤}
 use mathlib.Core.Path.{◌≡◌, refl, sym, ap, ◌∙◌}
 use mathlib.Core.Bool.{true}
 use mathlib.Core.List.{List, [], ◌++◌}
@@ -17,14 +18,14 @@ use Rattle.table_make.specs.NewSteps.{linked}
 use Rattle.table.specs.Calls.{make_call}
 use Rattle.table_make.proofs.New.{zero_length, new_bytes_lem}
 use Rattle.table.specs.theory.Opened.{due_settings, due_short, due_later, opened_table}
-use Rattle.table.specs.declared.answers.MakeAnswer.{MakeAnswer}
-use Rattle.table.specs.declared.answers.MakeAnswer.TheVariants as making
 use Rattle.table_make.proofs.make.Goals as goal
 use Rattle.table_make.proofs.make.Goals.{After-zero_bytes, In-Layout}
+use Rattle.std.specs.declared.result.Result.{Result}
+use Rattle.settings.specs.declared.refusal.Refusal.{Refusal}
 
 -- what the call comes to if nothing is refused
-abbrev made : Settings → List ℕ → Reply MakeAnswer
-made s t = reply making.Made (new_bytes (layout_of s) t)
+abbrev made : Settings → List ℕ → Reply (Result ⊤ Refusal)
+made s t = reply (Ok tt) (new_bytes (layout_of s) t)
 
 -- the settings are legal, and the layout is theirs
 laid : (c : In-Layout) → let a = c.args in (legal a.s ≡ true) × (layout_of a.s ≡ c.in-Layout.g)
@@ -35,7 +36,7 @@ unfolding make_call
 returns-then-t-g c =
     let a = c.args in
     let t = a.t.now in
-    rw (due_short (λ why. reply (making.Refused why) t) a.s (length t) [] (made a.s t) c.in-Layout.g (laid (goal.at.returns-then-t-g c).In-Layout).0 (laid (goal.at.returns-then-t-g c).In-Layout).1 c.if-t-g.true)
+    rw (due_short (λ why. reply (Err why) t) a.s (length t) [] (made a.s t) c.in-Layout.g (laid (goal.at.returns-then-t-g c).In-Layout).0 (laid (goal.at.returns-then-t-g c).In-Layout).1 c.if-t-g.true)
     (record { answer = refl; bytes = refl })
 
 pub slice_bounds-zero_bytes-end-in-Layout : goal.slice_bounds-zero_bytes-end-in-Layout
@@ -63,7 +64,7 @@ returns-else-t-g c =
     let g = c.in-Layout.g in
     let t = a.t.now in
     let l : g.bytes ≤ length t = c.if-t-g.false in
-    rw (due_later (λ why. reply (making.Refused why) t) a.s (length t) [] (made a.s t) g (laid (goal.at.returns-else-t-g c).In-Layout).0 (laid (goal.at.returns-else-t-g c).In-Layout).1 l)
+    rw (due_later (λ why. reply (Err why) t) a.s (length t) [] (made a.s t) g (laid (goal.at.returns-else-t-g c).In-Layout).0 (laid (goal.at.returns-else-t-g c).In-Layout).1 l)
     (record {
       answer = refl;
       bytes =
@@ -79,5 +80,5 @@ returns-in-Refused c =
     let a = c.args in
     let t = a.t.now in
     let e = laid_refused a.s _ (sym c.layout.ensures ∙ c.in-Refused.is) in
-    rw (due_settings (λ why. reply (making.Refused why) t) a.s (length t) [] (made a.s t) e.0)
-    (record { answer = ap making.Refused (sym e.1); bytes = refl })
+    rw (due_settings (λ why. reply (Err why) t) a.s (length t) [] (made a.s t) e.0)
+    (record { answer = ap Err (sym e.1); bytes = refl })
