@@ -13,7 +13,7 @@ use keys::{BlockNumber, ListNumber};
 use settings::Layout;
 use table::Step;
 use table_read::blocks::{basic_counter, basic_head, free_start, overflow_link};
-use table_read::lists::{Last, basic_run, displaced_run, follow};
+use table_read::lists::{basic_run, displaced_run, follow};
 use table_read::places::basic_slots;
 
 // List i, whose n entries are all in its basic block: the other slots are zero, no entry stands twice.
@@ -33,7 +33,7 @@ fn long_apart(t: &[u8], g: Layout, i: ListNumber) -> bool
     ensures { result ≡ long_apart g (decode g t.now).overflow i.0 (basic_at (decode g t.now).basic i.0) }
 {
     let first = BlockNumber(basic_head(t, g, i));
-    let Last::Block(last) = follow(t, g, i, first) else {
+    let Ok(last) = follow(t, g, i, first) else {
         return false;
     };
     let run = displaced_run(g, i, overflow_link(t, g, last));

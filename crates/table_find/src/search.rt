@@ -15,7 +15,7 @@ use keys::{BlockNumber, Key, ListNumber, SlotNumber};
 use settings::{Layout, Refusal};
 use table::{Said, Step, Word};
 use table_read::blocks::{basic_front, overflow_front, overflow_link, step_of};
-use table_read::lists::{Last, basic_run, displaced_run, follow, overflow_run};
+use table_read::lists::{basic_run, displaced_run, follow, overflow_run};
 use table_read::numbers::{basic_number, overflow_number};
 use table_read::slots::{confirm, label_at, looked_at, scan, scan_displaced};
 use table_read::windows::candidate;
@@ -121,9 +121,7 @@ fn find_long(
     requires { Table g t.now × (i.0 < g.lists) × Overflows g (decode g t.now) i.0 first.0 × (key_number entry < 2 ^ g.bie) }
     ensures { result ≡ find_in g (decode g t.now) i.0 (key_number entry) }
 {
-    let Last::Block(last) = follow(t, g, i, first) else {
-        return Err(Refusal::Damage);
-    };
+    let last = follow(t, g, i, first)?;
     let displaced = overflow_link(t, g, last);
     let run = displaced_run(g, i, displaced);
     let j = scan_displaced(&t[..], run, g.slot, g.bie, entry.high, entry.low);

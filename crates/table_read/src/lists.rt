@@ -11,18 +11,11 @@ use crate::places::{basic_slots, overflow_slots};
 use crate::slots::{Slots, least};
 use keys::{BlockNumber, ListNumber, SlotNumber};
 use settings::Layout;
-use table::Step;
-
-// Where a list ends: in its last overflow block, or nowhere, if there is damage.
-#[derive(Clone, Copy)]
-pub enum Last {
-    Block(BlockNumber),
-    Damage,
-}
+use table::{Damage, Step};
 
 // The last block of list i, whose overflow blocks start at `first`; each must have the list's number. At most nob blocks are
 // followed, so that it ends on any bytes.
-pub fn follow(t: &[u8], g: Layout, i: ListNumber, first: BlockNumber) -> Last
+pub fn follow(t: &[u8], g: Layout, i: ListNumber, first: BlockNumber) -> Result<BlockNumber, Damage>
     requires { Table g t.now }
     ensures { result ≡ last_as g (last_from g i.0 g.nob (decode g t.now).overflow first.0) }
 {
@@ -30,20 +23,20 @@ pub fn follow(t: &[u8], g: Layout, i: ListNumber, first: BlockNumber) -> Last
     let mut k: usize = 0;
     while k < g.nob {
         if b.0 >= g.nob {
-            return Last::Damage;
+            return Err(Damage);
         }
         let fields = owned_front(t, g, b);
         if fields.owner.0 != i.0 {
-            return Last::Damage;
+            return Err(Damage);
         }
         match step_of(fields.front, g.sio) {
-            Step::Last => return Last::Block(b),
+            Step::Last => return Ok(b),
             Step::Further(next) => b = next,
-            Step::Damage => return Last::Damage,
+            Step::Damage => return Err(Damage),
         }
         k += 1;
     }
-    Last::Damage
+    Err(Damage)
 }
 
 // The first n slots of basic block i, as they stand: those of a list that has no overflow blocks.

@@ -2,13 +2,13 @@
 use mathlib.Core.Path.{◌≡◌, sym, ap, ◌∙◌}
 use Prim.Native.Nat.{◌+◌, ◌-◌}
 use native.Mathlib.Omega.{arith}
+use Rattle.std.specs.Prelude.{Err}
 use Rattle.table.specs.State.{overflow_at}
 use Rattle.table.specs.Decode.{decode}
 use Rattle.table_read.specs.Steps.{last_from, last_as}
 use Rattle.table.specs.theory.Ways.{told_last, told_further, told_damage}
 use Rattle.table_read.specs.theory.Walks.{last_high, last_out, last_other, last_here, last_bad, last_further}
 use Rattle.table_read.specs.theory.Lasts.{last_block, last_none}
-use Rattle.table_read.specs.declared.lists.Last.TheVariants as last
 use Rattle.table_read.proofs.lists.follow.Goals as goal
 use Rattle.table_read.proofs.lists.follow.Goals.{After-step_of, At-loop-k}
 
@@ -18,7 +18,7 @@ loop-k-init c = let e : c.args.g.nob - 0 ≡ c.args.g.nob = omega arith in (omeg
 -- damage, where the last block from b on is no block
 none_here : (m : At-loop-k) → let g = m.args.g in
     last_from g ((m.args.i.0)) (g.nob - m.loop-k.k) ((let s = m.args in (decode s.g s.t.now).overflow)) m.loop-k.b.0 ≡ g.nob
-    → last.Damage ≡ last_as g (last_from g ((m.args.i.0)) g.nob ((let s = m.args in (decode s.g s.t.now).overflow)) m.args.first.0)
+    → Err (record {}) ≡ last_as g (last_from g ((m.args.i.0)) g.nob ((let s = m.args in (decode s.g s.t.now).overflow)) m.args.first.0)
 none_here m e =
     let g = m.args.g in
     last_none g g.nob (omega arith) ∙ ap (last_as g) (sym e ∙ m.loop-k.invariant.1)
