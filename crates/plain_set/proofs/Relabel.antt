@@ -44,6 +44,7 @@ use Rattle.plain_set.proofs.Stored.{bits_room}
 use Rattle.plain_set.proofs.Start.{sound_agree}
 use Rattle.plain_set.specs.theory.Answers.{sound_opened}
 use Rattle.table.specs.Answer.{Answer}
+use Rattle.table.specs.theory.Answers.{said_same}
 
 -- The free chain ---------------------------------------------------------------------------------------------------------
 
@@ -172,11 +173,12 @@ module _ {s : Settings} (right : Legal s) {t : List ℕ} {T : List (List ℕ)} {
       (λ e.
       rw (e, decode_written g (layout_proper s right) t (store_formed e) (bits_room s t a.room))
       (λ q.
-      let was : label_in s k es ≡ m = cc in
-      let last : n ≡ suc p = cc in
+      let same = said_same q in
+      let was : label_in s k es ≡ m = same.label in
+      let last : n ≡ suc p = sym same.compared in
       let place : n - 1 ≡ p = omega arith in
       (omega arith, rw place (rw was at (store_only e)))))
-      (λ e. rw e (λ q. absurd (let z : ◌≡◌ {A = ℕ} 0 1 = cc in omega arith))))
+      (λ e. rw e (λ q. absurd (let w = (said_same q).word in let z : ◌≡◌ {A = ℕ} 0 1 = cc in omega arith))))
 
 -- On a table that check finds sound, with whatever inputs ------------------------------------------------------------------
 

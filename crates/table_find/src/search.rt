@@ -126,12 +126,12 @@ fn find_long(
     let run = displaced_run(g, i, displaced);
     let j = scan_displaced(&t[..], run, g.slot, g.bie, entry.high, entry.low);
     if j.0 < g.sib {
-        return Answer::Said {
+        return Ok(Said {
             word: Word::Held,
             label: label_at(t, run, run.start + j.0 * g.slot + g.bie, g.val),
             compared: (j.0 + 1) as u32,
             slot: basic_number(g, i, j),
-        };
+        });
     }
     find_blocks(t, g, first, entry, g.sib)
 }

@@ -1,6 +1,6 @@
 -- One list alone: what a call with a key of that list is told of the list's slots, and the slots after it. `full` says that a block is needed and
 -- none is free; nothing else of the table matters.
-use Rattle.std.specs.Prelude.{Bool, cond, List, [], ◌∷◌, ◌++◌, ℕ, set, Err}
+use Rattle.std.specs.Prelude.{Bool, cond, List, [], ◌∷◌, ◌++◌, ℕ, set, Ok, Err}
 use Rattle.settings.specs.declared.settings.Settings.{Settings}
 use Rattle.settings.specs.declared.refusal.Refusal.TheVariants as refusal
 use Rattle.settings.specs.Layout.{layout_of}
@@ -25,7 +25,7 @@ tell a n = record { answer = a; compared = n }
 
 -- clause 7.1: a refusal has compared 0
 abbrev pub compared_of : table.Answer → ℕ
-compared_of (Ok said) = said.compared
+compared_of (Ok r) = r.compared
 compared_of (Err why) = 0
 
 abbrev pub told : table.Answer → Told

@@ -12,6 +12,7 @@ use Rattle.table.specs.Follow.{Content, content}
 use Rattle.table.specs.Find.{position, is_held, label_at, compared_in, number_at, find_followed, find_in}
 use Rattle.table.specs.Done.{Answered, unchanged}
 use Rattle.table.specs.Answer.{said, Answer}
+use Rattle.table.specs.theory.Answers.{said_same}
 use Rattle.table.specs.declared.answers.Word.{Word}
 use Rattle.table.specs.declared.answers.Word.TheVariants as word
 
@@ -51,11 +52,9 @@ module _ (g : Layout) (st : State) (i e : ℕ) where
   held_as l n x (some v) w =
       cases (is_held g e v.slots)
       (λ p. rw p (λ q.
-      let el : label_at g e v.slots ≡ l = cc in
-      let en : suc (position g e v.slots) ≡ n = cc in
-      let ex : number_at g i e v ≡ x = cc in
-      record { followed = v; is = w; held = p; label = el; place = en; number = ex }))
-      (λ p. rw p (λ q. absurd (let w : word.None ≡ word.Held = cc in let z : ◌≡◌ {A = ℕ} 0 1 = cc in omega arith)))
+      let same = said_same q in
+      record { followed = v; is = w; held = p; label = same.label; place = same.compared; number = same.slot }))
+      (λ p. rw p (λ q. absurd (let w : word.None ≡ word.Held = (said_same q).word in let z : ◌≡◌ {A = ℕ} 0 1 = cc in omega arith)))
 
   pub find_held : (l n x : ℕ) → find_in g st i e ≡ said word.Held l n x → HeldAt g st i e l n x
   unfolding find_in

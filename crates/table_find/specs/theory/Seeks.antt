@@ -34,10 +34,10 @@ pub record Opened (s : Settings) (n : ℕ) (k : Key) (g : Layout) : Type 0 where
 refused_laid : {X : Type 0} (why : Refusal) (g : Layout) → Err why ≡ Ok g → X
 refused_laid why g e = absurd (let z : ◌≡◌ {A = ℕ} 0 1 = cc in omega arith)
 
-laid_layout : (g h : Layout) → Ok g ≡ Ok h → g ≡ h
+laid_layout : (g h : Layout) → ◌≡◌ {A = Result Layout Refusal} (Ok g) (Ok h) → g ≡ h
 laid_layout g h e = cc
 
-laid_why : (why r : Refusal) → Err why ≡ Err r → why ≡ r
+laid_why : (why r : Refusal) → ◌≡◌ {A = Result Layout Refusal} (Err why) (Err r) → why ≡ r
 laid_why why r e = cc
 
 module _ (s : Settings) (k : Key) where
