@@ -38,7 +38,6 @@ use Rattle.table_store.specs.theory.StoreLaws.{stored_then, stored_as, stored_wr
 use Rattle.table_enter.specs.Enters.{slot_for, free_of, append_to, number_for, appending, Appended, EndsIn}
 use Rattle.table_read.specs.Places.{basic_slot, overflow_slot}
 use Rattle.table_enter.specs.declared.append.Item.{Item}
-use Rattle.table_enter.specs.declared.append.Free.TheVariants as free
 use Rattle.table_enter.proofs.FreeLaws.{Takes, extended_to, no_take}
 use Rattle.table_enter.proofs.EndLaws.{behind_last, room_number, first_number, over_number}
 
@@ -116,7 +115,7 @@ module _ (g : Layout) (t : List ℕ) (T : Table g t) (y : Bytes t) (i : ℕ) (v 
       unfolding append_to append
       full_is = rw (content_short g st i (omega arith), le-ltb b.counter g.sib (omega arith))
 
-      pub first_refused : (why : Refusal) → free_of g st ≡ free.Refused why → Appended g t t i v (Err why)
+      pub first_refused : (why : Refusal) → free_of g st ≡ Err why → Appended g t t i v (Err why)
       first_refused why e = refused_as why (ap told full_is ∙ no_take g st [] _ added why e)
 
       pub append_first : (f l next : ℕ) (k : Takes g st f next) → l ≡ b.head → (a u : List ℕ) (r : Answer)
@@ -190,7 +189,7 @@ module _ (g : Layout) (t : List ℕ) (T : Table g t) (y : Bytes t) (i : ℕ) (v 
         more_is : append_to g st i v ≡ longer followed_is.blocks
         more_is = over_is ∙ rw (le-ltb (suc o.counter) g.sio full)
 
-        pub more_refused : (why : Refusal) → free_of g st ≡ free.Refused why → Appended g t t i v (Err why)
+        pub more_refused : (why : Refusal) → free_of g st ≡ Err why → Appended g t t i v (Err why)
         more_refused why e = refused_as why (ap told more_is ∙ no_take g st followed_is.blocks _ added why e)
 
         pub more_met : (f next : ℕ) → Takes g st f next → true ≡ has_block g g.nob st.overflow h f → Appended g t t i v (Err refusal.Damage)
