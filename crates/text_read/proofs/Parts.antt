@@ -1,4 +1,7 @@
 -- Parts of an address: what is left to read of one where some of its groups are read already, and what the parts make together.
+use Rattle.std.specs.Prelude.{Result, Ok, Err}
+use Rattle.keys.specs.declared.Key.{Key}
+use Rattle.settings.specs.declared.refusal.Refusal.{Refusal}
 use Prim.Native.Nat.{ℕ, suc, ◌+◌, ◌*◌, ◌/◌, ◌%◌, ◌^◌, ◌≤◌, ◌<◌}
 use native.Mathlib.Nat.{zero-add}
 use native.Mathlib.Omega.{arith}
@@ -26,8 +29,6 @@ use Rattle.text_read.specs.theory.Cuts.{behinds, behinds_nil, behind_behinds}
 use Rattle.text_read.specs.theory.Options.{push_none}
 use Rattle.text_read.specs.theory.Dotted.{dotted_none, read_dotted}
 use Rattle.text_read.proofs.Whole.{reading_bare, reading_colons, cut_undotted}
-use Rattle.text_read.specs.declared.Parsed.{Parsed}
-use Rattle.text_read.specs.declared.Parsed.TheVariants as parsed
 use Rattle.text_read.specs.declared.reader.Groups.{Groups}
 use Rattle.text_read.specs.declared.reader.Part.{Part}
 use Rattle.text_read.specs.declared.reader.Part.TheVariants as answer
@@ -408,12 +409,12 @@ start_fine s = go (dotted s) (dotted_small s)
 -- What the parts make -----------------------------------------------------------------------------------------------------
 
 -- the address, where the part behind "::" is this
-abbrev pub tail_answer : ℕ → ℕ → Part → Parsed
-tail_answer v n answer.Bad = parsed.Refused refusal.Text
-tail_answer v n (answer.Gap g next) = parsed.Refused refusal.Text
+abbrev pub tail_answer : ℕ → ℕ → Part → Result Key Refusal
+tail_answer v n answer.Bad = Err refusal.Text
+tail_answer v n (answer.Gap g next) = Err refusal.Text
 tail_answer v n (answer.Whole g) = filled_with v n (number_of g) g.count
 
-filled_many : (v n w m : ℕ) → 8 < m → filled_with v n w m ≡ parsed.Refused refusal.Text
+filled_many : (v n w m : ℕ) → 8 < m → filled_with v n w m ≡ Err refusal.Text
 unfolding filled_with
 filled_many v n w m h = rw (le-ltb (n + m) 8 (omega arith))
 
@@ -442,11 +443,11 @@ after_part v n x t at = go (cut (x ∷ t)) refl
         by none = unfold filled_by to_gap in refl
         by (some l) = unfold filled_by to_gap in test (leb (0 + length l) 8)
           where
-            test : (b : Bool) → parsed.Refused refusal.Text ≡ tail_answer v n (cond b (answer.Gap (made (joined 0 l) (0 + length l)) (at + length a + 2)) answer.Bad)
+            test : (b : Bool) → Err refusal.Text ≡ tail_answer v n (cond b (answer.Gap (made (joined 0 l) (0 + length l)) (at + length a + 2)) answer.Bad)
             test true = refl
             test false = refl
 
-keyed_if : (b : Bool) (l : List ℕ) → keyed (cond b (some l) none) ≡ cond b (parsed.Key (key_of (joined 0 l))) (parsed.Refused refusal.Text)
+keyed_if : (b : Bool) (l : List ℕ) → keyed (cond b (some l) none) ≡ cond b (Ok (key_of (joined 0 l))) (Err refusal.Text)
 unfolding keyed
 keyed_if true l = refl
 keyed_if false l = refl
@@ -457,11 +458,11 @@ head_whole s none = unfold keyed in refl
 head_whole s (some l) = keyed_if (eqb (length l) 8) l ∙ test (leb (0 + length l) 8) refl
   where
     test : (b : Bool) → leb (0 + length l) 8 ≡ b
-        → cond (eqb (length l) 8) (parsed.Key (key_of (joined 0 l))) (parsed.Refused refusal.Text) ≡ head_answer s (cond b (answer.Whole (made (joined 0 l) (0 + length l))) answer.Bad)
+        → cond (eqb (length l) 8) (Ok (key_of (joined 0 l))) (Err refusal.Text) ≡ head_answer s (cond b (answer.Whole (made (joined 0 l) (0 + length l))) answer.Bad)
     test true h = rw (made_number (joined 0 l) (0 + length l)) (unfold made in rw (zero-add (length l)))
     test false h = rw (ne_eqb (length l) 8 (λ e. omega (arith, leb-false (0 + length l) 8 h)))
 
-filled_over : (v n : ℕ) (o : Option (List ℕ)) → 8 < n → filled_by v n o ≡ parsed.Refused refusal.Text
+filled_over : (v n : ℕ) (o : Option (List ℕ)) → 8 < n → filled_by v n o ≡ Err refusal.Text
 unfolding filled_by filled_with
 filled_over v n none h = refl
 filled_over v n (some l) h = rw (le-ltb (n + length l) 8 (omega arith))

@@ -1,13 +1,13 @@
 -- Words of the contracts of the reader's parts: what each part answers, in terms of `Numerals` and `Reading`.
-use Rattle.std.specs.Prelude.{◌≡◌, ℕ, ◌+◌, ◌-◌, ◌*◌, ◌/◌, ◌%◌, ◌^◌, ◌≤◌, ◌<◌, true, false, cond, List, [], ◌∷◌, length, get_or, drop, leb, ltb, eqb}
+use Rattle.keys.specs.declared.Key.{Key}
+use Rattle.settings.specs.declared.refusal.Refusal.{Refusal}
+use Rattle.std.specs.Prelude.{◌≡◌, ℕ, ◌+◌, ◌-◌, ◌*◌, ◌/◌, ◌%◌, ◌^◌, ◌≤◌, ◌<◌, true, false, cond, List, [], ◌∷◌, length, get_or, drop, leb, ltb, eqb, Result, Ok, Err}
 use Rattle.std.proofs.Math.Option.{Option, none, some}
 use Rattle.keys.specs.Key.{key_of}
 use Rattle.settings.specs.declared.refusal.Refusal.TheVariants as refusal
 use Rattle.text_read.specs.Class.{class_of, colon, dot}
 use Rattle.text_read.specs.Numerals.{group, decimal}
 use Rattle.text_read.specs.Reading.{split, decimals, dotted, groups, part, Cut, whole, parted, cut, joined}
-use Rattle.text_read.specs.declared.Parsed.{Parsed}
-use Rattle.text_read.specs.declared.Parsed.TheVariants as parsed
 use Rattle.text_read.specs.declared.reader.Numeral.{Numeral}
 use Rattle.text_read.specs.declared.reader.Numeral.TheVariants as numeral
 use Rattle.text_read.specs.declared.reader.Groups.{Groups}
@@ -110,21 +110,21 @@ unfoldable pub part_at : ℕ → ℕ → List ℕ → ℕ → Part
 part_at v n t at = cond (eqb at 0) (mapped_or (dotted t) (part_from v n t at)) (part_from v n t at)
 
 -- eight groups, of which n with the number v stand before "::", and m with the number w behind it
-unfoldable pub filled_with : ℕ → ℕ → ℕ → ℕ → Parsed
-filled_with v n w m = cond (ltb (n + m) 8) (parsed.Key (key_of (v * 65536 ^ (8 - n) + w))) (parsed.Refused refusal.Text)
+unfoldable pub filled_with : ℕ → ℕ → ℕ → ℕ → Result Key Refusal
+filled_with v n w m = cond (ltb (n + m) 8) (Ok (key_of (v * 65536 ^ (8 - n) + w))) (Err refusal.Text)
 
-unfoldable pub filled_by : ℕ → ℕ → Option (List ℕ) → Parsed
-filled_by v n none = parsed.Refused refusal.Text
+unfoldable pub filled_by : ℕ → ℕ → Option (List ℕ) → Result Key Refusal
+filled_by v n none = Err refusal.Text
 filled_by v n (some l) = filled_with v n (joined 0 l) (length l)
 
 -- the address whose n groups before "::" have the number v, where t follows "::"
-unfoldable pub after_gap : ℕ → ℕ → List ℕ → Parsed
+unfoldable pub after_gap : ℕ → ℕ → List ℕ → Result Key Refusal
 after_gap v n t = filled_by v n (part true t)
 
 -- the address of the text s, where its first part is this
-abbrev pub head_answer : List ℕ → Part → Parsed
-head_answer s answer.Bad = parsed.Refused refusal.Text
-head_answer s (answer.Whole g) = cond (eqb g.count 8) (parsed.Key (key_of (number_of g))) (parsed.Refused refusal.Text)
+abbrev pub head_answer : List ℕ → Part → Result Key Refusal
+head_answer s answer.Bad = Err refusal.Text
+head_answer s (answer.Whole g) = cond (eqb g.count 8) (Ok (key_of (number_of g))) (Err refusal.Text)
 head_answer s (answer.Gap g next) = after_gap (number_of g) g.count (drop next s)
 
 -- groups of a part: eight at most; "::" ends within the text, and behind its start

@@ -1,15 +1,13 @@
 // Reads an address in one pass. The groups go into two halves of 64 bits as they come; none is stored.
-ghost use Rattle.std.specs.Prelude.{◌≡◌, ◌+◌, ◌*◌, ◌^◌, ◌≤◌, ◌<◌, cond, ◌&&◌, length, drop, eqb};
+ghost use Rattle.std.specs.Prelude.{◌≡◌, ◌+◌, ◌*◌, ◌^◌, ◌≤◌, ◌<◌, cond, ◌&&◌, length, drop, eqb, Ok, Err};
 ghost use Rattle.keys.specs.Key.{key_of};
 ghost use Rattle.settings.specs.declared.refusal.Refusal.TheVariants as refusal;
 ghost use Rattle.text_read.specs.Class.{colon, dot};
 ghost use Rattle.text_read.specs.Reading.{begins, tail, dotted as dottedGroups};
 ghost use Rattle.text_read.specs.Answers.{reading_of};
 ghost use Rattle.text_read.specs.ReaderSteps.{Classes, Five, Sized, Fine, head_answer, by_length, until, numeral_of, group_in, decimal_in, dotted_from, number_of, made, to_end, part_at, filled_with, after_gap};
-ghost use Rattle.text_read.specs.declared.Parsed.TheVariants as parsed;
 ghost use Rattle.text_read.specs.declared.reader.Numeral.TheVariants as numeral;
 
-use crate::Parsed;
 use crate::class::{CLASSES, COLON, DOT, class, class_at};
 use keys::Key;
 use settings::Refusal;
@@ -263,23 +261,23 @@ fn read_part(table: &[u8; 256], text: &[u8], from: usize) -> Part
 }
 
 // No legal address.
-fn refused() -> Parsed
-    ensures { result ≡ parsed.Refused refusal.Text }
+fn refused() -> Result<Key, Refusal>
+    ensures { result ≡ Err refusal.Text }
 {
-    Parsed::Refused(Refusal::Text)
+    Err(Refusal::Text)
 }
 
 // The key of these halves.
-fn found(high: u64, low: u64) -> Parsed
-    ensures { result ≡ parsed.Key (record { high = high; low = low }) }
+fn found(high: u64, low: u64) -> Result<Key, Refusal>
+    ensures { result ≡ Ok (record { high = high; low = low }) }
 {
-    Parsed::Key(Key { high, low })
+    Ok(Key { high, low })
 }
 
 // Eight groups, without "::".
-fn eight(groups: Groups) -> Parsed
+fn eight(groups: Groups) -> Result<Key, Refusal>
     requires { Sized groups }
-    ensures { result ≡ cond (eqb groups.count 8) (parsed.Key (key_of (number_of groups))) (parsed.Refused refusal.Text) }
+    ensures { result ≡ cond (eqb groups.count 8) (Ok (key_of (number_of groups))) (Err refusal.Text) }
 {
     if groups.count == 8 {
         return found(groups.high, groups.low);
@@ -288,7 +286,7 @@ fn eight(groups: Groups) -> Parsed
 }
 
 // At most four groups before "::": the high half takes them all. If there are none, zero moves by nothing.
-fn raised(head: Groups, tail: Groups) -> Parsed
+fn raised(head: Groups, tail: Groups) -> Result<Key, Refusal>
     requires { Sized head × Sized tail × (head.count ≤ 4) × (head.count + tail.count ≤ 7) }
     ensures { result ≡ filled_with (number_of head) head.count (number_of tail) tail.count }
 {
@@ -297,7 +295,7 @@ fn raised(head: Groups, tail: Groups) -> Parsed
 }
 
 // Five to seven groups before "::": they go across both halves, and the low half has room for the tail.
-fn across(head: Groups, tail: Groups) -> Parsed
+fn across(head: Groups, tail: Groups) -> Result<Key, Refusal>
     requires { Sized head × Sized tail × (4 < head.count) × (head.count + tail.count ≤ 7) }
     ensures { result ≡ filled_with (number_of head) head.count (number_of tail) tail.count }
 {
@@ -311,7 +309,7 @@ fn across(head: Groups, tail: Groups) -> Parsed
 
 // The head's groups first, the tail's last, and zero groups between, so that there are eight. The shifts are by a variable
 // amount: an arm for each count would be a jump that is badly predicted where texts differ.
-fn filled(head: Groups, tail: Groups) -> Parsed
+fn filled(head: Groups, tail: Groups) -> Result<Key, Refusal>
     requires { Sized head × Sized tail × (head.count ≤ 8) × (tail.count ≤ 8) }
     ensures { result ≡ filled_with (number_of head) head.count (number_of tail) tail.count }
 {
@@ -326,7 +324,7 @@ fn filled(head: Groups, tail: Groups) -> Parsed
 
 // The address whose groups before "::" are read. One part follows, or nothing: a second "::" is not legal. Here and in
 // `first_part` the slice is taken anew for the part, so that it stays in registers.
-fn after_gap(table: &[u8; 256], text: &[u8], at: usize, head: Groups) -> Parsed
+fn after_gap(table: &[u8; 256], text: &[u8], at: usize, head: Groups) -> Result<Key, Refusal>
     requires { Classes table.now × (0 < at) × (at ≤ length text.now) × Sized head × (head.count ≤ 8) }
     ensures { result ≡ after_gap (number_of head) head.count (drop at text.now) }
 {
@@ -368,7 +366,7 @@ fn first_part(table: &[u8; 256], text: &[u8]) -> Part
 }
 
 // Reads an address by the class table, which is lent once a call.
-pub fn read_by(table: &[u8; 256], text: &[u8]) -> Parsed
+pub fn read_by(table: &[u8; 256], text: &[u8]) -> Result<Key, Refusal>
     requires { Classes table.now }
     ensures { result ≡ reading_of text.now }
 {
@@ -380,7 +378,7 @@ pub fn read_by(table: &[u8; 256], text: &[u8]) -> Parsed
 }
 
 // Reads an address.
-pub fn read(text: &[u8]) -> Parsed
+pub fn read(text: &[u8]) -> Result<Key, Refusal>
     ensures { result ≡ reading_of text.now }
 {
     read_by(&CLASSES, text)

@@ -1,4 +1,5 @@
 -- Nothing follows the gap, or one part that goes to the end.
+use Rattle.std.specs.Prelude.{Err}
 use borrow.Author.Rules.{rules}
 use Prim.Native.Nat.{ℕ, ◌+◌, ◌<◌}
 use mathlib.Core.Path.{◌≡◌, refl, sym, ap, ◌∙◌}
@@ -8,14 +9,13 @@ use lib.ListN.{length, drop}
 use Rattle.settings.specs.declared.refusal.Refusal.TheVariants as refusal
 use Rattle.text_read.specs.ReaderSteps.{number_of, part_at, part_from, Fine}
 use Rattle.text_read.proofs.Parts.{part_fine, part_later, tail_answer, after_end, after_here}
-use Rattle.text_read.specs.declared.Parsed.TheVariants as parsed
 use Rattle.text_read.specs.declared.reader.Groups.{Groups}
 use Rattle.text_read.specs.declared.reader.Part.{Part}
 use Rattle.text_read.specs.declared.reader.Part.TheVariants as answer
 use Rattle.text_read.proofs.reader.after_gap.Goals as goal
 
 -- a part that is not the whole rest is refused
-not_whole : (v n : ℕ) (p : Part) → ((g : Groups) → p ≡ answer.Whole g → ⊥) → tail_answer v n p ≡ parsed.Refused refusal.Text
+not_whole : (v n : ℕ) (p : Part) → ((g : Groups) → p ≡ answer.Whole g → ⊥) → tail_answer v n p ≡ Err refusal.Text
 not_whole v n answer.Bad t = refl
 not_whole v n (answer.Gap g next) t = refl
 not_whole v n (answer.Whole g) t = absurd (t g refl)
