@@ -13,16 +13,16 @@ use Rattle.text_read.proofs.Lengths.{read_length}
 use Rattle.text_read.specs.theory.Answers.{unread}
 use Rattle.text_run.specs.Run.{run}
 use Rattle.text_run.specs.Answers.{taking, taken_of}
-use Rattle.text_run.specs.declared.Taken.TheVariants as taken
+use Rattle.text_run.specs.declared.Taken.{Taken}
 use Rattle.text_run.specs.theory.Run.{Stops, run_stops, run_take, run_front}
 
 -- a legal text is taken whatever stops it
-pub taken_stops : (s t : List ℕ) (k : Key) → reading_of s ≡ Ok k → Stops t → taken_of (s ++ t) ≡ taken.Key k (length s)
+pub taken_stops : (s t : List ℕ) (k : Key) → reading_of s ≡ Ok k → Stops t → taken_of (s ++ t) ≡ Ok (record { key = k; bytes = length s })
 unfolding taken_of taking
 taken_stops s t k e h = rw (run_stops s t (read_classes s k e) h, e)
 
 -- a text that is legal as a whole is taken whole
-pub taken_whole : (s : List ℕ) (k : Key) → reading_of s ≡ Ok k → taken_of s ≡ taken.Key k (length s)
+pub taken_whole : (s : List ℕ) (k : Key) → reading_of s ≡ Ok k → taken_of s ≡ Ok (record { key = k; bytes = length s })
 taken_whole s k e = ap taken_of (sym (append-nil s)) ∙ taken_stops s [] k e tt
 
 -- what is taken is legal as a whole, and has 2 to 45 bytes
@@ -31,7 +31,7 @@ pub record Legal (s : List ℕ) (k : Key) (n : ℕ) : Type 0 where
   pub least : 2 ≤ n
   pub most : n ≤ 45
 
-pub taken_legal : (s : List ℕ) (k : Key) (n : ℕ) → taken_of s ≡ taken.Key k n → Legal s k n
+pub taken_legal : (s : List ℕ) (k : Key) (n : ℕ) → taken_of s ≡ Ok (record { key = k; bytes = n }) → Legal s k n
 unfolding taken_of taking
 taken_legal s k n e = go (reading_of (run s)) refl e
   where
@@ -40,10 +40,10 @@ taken_legal s k n e = go (reading_of (run s)) refl e
         let b = read_length (run s) k r in
         record { legal = rw (← l, run_take s) r; least = omega (arith, b.0); most = omega (arith, b.1) }
 
-    go : (p : Result Key Refusal) → reading_of (run s) ≡ p → taking (length (run s)) p ≡ taken.Key k n → Legal s k n
+    go : (p : Result Key Refusal) → reading_of (run s) ≡ p → taking (length (run s)) p ≡ Ok (record { key = k; bytes = n }) → Legal s k n
     go (Ok j) r e =
-        let f : j ≡ k = cc in
-        of_run (r ∙ ap Ok f) cc
+        let t : (let u : Taken = record { key = j; bytes = length (run s) } in u) ≡ record { key = k; bytes = n } = cc in
+        of_run (r ∙ ap Ok (ap (λ (u : Taken). u.key) t)) (ap (λ (u : Taken). u.bytes) t)
     go (Err why) r e = absurd (let z : ◌≡◌ {A = ℕ} 0 1 = cc in omega arith)
 
 -- "still refuse 4 if bytes follow the run": such a text is not legal as a whole
