@@ -1,12 +1,11 @@
 // Reads an address in one pass. The groups go into two halves of 64 bits as they come; none is stored.
-ghost use Rattle.std.specs.Prelude.{◌≡◌, ◌+◌, ◌*◌, ◌^◌, ◌≤◌, ◌<◌, cond, ◌&&◌, length, drop, eqb, Ok, Err};
+ghost use Rattle.std.specs.Prelude.{◌≡◌, ◌+◌, ◌*◌, ◌^◌, ◌≤◌, ◌<◌, cond, ◌&&◌, length, drop, eqb, Some, None, Ok, Err};
 ghost use Rattle.keys.specs.Key.{key_of};
 ghost use Rattle.settings.specs.declared.refusal.Refusal.TheVariants as refusal;
 ghost use Rattle.text_read.specs.Class.{colon, dot};
 ghost use Rattle.text_read.specs.Reading.{begins, tail, dotted as dottedGroups};
 ghost use Rattle.text_read.specs.Answers.{reading_of};
 ghost use Rattle.text_read.specs.ReaderSteps.{Classes, Five, Sized, Fine, head_answer, by_length, until, numeral_of, group_in, decimal_in, dotted_from, number_of, made, to_end, part_at, filled_with, after_gap};
-ghost use Rattle.text_read.specs.declared.reader.Numeral.TheVariants as numeral;
 
 use crate::class::{CLASSES, COLON, DOT, class, class_at};
 use keys::Key;
@@ -14,9 +13,9 @@ use settings::Refusal;
 
 // A number in a field, and where the field ends.
 #[derive(Clone, Copy)]
-enum Numeral {
-    Value { value: u64, next: usize },
-    Bad,
+struct Numeral {
+    value: u64,
+    next: usize,
 }
 
 // Groups that are read: the number high * 2^64 + low that they stand for, and how many they are.
@@ -48,17 +47,16 @@ enum Part {
     Whole(Groups),
     // "::" follows them, and ends before `next`.
     Gap { groups: Groups, next: usize },
-    Bad,
 }
 
 // The numeral that ends before `next`, if its field ends there too: by the class of the byte at `next`.
-fn ended(value: u64, next: usize, class: u64, end: u64) -> Numeral
-    ensures { result ≡ cond (eqb class end) (numeral.Value value next) numeral.Bad }
+fn ended(value: u64, next: usize, class: u64, end: u64) -> Option<Numeral>
+    ensures { result ≡ cond (eqb class end) (Some (record { value = value; next = next })) None }
 {
     if class == end {
-        return Numeral::Value { value, next };
+        return Some(Numeral { value, next });
     }
-    Numeral::Bad
+    None
 }
 
 // x if the second byte of a field is no digit, else y if the third is none, else z. All three are computed already, so that
@@ -76,7 +74,7 @@ fn by_length(b: u64, c: u64, x: u64, y: u64, z: u64) -> u64
 }
 
 // The group in the field from `at` on, by the classes of the five bytes from there: none is looked up twice.
-fn group_of(text: &[u8], at: usize, a: u64, b: u64, c: u64, d: u64, e: u64) -> Numeral
+fn group_of(text: &[u8], at: usize, a: u64, b: u64, c: u64, d: u64, e: u64) -> Option<Numeral>
     requires { Five text.now at a b c d e × (at ≤ length text.now) }
     ensures { result ≡ group_in (until colon (drop at text.now)) at }
 {
@@ -84,7 +82,7 @@ fn group_of(text: &[u8], at: usize, a: u64, b: u64, c: u64, d: u64, e: u64) -> N
         return ended(((a * 16 + b) * 16 + c) * 16 + d, at + 4, e, COLON);
     }
     if 15 < a {
-        return Numeral::Bad;
+        return None;
     }
     let value = by_length(b, c, a, a * 16 + b, (a * 16 + b) * 16 + c);
     let count = by_length(b, c, 1, 2, 3);
@@ -93,7 +91,7 @@ fn group_of(text: &[u8], at: usize, a: u64, b: u64, c: u64, d: u64, e: u64) -> N
 }
 
 // The group in the field from `at` on. Only near the end of the text is each place tested.
-fn group(table: &[u8; 256], text: &[u8], at: usize) -> Numeral
+fn group(table: &[u8; 256], text: &[u8], at: usize) -> Option<Numeral>
     requires { Classes table.now × (at ≤ length text.now) }
     ensures { result ≡ group_in (until colon (drop at text.now)) at }
 {
@@ -114,20 +112,20 @@ fn group(table: &[u8; 256], text: &[u8], at: usize) -> Numeral
 }
 
 // The decimal 0 to 255 in the field from `at` on, which goes to a dot or the end.
-fn decimal(table: &[u8; 256], text: &[u8], at: usize) -> Numeral
+fn decimal(table: &[u8; 256], text: &[u8], at: usize) -> Option<Numeral>
     requires { Classes table.now × (at ≤ length text.now) }
     ensures { result ≡ decimal_in (until dot (drop at text.now)) at }
 {
     let a = class_at(table, text, at, DOT);
     if 9 < a {
-        return Numeral::Bad;
+        return None;
     }
     let b = class_at(table, text, at + 1, DOT);
     if 9 < b {
         return ended(a, at + 1, b, DOT);
     }
     if a == 0 {
-        return Numeral::Bad;
+        return None;
     }
     let c = class_at(table, text, at + 2, DOT);
     if 9 < c {
@@ -135,23 +133,23 @@ fn decimal(table: &[u8; 256], text: &[u8], at: usize) -> Numeral
     }
     let value = (a * 10 + b) * 10 + c;
     if 255 < value {
-        return Numeral::Bad;
+        return None;
     }
     ended(value, at + 3, class_at(table, text, at + 3, DOT), DOT)
 }
 
 // The number of n decimals that end the text at `next`: there must be four.
-fn four(value: u64, n: usize, next: usize) -> Numeral
-    ensures { result ≡ cond (eqb n 4) (numeral.Value value next) numeral.Bad }
+fn four(value: u64, n: usize, next: usize) -> Option<Numeral>
+    ensures { result ≡ cond (eqb n 4) (Some (record { value = value; next = next })) None }
 {
     if n == 4 {
-        return Numeral::Value { value, next };
+        return Some(Numeral { value, next });
     }
-    Numeral::Bad
+    None
 }
 
 // The number below 2^32 that four decimals with dots stand for, from `from` to the end of the text.
-fn dotted(table: &[u8; 256], text: &[u8], from: usize) -> Numeral
+fn dotted(table: &[u8; 256], text: &[u8], from: usize) -> Option<Numeral>
     requires { Classes table.now × (from ≤ length text.now) }
     ensures { result ≡ numeral_of (dotted_from 0 0 (drop from text.now)) (length text.now) }
 {
@@ -159,22 +157,16 @@ fn dotted(table: &[u8; 256], text: &[u8], from: usize) -> Numeral
     let mut count: usize = 0;
     let mut at = from;
     loop {
-        match decimal(table, text, at) {
-            Numeral::Bad => {
-                return Numeral::Bad;
-            }
-            Numeral::Value { value: byte, next } => {
-                if count == 4 {
-                    return Numeral::Bad;
-                }
-                value = value * 256 + byte;
-                count += 1;
-                if next == text.len() {
-                    return four(value, count, next);
-                }
-                at = next + 1;
-            }
+        let byte = decimal(table, text, at)?;
+        if count == 4 {
+            return None;
         }
+        value = value * 256 + byte.value;
+        count += 1;
+        if byte.next == text.len() {
+            return four(value, count, byte.next);
+        }
+        at = byte.next + 1;
     }
 }
 
@@ -201,17 +193,15 @@ fn pushed(groups: Groups, n: usize, x: u64) -> Groups
 }
 
 // The groups and the two of the dotted tail from `at` on: a field that is no group can only be that.
-fn with_tail(table: &[u8; 256], text: &[u8], at: usize, groups: Groups) -> Part
+fn with_tail(table: &[u8; 256], text: &[u8], at: usize, groups: Groups) -> Option<Part>
     requires { Classes table.now × (at ≤ length text.now) × Sized groups × (groups.count ≤ 8) }
     ensures { result ≡ to_end (number_of groups) groups.count (dottedGroups (drop at text.now)) }
 {
     if 6 < groups.count {
-        return Part::Bad;
+        return None;
     }
-    match dotted(table, text, at) {
-        Numeral::Bad => Part::Bad,
-        Numeral::Value { value, next } => Part::Whole(pushed(groups, 2, value)),
-    }
+    let tail = dotted(table, text, at)?;
+    Some(Part::Whole(pushed(groups, 2, tail.value)))
 }
 
 // The groups that stand before a dotted tail at `at`. Where the text begins with it, it stands alone, and is read as the
@@ -226,36 +216,32 @@ fn before_tail(at: usize, groups: Groups) -> Groups
 }
 
 // The groups from `from` on, up to "::" or the end of the text.
-fn read_part(table: &[u8; 256], text: &[u8], from: usize) -> Part
+fn read_part(table: &[u8; 256], text: &[u8], from: usize) -> Option<Part>
     requires { Classes table.now × (from ≤ length text.now) }
     ensures { result ≡ part_at 0 0 (drop from text.now) from }
 {
     let mut groups = NO_GROUPS;
     let mut at = from;
     loop {
-        match group(table, text, at) {
-            Numeral::Bad => {
-                return with_tail(table, text, at, before_tail(at, groups));
-            }
-            Numeral::Value { value, next } => {
-                if 7 < groups.count {
-                    return Part::Bad;
-                }
-                groups = pushed(groups, 1, value);
-                if next == text.len() {
-                    return Part::Whole(groups);
-                }
-                at = next + 1;
-                if at == text.len() {
-                    return Part::Bad;
-                }
-                if class(table, text[at]) == COLON {
-                    return Part::Gap {
-                        groups,
-                        next: at + 1,
-                    };
-                }
-            }
+        let Some(Numeral { value, next }) = group(table, text, at) else {
+            return with_tail(table, text, at, before_tail(at, groups));
+        };
+        if 7 < groups.count {
+            return None;
+        }
+        groups = pushed(groups, 1, value);
+        if next == text.len() {
+            return Some(Part::Whole(groups));
+        }
+        at = next + 1;
+        if at == text.len() {
+            return None;
+        }
+        if class(table, text[at]) == COLON {
+            return Some(Part::Gap {
+                groups,
+                next: at + 1,
+            });
         }
     }
 }
@@ -331,7 +317,7 @@ fn after_gap(table: &[u8; 256], text: &[u8], at: usize, head: Groups) -> Result<
     if at == text.len() {
         return filled(head, NO_GROUPS);
     }
-    let Part::Whole(tail) = read_part(table, &text[..], at) else {
+    let Some(Part::Whole(tail)) = read_part(table, &text[..], at) else {
         return refused();
     };
     filled(head, tail)
@@ -352,15 +338,15 @@ fn opens(table: &[u8; 256], text: &[u8]) -> bool
 }
 
 // The part before "::", which may be empty, or the whole text.
-fn first_part(table: &[u8; 256], text: &[u8]) -> Part
+fn first_part(table: &[u8; 256], text: &[u8]) -> Option<Part>
     requires { Classes table.now }
     ensures { (reading_of text.now ≡ head_answer text.now result) × Fine (length text.now) result }
 {
     if opens(table, text) {
-        return Part::Gap {
+        return Some(Part::Gap {
             groups: NO_GROUPS,
             next: 2,
-        };
+        });
     }
     read_part(table, &text[..], 0)
 }
@@ -370,8 +356,7 @@ pub fn read_by(table: &[u8; 256], text: &[u8]) -> Result<Key, Refusal>
     requires { Classes table.now }
     ensures { result ≡ reading_of text.now }
 {
-    match first_part(table, text) {
-        Part::Bad => refused(),
+    match first_part(table, text).ok_or(Refusal::Text)? {
         Part::Gap { groups, next } => after_gap(table, text, next, groups),
         Part::Whole(groups) => eight(groups),
     }
