@@ -16,7 +16,8 @@ use Rattle.laws.specs.Cases.{cases, both_true, cond_same}
 use Rattle.laws.specs.Lists.{drop_next}
 use Rattle.text_read.specs.Class.{class_of, colon, dot, within as between}
 use Rattle.text_read.specs.Numerals.{digits, number, group, decimal, no_leading_zero}
-use Rattle.text_read.specs.ReaderSteps.{class_at, Five, by_length, until, numeral_of, group_in, decimal_in}
+use Rattle.text_read.specs.Classes.{class_at, Five}
+use Rattle.text_read.specs.ReaderSteps.{by_length, until, numeral_of, group_in, decimal_in}
 use Rattle.text_read.specs.declared.reader.Numeral.{Numeral}
 
 -- The field by places ---------------------------------------------------------------------------------------------------

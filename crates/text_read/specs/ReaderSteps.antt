@@ -1,7 +1,7 @@
 -- Words of the contracts of the reader's parts: what each part answers, in terms of `Numerals` and `Reading`.
 use Rattle.keys.specs.declared.Key.{Key}
 use Rattle.settings.specs.declared.refusal.Refusal.{Refusal}
-use Rattle.std.specs.Prelude.{◌≡◌, ℕ, ◌+◌, ◌-◌, ◌*◌, ◌/◌, ◌%◌, ◌^◌, ◌≤◌, ◌<◌, true, false, cond, List, [], ◌∷◌, length, get_or, drop, leb, ltb, eqb, Result, Ok, Err, Option as Found, Some, None}
+use Rattle.std.specs.Prelude.{ℕ, ◌+◌, ◌-◌, ◌*◌, ◌/◌, ◌%◌, ◌^◌, ◌≤◌, ◌<◌, true, false, cond, List, [], ◌∷◌, length, drop, leb, ltb, eqb, Result, Ok, Err, Option as Found, Some, None}
 use Rattle.std.proofs.Math.Option.{Option, none, some}
 use Rattle.keys.specs.Key.{key_of}
 use Rattle.settings.specs.declared.refusal.Refusal.TheVariants as refusal
@@ -12,23 +12,6 @@ use Rattle.text_read.specs.declared.reader.Numeral.{Numeral}
 use Rattle.text_read.specs.declared.reader.Groups.{Groups}
 use Rattle.text_read.specs.declared.reader.Part.{Part}
 use Rattle.text_read.specs.declared.reader.Part.TheVariants as answer
-
--- The class table -------------------------------------------------------------------------------------------------------
-
-pub record Classes (table : List ℕ) : Type 0 where
-  pub right : (b : ℕ) → b < 256 → get_or table b 0 ≡ class_of b
-
--- the class of the byte at i; the end of the text is as good as a byte of class e
-unfoldable pub class_at : ℕ → List ℕ → ℕ → ℕ
-class_at e s i = cond (ltb i (length s)) (class_of (get_or s i 0)) e
-
--- the classes of the five bytes from i on, where the end of the text is as good as a colon
-pub record Five (s : List ℕ) (i a b c d e : ℕ) : Type 0 where
-  pub one : a ≡ class_at colon s i
-  pub two : b ≡ class_at colon s (i + 1)
-  pub three : c ≡ class_at colon s (i + 2)
-  pub four : d ≡ class_at colon s (i + 3)
-  pub five : e ≡ class_at colon s (i + 4)
 
 -- a choice by the classes b and c of a field's second and third byte: x, y, z for a group of one, two, three digits
 unfoldable pub by_length : ℕ → ℕ → ℕ → ℕ → ℕ → ℕ

@@ -4,5 +4,5 @@
 mod class;
 mod reader;
 
-pub use class::classes;
+pub use class::{ClassTable, classes};
 pub use reader::{read, read_by};

@@ -5,9 +5,10 @@ ghost use Rattle.settings.specs.declared.refusal.Refusal.TheVariants as refusal;
 ghost use Rattle.text_read.specs.Class.{colon, dot};
 ghost use Rattle.text_read.specs.Reading.{begins, tail, dotted as dottedGroups};
 ghost use Rattle.text_read.specs.Answers.{reading_of};
-ghost use Rattle.text_read.specs.ReaderSteps.{Classes, Five, Sized, Fine, head_answer, by_length, until, numeral_of, group_in, decimal_in, dotted_from, number_of, made, to_end, part_at, filled_with, after_gap};
+ghost use Rattle.text_read.specs.Classes.{Five};
+ghost use Rattle.text_read.specs.ReaderSteps.{Sized, Fine, head_answer, by_length, until, numeral_of, group_in, decimal_in, dotted_from, number_of, made, to_end, part_at, filled_with, after_gap};
 
-use crate::class::{CLASSES, COLON, DOT, class, class_at};
+use crate::class::{CLASSES, COLON, ClassTable, DOT};
 use keys::Key;
 use settings::Refusal;
 
@@ -91,43 +92,43 @@ fn group_of(text: &[u8], at: usize, a: u64, b: u64, c: u64, d: u64, e: u64) -> O
 }
 
 // The group in the field from `at` on. Only near the end of the text is each place tested.
-fn group(table: &[u8; 256], text: &[u8], at: usize) -> Option<Numeral>
-    requires { Classes table.now × (at ≤ length text.now) }
+fn group(table: &ClassTable, text: &[u8], at: usize) -> Option<Numeral>
+    requires { at ≤ length text.now }
     ensures { result ≡ group_in (until colon (drop at text.now)) at }
 {
     if at + 4 < text.len() {
-        let a = class(table, text[at]);
-        let b = class(table, text[at + 1]);
-        let c = class(table, text[at + 2]);
-        let d = class(table, text[at + 3]);
-        let e = class(table, text[at + 4]);
+        let a = table.class(text[at]);
+        let b = table.class(text[at + 1]);
+        let c = table.class(text[at + 2]);
+        let d = table.class(text[at + 3]);
+        let e = table.class(text[at + 4]);
         return group_of(text, at, a, b, c, d, e);
     }
-    let a = class_at(table, text, at, COLON);
-    let b = class_at(table, text, at + 1, COLON);
-    let c = class_at(table, text, at + 2, COLON);
-    let d = class_at(table, text, at + 3, COLON);
-    let e = class_at(table, text, at + 4, COLON);
+    let a = table.class_at(text, at, COLON);
+    let b = table.class_at(text, at + 1, COLON);
+    let c = table.class_at(text, at + 2, COLON);
+    let d = table.class_at(text, at + 3, COLON);
+    let e = table.class_at(text, at + 4, COLON);
     group_of(text, at, a, b, c, d, e)
 }
 
 // The decimal 0 to 255 in the field from `at` on, which goes to a dot or the end.
-fn decimal(table: &[u8; 256], text: &[u8], at: usize) -> Option<Numeral>
-    requires { Classes table.now × (at ≤ length text.now) }
+fn decimal(table: &ClassTable, text: &[u8], at: usize) -> Option<Numeral>
+    requires { at ≤ length text.now }
     ensures { result ≡ decimal_in (until dot (drop at text.now)) at }
 {
-    let a = class_at(table, text, at, DOT);
+    let a = table.class_at(text, at, DOT);
     if 9 < a {
         return None;
     }
-    let b = class_at(table, text, at + 1, DOT);
+    let b = table.class_at(text, at + 1, DOT);
     if 9 < b {
         return ended(a, at + 1, b, DOT);
     }
     if a == 0 {
         return None;
     }
-    let c = class_at(table, text, at + 2, DOT);
+    let c = table.class_at(text, at + 2, DOT);
     if 9 < c {
         return ended(a * 10 + b, at + 2, c, DOT);
     }
@@ -135,7 +136,7 @@ fn decimal(table: &[u8; 256], text: &[u8], at: usize) -> Option<Numeral>
     if 255 < value {
         return None;
     }
-    ended(value, at + 3, class_at(table, text, at + 3, DOT), DOT)
+    ended(value, at + 3, table.class_at(text, at + 3, DOT), DOT)
 }
 
 // The number of n decimals that end the text at `next`: there must be four.
@@ -149,8 +150,8 @@ fn four(value: u64, n: usize, next: usize) -> Option<Numeral>
 }
 
 // The number below 2^32 that four decimals with dots stand for, from `from` to the end of the text.
-fn dotted(table: &[u8; 256], text: &[u8], from: usize) -> Option<Numeral>
-    requires { Classes table.now × (from ≤ length text.now) }
+fn dotted(table: &ClassTable, text: &[u8], from: usize) -> Option<Numeral>
+    requires { from ≤ length text.now }
     ensures { result ≡ numeral_of (dotted_from 0 0 (drop from text.now)) (length text.now) }
 {
     let mut value: u64 = 0;
@@ -193,8 +194,8 @@ fn pushed(groups: Groups, n: usize, x: u64) -> Groups
 }
 
 // The groups and the two of the dotted tail from `at` on: a field that is no group can only be that.
-fn with_tail(table: &[u8; 256], text: &[u8], at: usize, groups: Groups) -> Option<Part>
-    requires { Classes table.now × (at ≤ length text.now) × Sized groups × (groups.count ≤ 8) }
+fn with_tail(table: &ClassTable, text: &[u8], at: usize, groups: Groups) -> Option<Part>
+    requires { (at ≤ length text.now) × Sized groups × (groups.count ≤ 8) }
     ensures { result ≡ to_end (number_of groups) groups.count (dottedGroups (drop at text.now)) }
 {
     if 6 < groups.count {
@@ -216,8 +217,8 @@ fn before_tail(at: usize, groups: Groups) -> Groups
 }
 
 // The groups from `from` on, up to "::" or the end of the text.
-fn read_part(table: &[u8; 256], text: &[u8], from: usize) -> Option<Part>
-    requires { Classes table.now × (from ≤ length text.now) }
+fn read_part(table: &ClassTable, text: &[u8], from: usize) -> Option<Part>
+    requires { from ≤ length text.now }
     ensures { result ≡ part_at 0 0 (drop from text.now) from }
 {
     let mut groups = NO_GROUPS;
@@ -237,7 +238,7 @@ fn read_part(table: &[u8; 256], text: &[u8], from: usize) -> Option<Part>
         if at == text.len() {
             return None;
         }
-        if class(table, text[at]) == COLON {
+        if table.class(text[at]) == COLON {
             return Some(Part::Gap {
                 groups,
                 next: at + 1,
@@ -310,8 +311,8 @@ fn filled(head: Groups, tail: Groups) -> Result<Key, Refusal>
 
 // The address whose groups before "::" are read. One part follows, or nothing: a second "::" is not legal. Here and in
 // `first_part` the slice is taken anew for the part, so that it stays in registers.
-fn after_gap(table: &[u8; 256], text: &[u8], at: usize, head: Groups) -> Result<Key, Refusal>
-    requires { Classes table.now × (0 < at) × (at ≤ length text.now) × Sized head × (head.count ≤ 8) }
+fn after_gap(table: &ClassTable, text: &[u8], at: usize, head: Groups) -> Result<Key, Refusal>
+    requires { (0 < at) × (at ≤ length text.now) × Sized head × (head.count ≤ 8) }
     ensures { result ≡ after_gap (number_of head) head.count (drop at text.now) }
 {
     if at == text.len() {
@@ -324,22 +325,20 @@ fn after_gap(table: &[u8; 256], text: &[u8], at: usize, head: Groups) -> Result<
 }
 
 // The text begins with "::".
-fn opens(table: &[u8; 256], text: &[u8]) -> bool
-    requires { Classes table.now }
+fn opens(table: &ClassTable, text: &[u8]) -> bool
     ensures { result ≡ (begins text.now && begins (tail text.now)) }
 {
     if text.len() < 2 {
         return false;
     }
-    if class(table, text[0]) != COLON {
+    if table.class(text[0]) != COLON {
         return false;
     }
-    class(table, text[1]) == COLON
+    table.class(text[1]) == COLON
 }
 
 // The part before "::", which may be empty, or the whole text.
-fn first_part(table: &[u8; 256], text: &[u8]) -> Option<Part>
-    requires { Classes table.now }
+fn first_part(table: &ClassTable, text: &[u8]) -> Option<Part>
     ensures { (reading_of text.now ≡ head_answer text.now result) × Fine (length text.now) result }
 {
     if opens(table, text) {
@@ -352,8 +351,7 @@ fn first_part(table: &[u8; 256], text: &[u8]) -> Option<Part>
 }
 
 // Reads an address by the class table, which is lent once a call.
-pub fn read_by(table: &[u8; 256], text: &[u8]) -> Result<Key, Refusal>
-    requires { Classes table.now }
+pub fn read_by(table: &ClassTable, text: &[u8]) -> Result<Key, Refusal>
     ensures { result ≡ reading_of text.now }
 {
     match first_part(table, text).ok_or(Refusal::Text)? {

@@ -35,22 +35,22 @@ returns-in_default c =
     let i = c.args.at in
     let h = c.args.head in
     c.refused.ensures
-    ∙ sym (after_here (number_of h) h.count s i (omega (arith, c.requires.2, c.if-at-text.false))
-    ∙ ap (tail_answer (number_of h) h.count) (sym (part _ c.requires.1 c.read_part.ensures)) ∙ not_whole (number_of h) h.count c.read_part.result (search rules))
+    ∙ sym (after_here (number_of h) h.count s i (omega (arith, c.requires.1, c.if-at-text.false))
+    ∙ ap (tail_answer (number_of h) h.count) (sym (part _ c.requires.0 c.read_part.ensures)) ∙ not_whole (number_of h) h.count c.read_part.result (search rules))
 
 pub filled-requires-2 : goal.filled-requires-2
 filled-requires-2 c =
     let s = c.args.text.now in
     let i = c.args.at in
     let h = c.args.head in
-    let q : part_from 0 0 (drop i s) i ≡ Some (answer.Whole c.in-Some-Whole.tail) = sym (part _ c.requires.1 c.read_part.ensures) ∙ c.in-Some-Whole.is ∙ ap Some c.in-Some-Whole.field-0-is in
+    let q : part_from 0 0 (drop i s) i ≡ Some (answer.Whole c.in-Some-Whole.tail) = sym (part _ c.requires.0 c.read_part.ensures) ∙ c.in-Some-Whole.is ∙ ap Some c.in-Some-Whole.field-0-is in
     let f : Fine (i + length (drop i s)) (Some (answer.Whole c.in-Some-Whole.tail)) = rw q at (part_fine (drop i s) i) in
-    (c.requires.3, f.0, c.requires.4, f.1)
+    (c.requires.2, f.0, c.requires.3, f.1)
 
 pub returns : goal.returns
 returns c =
     let s = c.args.text.now in
     let i = c.args.at in
     let h = c.args.head in
-    let q : part_from 0 0 (drop i s) i ≡ Some (answer.Whole c.in-Some-Whole.tail) = sym (part _ c.requires.1 c.read_part.ensures) ∙ c.in-Some-Whole.is ∙ ap Some c.in-Some-Whole.field-0-is in
-    c.filled-2.ensures ∙ sym (after_here (number_of h) h.count s i (omega (arith, c.requires.2, c.if-at-text.false)) ∙ ap (tail_answer (number_of h) h.count) q)
+    let q : part_from 0 0 (drop i s) i ≡ Some (answer.Whole c.in-Some-Whole.tail) = sym (part _ c.requires.0 c.read_part.ensures) ∙ c.in-Some-Whole.is ∙ ap Some c.in-Some-Whole.field-0-is in
+    c.filled-2.ensures ∙ sym (after_here (number_of h) h.count s i (omega (arith, c.requires.1, c.if-at-text.false)) ∙ ap (tail_answer (number_of h) h.count) q)

@@ -1,12 +1,11 @@
 -- What is left of the text, with the groups read so far, gives the answer.
 use Rattle.std.specs.Prelude.{Some}
 use Prim.Native.Nat.{ℕ, ◌+◌, ◌≤◌}
-use mathlib.Core.Path.{◌≡◌, refl, sym, ap, ap₂, ◌∙◌}
+use mathlib.Core.Path.{◌≡◌, sym, ap, ap₂, ◌∙◌}
 use native.Mathlib.Omega.{arith}
-use borrow.Author.Rules.{rules}
 use mathlib.Core.Option.{some}
 use lib.ListN.{drop}
-use lib.Dec.{lit<, lit≤}
+use lib.Dec.{lit≤}
 use Rattle.text_read.specs.Class.{colon}
 use Rattle.text_read.specs.Numerals.{group}
 use Rattle.text_read.specs.ReaderSteps.{until, Sized, part_at}
@@ -22,17 +21,11 @@ use Rattle.text_read.proofs.reader.read_part.Goals.{In-Some}
 found : (c : In-Some) → (group (until colon (drop c.loop-value.at c.args.text.now)) ≡ some c.in-Some.field-0.value) × Past colon c.args.text.now c.loop-value.at c.in-Some.field-0.next
 found c = one_group _ _ c.loop-value.invariant.0 _ (sym c.group.ensures ∙ c.in-Some.is)
 
-pub loop-value-init : goal.loop-value-init
-loop-value-init c = (search rules, search rules, record { fits = lit< tt; half = lit< tt }, refl)
-
-pub group-requires : goal.group-requires
-group-requires c = (c.requires.0, c.loop-value.invariant.0)
-
 pub with_tail-requires : goal.with_tail-requires
 with_tail-requires c =
     let b = c.before_tail.result in
     let z : Sized b × (b.count ≤ 8) = rw c.before_tail.ensures (before_sized c.loop-value.at c.loop-value.groups c.loop-value.invariant.2 c.loop-value.invariant.1) in
-    (c.requires.0, c.loop-value.invariant.0, z.0, z.1)
+    (c.loop-value.invariant.0, z.0, z.1)
 
 pub returns-in_default : goal.returns-in_default
 returns-in_default c =
@@ -67,9 +60,6 @@ returns-then-at-text c =
 
 pub bounds-text-at : goal.bounds-text-at
 bounds-text-at c = omega (arith, (found (goal.at.bounds-text-at c).In-Some).1.within, c.if-next-text.false, c.if-at-text.false)
-
-pub class-requires : goal.class-requires
-class-requires c = c.requires.0
 
 pub overflow_add-result : goal.overflow_add-result
 overflow_add-result c =

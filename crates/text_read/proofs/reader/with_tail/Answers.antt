@@ -26,7 +26,7 @@ returns-in_err-tail c =
 
 pub pushed-requires : goal.pushed-requires
 pushed-requires c =
-    (c.requires.2, lit≤ tt, lit≤ tt, omega (arith, c.if-groups-gt6.false), dotted_below _ _ (tail (goal.at.pushed-requires c).In_ok-tail))
+    (c.requires.1, lit≤ tt, lit≤ tt, omega (arith, c.if-groups-gt6.false), dotted_below _ _ (tail (goal.at.pushed-requires c).In_ok-tail))
 
 pub returns : goal.returns
 returns c =
