@@ -2,7 +2,6 @@
 #![tactic(auto)]
 
 ghost use Rattle.std.specs.Prelude.{◌≡◌, List, ◌++◌, ℕ, ◌+◌, ◌-◌, ◌≤◌, length, take, drop};
-ghost use Rattle.text_read.specs.ReaderSteps.{Classes};
 ghost use Rattle.program_lines.specs.Ends.{span_at};
 ghost use Rattle.program_lines.specs.declared.Span.TheVariants as span;
 ghost use Rattle.settings.specs.declared.refusal.Refusal.TheVariants as refusal;
@@ -14,6 +13,7 @@ use program_answers::ANSWER_MAX;
 use program_commands::LINE_MAX;
 use program_lines::Span;
 use settings::Refusal;
+use text_read::ClassTable;
 
 // How far a turn has come in the input and in the output, whether the input begins inside a line that has
 // been answered, and whether there may be more lines.
@@ -27,7 +27,7 @@ pub struct Turn {
 
 // Answers the line input[at..e] into out from `made` on.
 fn answer_part(
-    classes: &[u8; 256],
+    classes: &ClassTable,
     input: &[u8],
     at: usize,
     e: usize,
@@ -36,7 +36,7 @@ fn answer_part(
     made: usize,
 ) -> usize
     requires at_le_e { (at ≤ e) × (e ≤ length input.now) }
-    requires classes { Classes classes.now × (program_bytes ≤ length t.old) × (made + answer_room ≤ length out.old) }
+    requires room { (program_bytes ≤ length t.old) × (made + answer_room ≤ length out.old) }
     ensures upper_bound { result ≤ made + answer_room }
     ensures t_after { t.new ≡ (line_reply t.old (take (e - at) (drop at input.now))).bytes }
     ensures out_after { take result out.new ≡ take made out.old ++ (line_reply t.old (take (e - at) (drop at input.now))).answer }
@@ -55,7 +55,7 @@ fn refuse_part(out: &mut [u8], made: usize) -> usize
 
 // The line that ends at e, unless it has been answered.
 fn line_turn(
-    classes: &[u8; 256],
+    classes: &ClassTable,
     input: &[u8],
     at: usize,
     e: usize,
@@ -65,7 +65,7 @@ fn line_turn(
     made: usize,
 ) -> Turn
     requires at_in_bounds { (at ≤ length input.now) × (span_at input.now at ≡ span.Line e) }
-    requires classes { Classes classes.now × (program_bytes ≤ length t.old) × (made + answer_room ≤ length out.old) }
+    requires room { (program_bytes ≤ length t.old) × (made + answer_room ≤ length out.old) }
     ensures { Turned input.now at skip t.old out.old made result t.new out.new }
 {
     if skip {
@@ -117,7 +117,7 @@ fn rest_turn(input: &[u8], at: usize, skip: bool, out: &mut [u8], made: usize) -
 
 // One line, or the start of one that is too long: `span` is what the reader found.
 fn one_turn(
-    classes: &[u8; 256],
+    classes: &ClassTable,
     input: &[u8],
     at: usize,
     span: Span,
@@ -126,7 +126,7 @@ fn one_turn(
     out: &mut [u8],
     made: usize,
 ) -> Turn
-    requires { (at ≤ length input.now) × (span ≡ span_at input.now at) × Classes classes.now × (program_bytes ≤ length t.old) × (made + answer_room ≤ length out.old) }
+    requires { (at ≤ length input.now) × (span ≡ span_at input.now at) × (program_bytes ≤ length t.old) × (made + answer_room ≤ length out.old) }
     ensures { Turned input.now at skip t.old out.old made result t.new out.new }
 {
     match span {
@@ -148,7 +148,7 @@ pub struct Step {
 // output is full (a line further at least, if there was room for an answer), the bytes of the output behind what was
 // made, which nobody reads, and the table's bytes: of these it is said what is due on them, whatever follows.
 pub fn consume(
-    classes: &[u8; 256],
+    classes: &ClassTable,
     input: &[u8],
     at: usize,
     skip: bool,
@@ -156,7 +156,7 @@ pub fn consume(
     out: &mut [u8],
 ) -> Step
     requires at_in_bounds { at ≤ length input.now }
-    requires classes { Classes classes.now × (program_bytes ≤ length t.old) }
+    requires room { program_bytes ≤ length t.old }
     ensures { Consumed input.now at skip t.old result t.new out.new }
 {
     let mut l = program_lines::lines_at(input, at);
@@ -182,8 +182,8 @@ pub fn consume(
 // The end of the input: a last line that lacks its line feed. Left free: the answer to an input with a line feed, which
 // `consume` never leaves, but that it fits; and, since the run ends here, the table and the bytes of the output behind
 // the answer, but for their lengths.
-pub fn finish(classes: &[u8; 256], input: &[u8], skip: bool, t: &mut [u8], out: &mut [u8]) -> usize
-    requires { Classes classes.now × (program_bytes ≤ length t.old) × (answer_room ≤ length out.old) }
+pub fn finish(classes: &ClassTable, input: &[u8], skip: bool, t: &mut [u8], out: &mut [u8]) -> usize
+    requires { (program_bytes ≤ length t.old) × (answer_room ≤ length out.old) }
     ensures { Finished input.now skip t.old out.new result }
 {
     if skip {

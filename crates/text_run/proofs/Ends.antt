@@ -1,4 +1,7 @@
 -- Where the run ends, seen from a place within it; and the bytes that are looked at.
+use Rattle.std.specs.Prelude.{Result}
+use Rattle.keys.specs.declared.Key.{Key}
+use Rattle.settings.specs.declared.refusal.Refusal.{Refusal}
 use mathlib.Core.Path.{◌≡◌, sym, ◌∙◌}
 use mathlib.Core.Bool.{Bool, not}
 use mathlib.Core.List.{List, [], ◌∷◌}
@@ -14,7 +17,6 @@ use Rattle.laws.specs.Lists.{drop_next}
 use Rattle.laws.specs.Passes.{Passes}
 use Rattle.text_read.specs.Class.{class_of, other}
 use Rattle.text_read.specs.Answers.{reading_of}
-use Rattle.text_read.specs.declared.Parsed.{Parsed}
 use Rattle.text_run.specs.Run.{run}
 use Rattle.text_run.specs.Answers.{taking, taken_of}
 use Rattle.text_run.specs.Steps.{run_end}
@@ -54,6 +56,6 @@ front_take s n e =
     (λ t. rw (e, min-eq_left (le_of_lt (leb-false (length s) 46 t))))
 
 -- what is read of the bytes before the run's end is the answer
-pub taken_is : (s : List ℕ) (n : ℕ) (p : Parsed) → n ≡ length (run s) → p ≡ reading_of (take n s) → taking n p ≡ taken_of s
+pub taken_is : (s : List ℕ) (n : ℕ) (p : Result Key Refusal) → n ≡ length (run s) → p ≡ reading_of (take n s) → taking n p ≡ taken_of s
 unfolding taken_of
 taken_is s n p e r = rw (r, e, run_take s)

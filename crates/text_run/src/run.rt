@@ -6,7 +6,7 @@ ghost use Rattle.text_run.specs.Answers.{taken_of};
 ghost use Rattle.text_run.specs.Steps.{run_end};
 
 use crate::Taken;
-use text_read::Parsed;
+use settings::Refusal;
 
 // A legal text has at most 45 bytes: one more tells that the run is too long, so that the time of a call has a bound.
 const MOST: usize = 46;
@@ -86,14 +86,12 @@ fn run_length(text: &[u8]) -> usize
 }
 
 // Reads the run as a whole.
-fn read_run(text: &[u8]) -> Taken
+fn read_run(text: &[u8]) -> Result<Taken, Refusal>
     ensures { result ≡ taken_of text.now }
 {
     let bytes = run_length(text);
-    match text_read::read(&text[..bytes]) {
-        Parsed::Key(key) => Taken::Key { key, bytes },
-        Parsed::Refused(why) => Taken::Refused(why),
-    }
+    let key = text_read::read(&text[..bytes])?;
+    Ok(Taken { key, bytes })
 }
 
 // How many bytes of a text decide what is read of it.
@@ -107,7 +105,7 @@ fn looked_at(length: usize) -> usize
 }
 
 // Reads the address that a text begins with.
-pub fn read(text: &[u8]) -> Taken
+pub fn read(text: &[u8]) -> Result<Taken, Refusal>
     ensures { result ≡ taken_of text.now }
 {
     let n = looked_at(text.len());

@@ -34,7 +34,6 @@ module _ (n : ℕ) (e : n ≡ program_bytes) where
 
 pub run-requires : goal.run-requires
 run-requires c = (
-  c.classes-classes.ensures,
   room buffer _ (lit≤ tt),
   long _ (sym program_bytes_lem) c.make.new.t c.make.auto.t,
   room buffer _ (lit≤ tt),

@@ -18,15 +18,15 @@ unread-requires c =
     let q = parsing (goal.at.unread-requires c).In-Request in
     (q.low, q.high)
 
-pub returns-in-Key : goal.returns-in-Key
-returns-in-Key c =
-    let e = sym c.read_by.ensures ∙ c.in-Key.is in
-    answered_as (line_key c.args.t.now c.args.line.now c.in-Request.q (parsing (goal.at.returns-in-Key c).In-Request).is (omega (arith, (goal.at.returns-in-Key c).Start)) c.in-Key.key e (read_spaceless _ _ e)) c.answer_key.ensures
+pub returns-in-Ok : goal.returns-in-Ok
+returns-in-Ok c =
+    let e = sym c.read_by.ensures ∙ c.in-Ok.is in
+    answered_as (line_key c.args.t.now c.args.line.now c.in-Request.q (parsing (goal.at.returns-in-Ok c).In-Request).is (omega (arith, (goal.at.returns-in-Ok c).Start)) c.in-Ok.field-0 e (read_spaceless _ _ e)) c.answer_key.ensures
 
-pub returns-in-Refused : goal.returns-in-Refused
-returns-in-Refused c =
+pub returns-in-Err : goal.returns-in-Err
+returns-in-Err c =
     answered_refused _
-    (line_unread c.args.t.now c.args.line.now c.in-Request.q (parsing (goal.at.returns-in-Refused c).In-Request).is (omega (arith, (goal.at.returns-in-Refused c).Start)) c.in-Refused.field-0 (sym c.read_by.ensures ∙ c.in-Refused.is))
+    (line_unread c.args.t.now c.args.line.now c.in-Request.q (parsing (goal.at.returns-in-Err c).In-Request).is (omega (arith, (goal.at.returns-in-Err c).Start)) c.in-Err.field-0 (sym c.read_by.ensures ∙ c.in-Err.is))
     (rw c.unread.ensures at c.refuse.ensures.0)
 
 pub returns-in-Malformed : goal.returns-in-Malformed
