@@ -7,7 +7,6 @@ ghost use Rattle.text_write.specs.WriterSteps.{Gap, Puts, key_groups, packed, cl
 ghost use Rattle.settings.specs.Reply.{Gives};
 ghost use Rattle.text_write.specs.Answers.{write_call};
 
-use crate::Written;
 use crate::four::put_four;
 use crate::mapped::{decimal_ends, is_mapped, put_mapped};
 use keys::Key;
@@ -199,19 +198,19 @@ fn copy(text: &[u8], n: usize, out: &mut [u8])
 }
 
 // Writes the text of a mapped address, if it fits.
-fn write_mapped(key: Key, out: &mut [u8]) -> Written
+fn write_mapped(key: Key, out: &mut [u8]) -> Result<usize, Refusal>
     requires { is_mapped key.high key.low ≡ true }
     ensures { Gives (write_call key out.old) result out.new }
 {
     let ends = decimal_ends(key.low);
     if out.len() < ends.last {
-        return Written::Refused(Refusal::Output);
+        return Err(Refusal::Output);
     }
-    Written::Length(put_mapped(out, key.low, ends))
+    Ok(put_mapped(out, key.low, ends))
 }
 
 // Writes the text of any other address, if it fits.
-fn write_hexadecimal(key: Key, out: &mut [u8]) -> Written
+fn write_hexadecimal(key: Key, out: &mut [u8]) -> Result<usize, Refusal>
     requires { is_mapped key.high key.low ≡ false }
     ensures { Gives (write_call key out.old) result out.new }
 {
@@ -219,14 +218,14 @@ fn write_hexadecimal(key: Key, out: &mut [u8]) -> Written
     let mut text = [0u8; 40];
     let n = put_hexadecimal(&mut text, key);
     if out.len() < n {
-        return Written::Refused(Refusal::Output);
+        return Err(Refusal::Output);
     }
     copy(&text, n, out);
-    Written::Length(n)
+    Ok(n)
 }
 
 // Writes the text of a key, if it fits.
-pub fn write(key: Key, out: &mut [u8]) -> Written
+pub fn write(key: Key, out: &mut [u8]) -> Result<usize, Refusal>
     ensures { Gives (write_call key out.old) result out.new }
 {
     if is_mapped(key) {
