@@ -137,9 +137,5 @@ pub fn four_is(s: &[u8], i: usize, q: u64) -> bool
 pub fn zero_bytes(s: &mut [u8])
     ensures { s.new ≡ replicate (length s.old) 0 }
 {
-    let mut i: usize = 0;
-    while i < s.len() {
-        s[i] = 0;
-        i += 1;
-    }
+    s.fill(0);
 }

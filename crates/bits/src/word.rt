@@ -5,7 +5,6 @@ ghost use Rattle.bits.specs.Field.{field};
 ghost use Rattle.bits.specs.Put.{put_field};
 ghost use Rattle.bits.specs.Word.{low_first, low_first_four, swapped, set_four};
 
-use crate::byte::long;
 use crate::number::{part, replace};
 
 // The eight bytes from i on, the first one lowest.
@@ -13,14 +12,14 @@ pub(crate) fn low_first(s: &[u8], i: usize) -> u64
     requires { i + 8 ≤ length s.now }
     ensures { result ≡ low_first s.now i }
 {
-    long(s[i])
-        + long(s[i + 1]) * 256
-        + long(s[i + 2]) * 65536
-        + long(s[i + 3]) * 16777216
-        + long(s[i + 4]) * 4294967296
-        + long(s[i + 5]) * 1099511627776
-        + long(s[i + 6]) * 281474976710656
-        + long(s[i + 7]) * 72057594037927936
+    u64::from(s[i])
+        + u64::from(s[i + 1]) * 256
+        + u64::from(s[i + 2]) * 65536
+        + u64::from(s[i + 3]) * 16777216
+        + u64::from(s[i + 4]) * 4294967296
+        + u64::from(s[i + 5]) * 1099511627776
+        + u64::from(s[i + 6]) * 281474976710656
+        + u64::from(s[i + 7]) * 72057594037927936
 }
 
 // The four bytes from i on, the first one lowest.
@@ -28,7 +27,7 @@ pub(crate) fn low_first_four(s: &[u8], i: usize) -> u64
     requires { i + 4 ≤ length s.now }
     ensures { result ≡ low_first_four s.now i }
 {
-    long(s[i]) + long(s[i + 1]) * 256 + long(s[i + 2]) * 65536 + long(s[i + 3]) * 16777216
+    u64::from(s[i]) + u64::from(s[i + 1]) * 256 + u64::from(s[i + 2]) * 65536 + u64::from(s[i + 3]) * 16777216
 }
 
 // x, with its eight bytes in the other order.
