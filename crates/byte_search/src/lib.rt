@@ -27,10 +27,7 @@ fn skip<const N: usize, F: Fn(u8) -> bool>(s: &[u8], at: usize, test: &F) -> usi
     ensures within { result ≤ length s.now }
 {
     let mut i = at;
-    while N <= s.len() - i {
-        if !none_of::<N, F>(s, i, test) {
-            return i;
-        }
+    while N <= s.len() - i && none_of::<N, F>(s, i, test) {
         i += N;
     }
     i
