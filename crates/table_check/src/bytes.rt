@@ -3,8 +3,6 @@ ghost use Rattle.std.specs.Prelude.{◌≡◌, ◌+◌, ◌-◌, ◌*◌, ◌^�
 ghost use Rattle.laws.specs.Folds.{every_below};
 ghost use Rattle.bits.specs.Field.{field};
 
-use table_read::slots::least;
-
 // Whether the n bits from bit at on are zero, 64 of them at a time.
 pub(crate) fn zeros(t: &[u8], at: usize, n: usize) -> bool
     requires { (at + n ≤ 8 * length t.now) × (at + n ≤ 2 ^ 28) }
@@ -12,7 +10,7 @@ pub(crate) fn zeros(t: &[u8], at: usize, n: usize) -> bool
 {
     let mut done: usize = 0;
     while done < n {
-        let m = least(n - done, 64);
+        let m = (n - done).min(64);
         if bits::get(t, at + done, m) != 0 {
             return false;
         }

@@ -17,7 +17,7 @@ use settings::Layout;
 use table::Step;
 use table_read::blocks::{overflow_front, step_of};
 use table_read::lists::overflow_run;
-use table_read::slots::{Slots, entry_at, least, scan, scan_displaced};
+use table_read::slots::{Slots, entry_at, scan, scan_displaced};
 
 // The same as `entry_at`, with a way of its own for entries behind the displaced bits, as most are. It serves one loop, and
 // is inlined there.
@@ -72,7 +72,7 @@ fn run_of(g: Layout, b: BlockNumber, c: usize) -> Slots
     requires { Proper g × (b.0 < g.nob) }
     ensures { result ≡ run_of g b.0 c }
 {
-    overflow_run(g, b, least(c, g.sio))
+    overflow_run(g, b, c.min(g.sio))
 }
 
 // Whether the entry stands in the blocks from first on, of which at most `most` are followed.

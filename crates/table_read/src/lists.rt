@@ -8,7 +8,7 @@ ghost use Rattle.table_read.specs.Steps.{last_from, last_as, basic_run, displace
 
 use crate::blocks::{overflow_front, owned_front, step_of};
 use crate::places::{basic_slots, overflow_slots};
-use crate::slots::{Slots, least};
+use crate::slots::Slots;
 use keys::{BlockNumber, ListNumber, SlotNumber};
 use settings::Layout;
 use table::{Damage, Step};
@@ -20,8 +20,7 @@ pub fn follow(t: &[u8], g: Layout, i: ListNumber, first: BlockNumber) -> Result<
     ensures { result ≡ last_as g (last_from g i.0 g.nob (decode g t.now).overflow first.0) }
 {
     let mut b = first;
-    let mut k: usize = 0;
-    while k < g.nob {
+    for _ in 0..g.nob {
         if b.0 >= g.nob {
             return Err(Damage);
         }
@@ -34,7 +33,6 @@ pub fn follow(t: &[u8], g: Layout, i: ListNumber, first: BlockNumber) -> Result<
             Step::Further(next) => b = next,
             Step::Damage => return Err(Damage),
         }
-        k += 1;
     }
     Err(Damage)
 }
@@ -72,7 +70,7 @@ pub fn overflow_run(g: Layout, j: BlockNumber, c: usize) -> Slots
 {
     Slots {
         start: overflow_slots(g, j),
-        count: least(c + 1, g.sio),
+        count: (c + 1).min(g.sio),
         displaced: 0,
         value: 0,
     }
@@ -111,8 +109,7 @@ pub fn list_has_block(t: &[u8], g: Layout, first: BlockNumber, f: BlockNumber) -
     ensures { result ≡ has_block g g.nob (decode g t.now).overflow first.0 f.0 }
 {
     let mut b = first;
-    let mut q: usize = 0;
-    while q < g.nob {
+    for _ in 0..g.nob {
         if b.0 == f.0 {
             return true;
         }
@@ -120,7 +117,6 @@ pub fn list_has_block(t: &[u8], g: Layout, first: BlockNumber, f: BlockNumber) -
             return false;
         };
         b = next;
-        q += 1;
     }
     false
 }

@@ -11,12 +11,9 @@ use Rattle.table_check.proofs.bytes.zeros.Goals as goal
 pub loop-done-init : goal.loop-done-init
 loop-done-init c = (omega arith, field_zero _ _)
 
-pub least-m-requires : goal.least-m-requires
-least-m-requires c = tt
-
 pub returns-then-get-ne0 : goal.returns-then-get-ne0
 returns-then-get-ne0 c =
-    let k = c.least-m.result in
+    let k = c.min-m.result in
     let e : c.loop-done.done + k + (c.args.n - (c.loop-done.done + k)) ≡ c.args.n = omega arith in
     sym
     (ne_eqb (field c.args.t.now c.args.at c.args.n) 0
@@ -25,7 +22,7 @@ returns-then-get-ne0 c =
 pub loop-done-preserved : goal.loop-done-preserved
 loop-done-preserved c = (
   omega arith,
-  zero_more c.args.t.now c.args.at c.loop-done.done c.least-m.result c.loop-done.invariant.1
+  zero_more c.args.t.now c.args.at c.loop-done.done c.min-m.result c.loop-done.invariant.1
       (sym c.get.ensures ∙ c.if-get-ne0.false),
 )
 
