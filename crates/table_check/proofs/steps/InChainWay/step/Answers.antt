@@ -19,8 +19,8 @@ use Rattle.table_check.proofs.Zeros.{over_zeros}
 use Rattle.table.specs.declared.step.Step.TheVariants.{Last}
 use Rattle.table.specs.Follow.{further}
 use Rattle.table_check.proofs.StepLaws.{chain_used, chain_owned, chain_full, chain_free}
-use Rattle.table_check.proofs.steps.chain_step.Goals as goal
-use Rattle.table_check.proofs.steps.chain_step.Goals.{Else-fields-ne0, Else-fields-ne0-2, Else-not-zeros_after}
+use Rattle.table_check.proofs.steps.InChainWay.step.Goals as goal
+use Rattle.table_check.proofs.steps.InChainWay.step.Goals.{Else-fields-ne0, Else-fields-ne0-2, Else-not-zeros_after}
 
 pub returns-then-fields-ne0 : goal.returns-then-fields-ne0
 returns-then-fields-ne0 c = sym (chain_used _ _ _ (λ e. omega (arith, c.owned_front-fields.ensures.0, c.if-fields-ne0.true)))
