@@ -9,7 +9,7 @@ ghost use Rattle.table.specs.declared.answers.Word.TheVariants as word;
 use crate::outcome::apply;
 use crate::text::{put, put_decimal};
 use keys::Key;
-use program_commands::{Asked, Request, parse, unread};
+use program_commands::{Request, parse, unread};
 use settings::Refusal;
 use table::{Answer, Word};
 use text_read::ClassTable;
@@ -115,14 +115,12 @@ pub fn answer_line(classes: &ClassTable, line: &[u8], t: &mut [u8], out: &mut [u
     requires { (program_bytes ≤ length t.old) × (answer_room ≤ length out.old) }
     ensures { Answered (line_reply t.old line.now) t.new out.new result }
 {
-    match parse(line) {
-        Asked::Request(q) => {
-            let end = q.end;
-            match text_read::read_by(classes, &line[2..end]) {
-                Ok(key) => answer_key(q, key, t, out),
-                Err(_) => refuse(unread(line, end), out),
-            }
-        }
-        Asked::Malformed => refuse(Refusal::Line, out),
+    let Some(q) = parse(line) else {
+        return refuse(Refusal::Line, out);
+    };
+    let end = q.end;
+    match text_read::read_by(classes, &line[2..end]) {
+        Ok(key) => answer_key(q, key, t, out),
+        Err(_) => refuse(unread(line, end), out),
     }
 }
