@@ -98,9 +98,9 @@ module _ (g : Layout) (t : List ℕ) (T : Table g t) where
         let w : m + g.sio + length (gather g os bs) ≡ m + length (gather g os (b ∷ bs)) = omega (arith, block_length b (gather g os bs) h) in
         cases (every (is_own i os) bs) (λ q. rw (own, q) (ap Ok w)) (λ q. rw (own, q))
 
-    pub length_on : (n k b m : ℕ) → n ≡ suc k → b < g.nob → (overflow_at os b).owner ≡ i → (overflow_at os b).counter ≡ g.sio
-        → plus (m + g.sio) (length_from k (overflow_at os b).link) ≡ plus m (length_from n b)
-    length_on n k b m z h o e = rw (follow_on g os n k b z h e) (length_next b m h o e (follow g k os (overflow_at os b).link))
+    pub length_on : (n k b m x : ℕ) → n ≡ suc k → b < g.nob → (overflow_at os b).owner ≡ i → (overflow_at os b).counter ≡ g.sio → x ≡ (overflow_at os b).link
+        → plus (m + g.sio) (length_from k x) ≡ plus m (length_from n b)
+    length_on n k b m x z h o e l = rw (l, follow_on g os n k b z h e) (length_next b m h o e (follow g k os (overflow_at os b).link))
 
   -- ---- they are few, since a block has at most 15 slots
 

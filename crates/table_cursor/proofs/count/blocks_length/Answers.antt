@@ -1,13 +1,11 @@
 -- n entries were passed, and with those from here on, in the blocks that are left, they are those of all blocks.
-use mathlib.Core.Path.{◌≡◌, ap, ◌∙◌}
+use mathlib.Core.Path.{◌≡◌, ◌∙◌}
 use Prim.Native.Nat.{◌+◌, ◌-◌, ◌≤◌}
 use native.Mathlib.Omega.{arith}
 use Rattle.table.specs.State.{overflow_at}
 use Rattle.table.specs.Decode.{decode}
-use Rattle.table.specs.Follow.{follow, own_blocks}
 use Rattle.table.specs.theory.Ways.{told_last, told_further, told_damage}
-use Rattle.table_cursor.specs.Survey.{blocks_length}
-use Rattle.table_cursor.proofs.LengthLaws.{plus, length_high, length_out, length_other, length_bad, length_here, length_on}
+use Rattle.table_cursor.proofs.LengthLaws.{length_high, length_other, length_bad, length_here, length_on}
 use Rattle.table_cursor.proofs.count.blocks_length.Goals as goal
 use Rattle.table_cursor.proofs.count.blocks_length.Goals.{After-step_of, In-Last}
 
@@ -53,12 +51,7 @@ loop-k-preserved c =
     let g = c.args.g in
     let e = told_further _ _ _ _ c.step_of.ensures _ c.in-Further.is in (
       omega (arith, c.loop-k.invariant.0, c.requires.proper.sio_high),
-      ap (λ x. plus (c.loop-k.n + g.sio) (blocks_length g (decode g c.args.t.now).overflow (own_blocks c.args.i.0 (decode g c.args.t.now).overflow (follow g (g.nob - (c.loop-k._k + 1)) (decode g c.args.t.now).overflow x)))) (e.link ∙ c.owned_front-fields.ensures.1)
-          ∙ length_on g c.args.t.now c.requires c.args.i.0 (g.nob - c.loop-k._k) (g.nob - (c.loop-k._k + 1)) c.loop-k.b.0 c.loop-k.n (omega arith) (omega arith) (own (goal.at.loop-k-preserved c).After-step_of)
-          (omega (arith, c.owned_front-fields.ensures.0, e.full))
+      length_on g c.args.t.now c.requires c.args.i.0 (g.nob - c.loop-k._k) _ c.loop-k.b.0 c.loop-k.n _ (omega arith) (omega arith)
+          (own (goal.at.loop-k-preserved c).After-step_of) (omega (arith, c.owned_front-fields.ensures.0, e.full)) (e.link ∙ c.owned_front-fields.ensures.1)
           ∙ c.loop-k.invariant.1,
     )
-
-pub returns : goal.returns
-returns c =
-    length_out c.args.g c.args.t.now c.requires c.args.i.0 (c.args.g.nob - c.loop-k._k) c.loop-k.b.0 c.loop-k.n (omega arith) ∙ c.loop-k.invariant.1

@@ -1,20 +1,19 @@
 -- The lists before list i are whole and have count entries, and record n, if it is one of theirs, is entry skip of `list`.
 use mathlib.Core.Path.{◌≡◌, sym, ◌∙◌}
-use Prim.Native.Nat.{◌+◌}
 use native.Mathlib.Omega.{arith}
 use Rattle.std.specs.Prelude.{Ok}
-use lib.Dec.{leb, ltb}
-use borrow.Author.Tests.{leb-true}
 use Rattle.std.proofs.lemmas.Result.{err_from_is_err_and}
-use Rattle.laws.specs.Cases.{both_true}
 use Rattle.table.specs.Decode.{decode}
 use Rattle.table.specs.Follow.{content}
 use Rattle.table_cursor.specs.Survey.{list_length}
 use Rattle.table_cursor.specs.theory.Undamaged.{damaged_test}
 use Rattle.table_cursor.proofs.LengthLaws.{list_few}
-use Rattle.table_cursor.proofs.SurveyLaws.{damaged_none, passed_on, stands_here, stands_still, all_passed}
+use Rattle.table_cursor.proofs.SurveyLaws.{damaged_none, passed_none, stands_first, passed_on, stands_here, stands_still, all_passed}
 use Rattle.table_cursor.proofs.count.survey.Goals as goal
 use Rattle.table_cursor.proofs.count.survey.Goals.{then-count-n, else-count-n}
+
+pub loop-i-init : goal.loop-i-init
+loop-i-init c = (passed_none c.args.g c.args.t.now c.requires, stands_first c.args.g c.args.t.now c.requires c.args.n)
 
 pub returns-in_err-k : goal.returns-in_err-k
 returns-in_err-k c =
@@ -25,11 +24,6 @@ returns-in_err-k c =
 pub overflow_add-more : goal.overflow_add-more
 overflow_add-more c =
     omega (arith, c.requires.proper.lists_high, c.loop-i.invariant.0.within, c.loop-i.invariant.0.few, list_few c.args.g c.args.t.now c.requires c.loop-i.i _ (sym c.list_length.ensures ∙ c.in_ok-k.was))
-
-pub overflow_sub-skip : goal.overflow_sub-skip
-overflow_sub-skip c =
-    let n = c.args.n in
-    leb-true c.loop-i.count n (both_true (leb c.loop-i.count n) (ltb n (c.loop-i.count + c.in_ok-k.k)) c.if-count-n.true).0
 
 pub loop-i-preserved : goal.loop-i-preserved
 loop-i-preserved c =

@@ -33,11 +33,6 @@ here c =
       | else-d w ↦ (rw w.d-is (reaches_at g t (λ s. ahead s t d) d c.requires.2 (omega (arith, w.if-d.false)) (λ s e. refl)), rw w.d-is (omega (arith, w.if-d.false)))
     ]
 
-pub taken-requires : goal.taken-requires
-taken-requires c =
-    let h = here (goal.at.taken-requires c).Joined-d in
-    (c.requires.0, h.0.good h.1, h.1)
-
 pub returns : goal.returns
 returns c =
     let h = here (goal.at.returns c).Joined-d in
