@@ -28,9 +28,7 @@ pub fn next(t: &[u8], g: Layout, c: Cursor) -> Option<Next>
 {
     let mut d = c;
     if d.passed >= d.run.count {
-        let list = d.list;
-        let behind = d.behind;
-        d = moved(t, g, list, behind);
+        d = moved(t, g, d.list, d.behind);
         if d.passed >= d.run.count {
             return None;
         }
@@ -79,20 +77,17 @@ fn taken(t: &[u8], g: Layout, c: Cursor) -> Next
     requires { Table g t.now × Good g t.now c × (c.passed < c.run.count) }
     ensures { Gives g t.now (λ s. ahead s t.now c) result }
 {
-    let list = c.list;
-    let run = c.run;
-    let behind = c.behind;
     let n = c.passed;
-    let slot = held(t, g, run, SlotNumber(n));
+    let slot = held(t, g, c.run, SlotNumber(n));
     Next {
-        list,
+        list: c.list,
         entry: slot.entry,
         label: slot.label,
         cursor: Cursor {
-            list,
+            list: c.list,
             passed: n + 1,
-            run,
-            behind: apart(behind),
+            run: c.run,
+            behind: apart(c.behind),
         },
     }
 }
@@ -169,21 +164,19 @@ fn at_long(t: &[u8], g: Layout, i: ListNumber, first: BlockNumber, n: usize) -> 
 {
     let mut c = enter_long(t, g, i, first);
     let mut left = n;
+    // A `while`, since no number is counted: the blocks themselves end it.
     while c.run.count < left {
-        let behind = c.behind;
-        let Step::Further(b) = behind else {
+        let Step::Further(b) = c.behind else {
             break;
         };
         left -= c.run.count;
         c = enter_block(t, g, i, b);
     }
-    let run = c.run;
-    let behind = c.behind;
     Cursor {
         list: i,
         passed: left,
-        run,
-        behind,
+        run: c.run,
+        behind: c.behind,
     }
 }
 
@@ -211,13 +204,12 @@ fn enter_long(t: &[u8], g: Layout, i: ListNumber, first: BlockNumber) -> Cursor
     requires { Table g t.now × (i.0 < g.lists) × Overflows g (decode g t.now) i.0 first.0 × OwnFollowed g i.0 g.nob (decode g t.now).overflow first.0 }
     ensures { Begins g t.now i.0 (slots_of (content g (decode g t.now) i.0)) result }
 {
-    let behind = Step::Further(first);
     let Last::Block(last) = follow(t, g, i, first) else {
         return Cursor {
             list: i,
             passed: 0,
             run: basic_run(g, i, 0),
-            behind,
+            behind: Step::Further(first),
         };
     };
     let run = displaced_run(g, i, overflow_link(t, g, last));
@@ -225,7 +217,7 @@ fn enter_long(t: &[u8], g: Layout, i: ListNumber, first: BlockNumber) -> Cursor
         list: i,
         passed: 0,
         run,
-        behind,
+        behind: Step::Further(first),
     }
 }
 
