@@ -14,7 +14,6 @@ ghost use Rattle.filter.specs.World.{Erred, Gives, Wrote};
 ghost use Rattle.filter.specs.Loop.{Placed, unanswered, Answered, Read, Ends, Ran};
 
 use program_answers::TABLE_BYTES;
-use settings::Made;
 use std::io;
 use std::io::ErrorKind;
 use streams::{Streams, fail, read_once, write_once};
@@ -241,7 +240,7 @@ fn main(rt: HostRuntime) {
         output: rt.stdout(),
         errors: rt.stderr(),
     };
-    let Made::Settings(s) = program_answers::settings() else {
+    let Ok(s) = program_answers::settings() else {
         fail(&io, "settings", io::Error::from(ErrorKind::InvalidInput));
         return;
     };

@@ -11,7 +11,7 @@ use crate::text::{put, put_decimal};
 use keys::Key;
 use program_commands::{Request, parse, unread};
 use settings::Refusal;
-use table::{Answer, Word};
+use table::{Said, Word};
 use text_read::ClassTable;
 
 // Room for any answer: an address of at most 39 bytes, a word, two numbers of at most ten digits.
@@ -83,13 +83,13 @@ fn put_numbers(label: u32, compared: u32, out: &mut [u8], at: usize) -> usize
 }
 
 // Address, word, label, compared.
-fn say(key: Key, word: Word, label: u32, compared: u32, out: &mut [u8]) -> usize
+fn say(key: Key, said: Said, out: &mut [u8]) -> usize
     requires { answer_room ≤ length out.old }
-    ensures { Wrote (said_text (written key.high key.low) word label compared) out.new result }
+    ensures { Wrote (said_text (written key.high key.low) said.word said.label said.compared) out.new result }
 {
     let n = text_write::put_text(out, key);
-    let m = put_word(word, out, n);
-    put_numbers(label, compared, out, m)
+    let m = put_word(said.word, out, n);
+    put_numbers(said.label, said.compared, out, m)
 }
 
 // The answer to a command whose address was read.
@@ -99,13 +99,8 @@ fn answer_key(q: Request, key: Key, t: &mut [u8], out: &mut [u8]) -> usize
 {
     let op = q.op;
     match apply(op, q.label, t, key) {
-        Answer::Said {
-            word,
-            label,
-            compared,
-            slot: _,
-        } => say(key, word, label, compared, out),
-        Answer::Refused(why) => refuse(why, out),
+        Ok(said) => say(key, said, out),
+        Err(why) => refuse(why, out),
     }
 }
 

@@ -9,6 +9,8 @@ use native.Mathlib.Decide.{dec_le}
 use lib.ListN.{length, take, length-append, length-take}
 use lib.Seq.{length-take-le}
 use borrow.Author.Tests.{eq-eqb, ne_eqb}
+use Rattle.std.specs.Prelude.{Ok, Err}
+use Rattle.std.specs.declared.result.Result.{Result}
 use Rattle.laws.specs.Folds.{every}
 use Rattle.laws.specs.Cases.{cases}
 use Rattle.settings.specs.declared.layout.Layout.{Layout}
@@ -16,26 +18,32 @@ use Rattle.table.specs.State.{Basic, Overflow, State, basic_at, overflow_at, unp
 use Rattle.table.specs.Decode.{decode}
 use Rattle.table.specs.Table.{Table}
 use Rattle.table.specs.Follow.{gather, follow, cons?, is_own, own_blocks, last_of, content_over, content}
+use Rattle.table.specs.declared.damage.Damage.{Damage}
 use Rattle.table_read.specs.theory.Reads.{sized, unpack_length}
 use Rattle.table_read.specs.theory.Walks.{Chain, ends, more, Walk, lost, ended, walk, own_walk, follow_high, follow_here, follow_bad, follow_on, content_short, content_high, content_over_lem}
 use Rattle.table_cursor.specs.Survey.{blocks_length, list_length}
-use Rattle.table_cursor.specs.declared.count.Length.{Length}
-use Rattle.table_cursor.specs.declared.count.Length.TheVariants.{Entries, Damage}
+
+-- a length, or damage
+abbrev pub Length : Type 0
+Length = Result ℕ Damage
+
+abbrev pub broken : Length
+broken = Err (record {})
 
 -- n entries, and those that follow
 abbrev pub plus : ℕ → Length → Length
-plus n (Entries k) = Entries (n + k)
-plus n Damage = Damage
+plus n (Ok k) = Ok (n + k)
+plus n (Err e) = Err e
 
 pub plus_none : (r : Length) → plus 0 r ≡ r
-plus_none (Entries k) = ap Entries (zero-add k)
-plus_none Damage = refl
+plus_none (Ok k) = ap Ok (zero-add k)
+plus_none (Err e) = refl
 
 -- a length is no damage
-pub not_damage : {X : Type 0} {k : ℕ} → Damage ≡ Entries k → X
-not_damage e = let z : ◌≡◌ {A = ℕ} 0 1 = cc in absurd (omega arith)
+pub not_damage : {X : Type 0} {e : Damage} {k : ℕ} → ◌≡◌ {A = Length} (Err e) (Ok k) → X
+not_damage q = let z : ◌≡◌ {A = ℕ} 0 1 = cc in absurd (omega arith)
 
-pub entries_are : {j k : ℕ} → Entries j ≡ Entries k → j ≡ k
+pub entries_are : {j k : ℕ} → ◌≡◌ {A = Length} (Ok j) (Ok k) → j ≡ k
 entries_are e = cc
 
 module _ (g : Layout) (t : List ℕ) (T : Table g t) where
@@ -59,28 +67,28 @@ module _ (g : Layout) (t : List ℕ) (T : Table g t) where
     abbrev length_from : ℕ → ℕ → Length
     length_from n b = blocks_length g os (own_blocks i os (follow g n os b))
 
-    pub length_high : (n b m : ℕ) → g.nob ≤ b → Damage ≡ plus m (length_from n b)
+    pub length_high : (n b m : ℕ) → g.nob ≤ b → broken ≡ plus m (length_from n b)
     length_high n b m h = rw (follow_high g os n b h)
 
-    pub length_out : (n b m : ℕ) → n ≡ 0 → Damage ≡ plus m (length_from n b)
+    pub length_out : (n b m : ℕ) → n ≡ 0 → broken ≡ plus m (length_from n b)
     length_out n b m h = rw h
 
-    pub length_bad : (n b m : ℕ) → g.sio < (overflow_at os b).counter → Damage ≡ plus m (length_from n b)
+    pub length_bad : (n b m : ℕ) → g.sio < (overflow_at os b).counter → broken ≡ plus m (length_from n b)
     length_bad n b m h = rw (follow_bad g os n b h)
 
     -- a block with another list's number
-    other_as : {n b : ℕ} {o : Option (List ℕ)} (m : ℕ) → ((overflow_at os b).owner ≡ i → ⊥) → Walk g os n b o → Damage ≡ plus m (blocks_length g os (own_blocks i os o))
+    other_as : {n b : ℕ} {o : Option (List ℕ)} (m : ℕ) → ((overflow_at os b).owner ≡ i → ⊥) → Walk g os n b o → broken ≡ plus m (blocks_length g os (own_blocks i os o))
     other_as m ne lost = refl
     other_as {b = b} m ne (ended c l) = rw (ne_eqb (overflow_at os b).owner i ne)
 
-    pub length_other : (n b m : ℕ) → ((overflow_at os b).owner ≡ i → ⊥) → Damage ≡ plus m (length_from n b)
+    pub length_other : (n b m : ℕ) → ((overflow_at os b).owner ≡ i → ⊥) → broken ≡ plus m (length_from n b)
     length_other n b m ne = other_as m ne (walk g os n b)
 
     pub length_here : (n b m c x : ℕ) → 0 < n → b < g.nob → (overflow_at os b).owner ≡ i → c ≡ (overflow_at os b).counter → c < g.sio → x ≡ m + c + 1
-        → Entries x ≡ plus m (length_from n b)
+        → Ok x ≡ plus m (length_from n b)
     length_here n b m c x z h o e l q =
         let w : x ≡ m + length (gather g os (b ∷ [])) = omega (arith, block_length b [] h) in
-        rw (follow_here g os n b z h (omega arith), eq-eqb (overflow_at os b).owner i o) (ap Entries w)
+        rw (follow_here g os n b z h (omega arith), eq-eqb (overflow_at os b).owner i o) (ap Ok w)
 
     length_next : (b m : ℕ) → b < g.nob → (overflow_at os b).owner ≡ i → (overflow_at os b).counter ≡ g.sio → (o : Option (List ℕ))
         → plus (m + g.sio) (blocks_length g os (own_blocks i os o)) ≡ plus m (blocks_length g os (own_blocks i os (cons? b o)))
@@ -88,11 +96,11 @@ module _ (g : Layout) (t : List ℕ) (T : Table g t) where
     length_next b m h o e (some bs) =
         let own = eq-eqb (overflow_at os b).owner i o in
         let w : m + g.sio + length (gather g os bs) ≡ m + length (gather g os (b ∷ bs)) = omega (arith, block_length b (gather g os bs) h) in
-        cases (every (is_own i os) bs) (λ q. rw (own, q) (ap Entries w)) (λ q. rw (own, q))
+        cases (every (is_own i os) bs) (λ q. rw (own, q) (ap Ok w)) (λ q. rw (own, q))
 
-    pub length_on : (n k b m : ℕ) → n ≡ suc k → b < g.nob → (overflow_at os b).owner ≡ i → (overflow_at os b).counter ≡ g.sio
-        → plus (m + g.sio) (length_from k (overflow_at os b).link) ≡ plus m (length_from n b)
-    length_on n k b m z h o e = rw (follow_on g os n k b z h e) (length_next b m h o e (follow g k os (overflow_at os b).link))
+    pub length_on : (n k b m x : ℕ) → n ≡ suc k → b < g.nob → (overflow_at os b).owner ≡ i → (overflow_at os b).counter ≡ g.sio → x ≡ (overflow_at os b).link
+        → plus (m + g.sio) (length_from k x) ≡ plus m (length_from n b)
+    length_on n k b m x z h o e l = rw (l, follow_on g os n k b z h e) (length_next b m h o e (follow g k os (overflow_at os b).link))
 
   -- ---- they are few, since a block has at most 15 slots
 
@@ -101,29 +109,29 @@ module _ (g : Layout) (t : List ℕ) (T : Table g t) where
   chain_few (more {b} {cs} h e c) =
       omega (arith, T.proper.sio_high, block_length b (gather g os ((overflow_at os b).link ∷ cs)) h, chain_few c)
 
-  walk_few : {n b k : ℕ} {o : Option (List ℕ)} → Walk g os n b o → blocks_length g os o ≡ Entries k → k ≤ n * 15
+  walk_few : {n b k : ℕ} {o : Option (List ℕ)} → Walk g os n b o → blocks_length g os o ≡ Ok k → k ≤ n * 15
   walk_few lost e = not_damage e
   walk_few (ended c l) e = omega (arith, chain_few c, entries_are e)
 
-  pub blocks_few : (i n b k : ℕ) (r : Length) → r ≡ length_from i n b → r ≡ Entries k → k ≤ n * 15
+  pub blocks_few : (i n b k : ℕ) (r : Length) → r ≡ length_from i n b → r ≡ Ok k → k ≤ n * 15
   blocks_few i n b k r e q = walk_few (own_walk g os i n b) (sym e ∙ q)
 
   -- ---- a list, by its basic block's counter
 
-  pub list_short : (i c : ℕ) → c ≡ (basic_at st.basic i).counter → c ≤ g.sib → Entries c ≡ list_length (content g st i)
+  pub list_short : (i c : ℕ) → c ≡ (basic_at st.basic i).counter → c ≤ g.sib → Ok c ≡ list_length (content g st i)
   list_short i c e h =
       let b = basic_at st.basic i in
       let l = length-take-le b.counter (own_slots g b) (omega (arith, unpack_length g b.head b.rest)) in
-      ap Entries (e ∙ sym l) ∙ ap list_length (sym (content_short g st i (omega arith)))
+      ap Ok (e ∙ sym l) ∙ ap list_length (sym (content_short g st i (omega arith)))
 
-  pub list_high : (i c : ℕ) → c ≡ (basic_at st.basic i).counter → g.sib + 1 < c → Damage ≡ list_length (content g st i)
+  pub list_high : (i c : ℕ) → c ≡ (basic_at st.basic i).counter → g.sib + 1 < c → broken ≡ list_length (content g st i)
   list_high i c e h = ap list_length (sym (content_high g st i (omega arith)))
 
   over_length : (x : Basic) {n b : ℕ} {o : Option (List ℕ)} → Walk g os n b o → list_length (content_over g x os o) ≡ plus g.sib (blocks_length g os o)
   over_length x lost = refl
   over_length x {b = b} (ended {cs} c l) =
       let h = (overflow_at os (last_of b cs)).link in
-      ap Entries (omega (arith, length-append (unpack g h x.rest) (gather g os (b ∷ cs)), unpack_length g h x.rest))
+      ap Ok (omega (arith, length-append (unpack g h x.rest) (gather g os (b ∷ cs)), unpack_length g h x.rest))
 
   pub list_long : (i c h : ℕ) (r : Length) → c ≡ (basic_at st.basic i).counter → c ≡ g.sib + 1 → h ≡ (basic_at st.basic i).head → r ≡ length_from i g.nob h
       → plus g.sib r ≡ list_length (content g st i)
@@ -134,11 +142,11 @@ module _ (g : Layout) (t : List ℕ) (T : Table g t) where
 
   -- ---- its entries are few
 
-  plus_few : (n m : ℕ) {k : ℕ} (r : Length) → ((j : ℕ) → r ≡ Entries j → j ≤ m) → plus n r ≡ Entries k → k ≤ n + m
-  plus_few n m (Entries j) f e = omega (arith, f j refl, entries_are e)
-  plus_few n m Damage f e = not_damage e
+  plus_few : (n m : ℕ) {k : ℕ} (r : Length) → ((j : ℕ) → r ≡ Ok j → j ≤ m) → plus n r ≡ Ok k → k ≤ n + m
+  plus_few n m (Ok j) f e = omega (arith, f j refl, entries_are e)
+  plus_few n m (Err d) f e = not_damage e
 
-  module _ (i k : ℕ) (is : list_length (content g st i) ≡ Entries k) where
+  module _ (i k : ℕ) (is : list_length (content g st i) ≡ Ok k) where
     abbrev b : Basic
     b = basic_at st.basic i
 

@@ -23,12 +23,11 @@ use Rattle.table.specs.declared.step.Step.TheVariants as step
 use Rattle.table_read.specs.Steps.{slots_in, Followed, gather_from}
 use Rattle.table_read.specs.theory.Reads.{slots_length, entry_bound}
 use Rattle.plain_set.specs.Rebuilt.{Pair, pair, slots_of, pairs_of}
-use Rattle.table_cursor.specs.Ahead.{gather_behind, Leads, slots_ahead, pairs_from, ahead, Good, Gives, Ends, Answers}
+use Rattle.table_cursor.specs.Ahead.{gather_behind, Leads, slots_ahead, pairs_from, ahead, Good, Gives, Ends}
 use Rattle.table_cursor.specs.Steps.{Begins, pairs_behind, Reaches}
 use Rattle.table_cursor.specs.theory.Pairs.{pairs_on_lem, pairs_end}
 use Rattle.table_cursor.specs.declared.places.Cursor.{Cursor}
 use Rattle.table_cursor.specs.declared.places.Next.{Next}
-use Rattle.table_cursor.specs.declared.places.Next.TheVariants as next
 use Rattle.table_cursor.proofs.Begin.{cursor}
 
 -- a step that is no further one leads to no slots
@@ -55,10 +54,9 @@ module _ (g : Layout) (t : List ℕ) where
 
   -- ---- what is answered: of the same pairs the same
 
-  pub answers_same : (ps qs : Settings → List Pair) → ((s : Settings) → layout_of s ≡ g → ps s ≡ qs s) → (r : Next) → Answers g t qs r → Answers g t ps r
-  answers_same ps qs e (next.Record i k l d) A =
+  pub gives_same : (ps qs : Settings → List Pair) → ((s : Settings) → layout_of s ≡ g → ps s ≡ qs s) → (r : Next) → Gives g t qs r → Gives g t ps r
+  gives_same ps qs e r A =
       record { list = A.list; entry = A.entry; label = A.label; good = A.good; are = λ s h. e s h ∙ A.are s h }
-  answers_same ps qs e next.End A = record { are = λ s h. e s h ∙ A.are s h }
 
   pub reaches_same : (ps qs : Settings → List Pair) → ((s : Settings) → layout_of s ≡ g → ps s ≡ qs s) → (c : Cursor) → Reaches g t qs c → Reaches g t ps c
   reaches_same ps qs e c R =
@@ -85,7 +83,7 @@ module _ (g : Layout) (t : List ℕ) where
         (drop-cons (slots_in g t c.run) c.passed 0 (omega (arith, slots_length g t c.run)))
 
     pub gives_slot : (k : Key) (m n : ℕ) → k ≡ key_of (entry_of g slot) → m ≡ label_of g slot → n ≡ suc c.passed
-        → Gives g t (λ s. ahead s t c) c.list k m (cursor c.list n c.run c.behind)
+        → Gives g t (λ s. ahead s t c) (record { list = c.list; entry = k; label = m; cursor = cursor c.list n c.run c.behind })
     gives_slot k m n ek em en =
         record {
           list = G.list;

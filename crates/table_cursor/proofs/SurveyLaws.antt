@@ -13,6 +13,7 @@ use lib.ListN.{length, drop, length-append}
 use lib.Seq.{drop-drop, drop_at}
 use lib.Dec.{leb, ltb}
 use borrow.Author.Tests.{leb-true, ltb-true, le-leb, lt-ltb}
+use Rattle.std.specs.Prelude.{Ok, Err}
 use Rattle.laws.specs.Cases.{both_true, true_both, never}
 use Rattle.laws.specs.Options.{nothing}
 use Rattle.settings.specs.Layout.{layout_of}
@@ -21,13 +22,13 @@ use Rattle.settings.specs.declared.layout.Layout.{Layout}
 use Rattle.table.specs.Decode.{decode}
 use Rattle.table.specs.Table.{Table}
 use Rattle.table.specs.Follow.{Content, content}
+use Rattle.table.specs.declared.damage.Damage.{Damage}
 use Rattle.plain_set.specs.Rebuilt.{Pair, slots_of, pairs_of}
 use Rattle.table_cursor.specs.Ahead.{pairs_from, Before}
 use Rattle.table_cursor.specs.Survey.{list_length, Counts}
 use Rattle.table_cursor.specs.theory.Pairs.{pairs_on_lem, pairs_end, pairs_all}
 use Rattle.table_cursor.proofs.LengthLaws.{not_damage, entries_are, list_few}
 use Rattle.table_cursor.specs.declared.places.Cursor.{Cursor}
-use Rattle.table_cursor.specs.declared.count.Length.TheVariants.{Entries, Damage}
 
 -- the first i lists are whole, and have count entries
 pub record Passed (g : Layout) (t : List ℕ) (count i : ℕ) : Type 0 where
@@ -45,7 +46,7 @@ pub record Stands (g : Layout) (t : List ℕ) (n count p m : ℕ) : Type 0 where
 
 -- ---- one list
 
-pub damaged_none : (o : Option Content) → list_length o ≡ Damage → o ≡ none
+pub damaged_none : (o : Option Content) {d : Damage} → list_length o ≡ Err d → o ≡ none
 damaged_none none e = refl
 damaged_none (some v) e = not_damage (sym e)
 
@@ -54,7 +55,7 @@ record Whole (o : Option Content) (k : ℕ) : Type 0 where
   end : o ≢ none
   slots : length (slots_of o) ≡ k
 
-whole_of : (o : Option Content) {k : ℕ} → list_length o ≡ Entries k → Whole o k
+whole_of : (o : Option Content) {k : ℕ} → list_length o ≡ Ok k → Whole o k
 whole_of none e = not_damage e
 whole_of (some v) e = record { end = λ n. nothing (sym n); slots = entries_are e }
 
@@ -89,7 +90,7 @@ module _ (g : Layout) (t : List ℕ) (T : Table g t) where
 
   -- ---- list i, which has k entries
 
-  module _ (count i k : ℕ) (P : Passed g t count i) (low : i < g.lists) (is : list_length (content g (decode g t) i) ≡ Entries k) where
+  module _ (count i k : ℕ) (P : Passed g t count i) (low : i < g.lists) (is : list_length (content g (decode g t) i) ≡ Ok k) where
     abbrev o : Option Content
     o = content g (decode g t) i
 

@@ -1,11 +1,10 @@
 -- What a cursor means: the pairs ahead of it.
-use Rattle.std.specs.Prelude.{◌≡◌, ℕ, suc, ◌^◌, ◌<◌, List, [], ◌∷◌, ◌++◌, drop}
+use Rattle.std.specs.Prelude.{◌≡◌, ℕ, suc, ◌^◌, ◌<◌, List, [], ◌∷◌, ◌++◌, drop, Some, None}
+use Rattle.std.specs.declared.option.Option.{Option}
 use Rattle.settings.specs.Layout.{layout_of}
 use Rattle.settings.specs.declared.settings.Settings.{Settings}
 use Rattle.settings.specs.declared.layout.Layout.{Layout}
 use Rattle.keys.specs.Key.{key_number, rebuilt}
-use Rattle.keys.specs.declared.Key.{Key}
-use Rattle.keys.specs.declared.ListNumber.{ListNumber}
 use Rattle.table.specs.State.{Overflow}
 use Rattle.table.specs.Decode.{decode}
 use Rattle.table.specs.declared.step.Step.{Step}
@@ -14,7 +13,6 @@ use Rattle.table_read.specs.Steps.{SlotsWithin, slots_in, Followed, gather_from}
 use Rattle.plain_set.specs.Rebuilt.{Pair, pair, pairs_of, rebuilt_from}
 use Rattle.table_cursor.specs.declared.places.Cursor.{Cursor}
 use Rattle.table_cursor.specs.declared.places.Next.{Next}
-use Rattle.table_cursor.specs.declared.places.Next.TheVariants as next
 
 module _ (g : Layout) (os : List Overflow) where
   -- the slots in use of the overflow blocks that a step leads to
@@ -54,19 +52,19 @@ module _ (g : Layout) (t : List ℕ) where
     pub good : Good c
     pub are : (s : Settings) → layout_of s ≡ g → ahead s t c ≡ drop n (pairs_from s t i)
 
-  -- of the pairs ps the first is that of list i, entry e and label l; the others are ahead of the cursor d
-  pub record Gives (ps : Settings → List Pair) (i : ListNumber) (e : Key) (l : ℕ) (d : Cursor) : Type 0 where
-    pub list : i.0 < g.lists
-    pub entry : key_number e < 2 ^ g.bie
-    pub label : l < 2 ^ g.val
-    pub good : Good d
-    pub are : (s : Settings) → layout_of s ≡ g → ps s ≡ pair (rebuilt s i.0 (key_number e)) l ∷ ahead s t d
+  -- of the pairs ps the first is that of the list, the entry and the label; the others are ahead of the cursor behind it
+  pub record Gives (ps : Settings → List Pair) (r : Next) : Type 0 where
+    pub list : r.list.0 < g.lists
+    pub entry : key_number r.entry < 2 ^ g.bie
+    pub label : r.label < 2 ^ g.val
+    pub good : Good r.cursor
+    pub are : (s : Settings) → layout_of s ≡ g → ps s ≡ pair (rebuilt s r.list.0 (key_number r.entry)) r.label ∷ ahead s t r.cursor
 
   -- there are no pairs
   pub record Ends (ps : Settings → List Pair) : Type 0 where
     pub are : (s : Settings) → layout_of s ≡ g → ps s ≡ []
 
   -- what is answered of the pairs ps: the first of them, or that there is none
-  abbrev pub Answers : (Settings → List Pair) → Next → Type 0
-  Answers ps (next.Record i e l d) = Gives ps i e l d
-  Answers ps next.End = Ends ps
+  abbrev pub Answers : (Settings → List Pair) → Option Next → Type 0
+  Answers ps (Some r) = Gives ps r
+  Answers ps None = Ends ps

@@ -20,21 +20,18 @@ pub(crate) struct Held {
     pub label: u32,
 }
 
-// The record at a cursor, and the cursor behind it; or the end of the table.
+// A record's place and label, and the cursor behind it.
 #[derive(Clone, Copy)]
-pub enum Next {
-    Record {
-        list: ListNumber,
-        entry: Key,
-        label: u32,
-        cursor: Cursor,
-    },
-    End,
+pub struct Next {
+    pub list: ListNumber,
+    pub entry: Key,
+    pub label: u32,
+    pub cursor: Cursor,
 }
 
-// How many records a table has, and the cursor before one of them; or a list is damaged.
+// How many records a table has, and the cursor before one of them.
 #[derive(Clone, Copy)]
-pub enum Survey {
-    Counted { count: u64, cursor: Cursor },
-    Damage,
+pub struct Survey {
+    pub count: u64,
+    pub cursor: Cursor,
 }

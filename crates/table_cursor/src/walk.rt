@@ -10,7 +10,7 @@ ghost use Rattle.table.specs.Follow.{content};
 ghost use Rattle.table_read.specs.Steps.{SlotsWithin, slots_in, Followed, OwnFollowed, Overflows, gather_from};
 ghost use Rattle.plain_set.specs.Rebuilt.{slots_of};
 ghost use Rattle.plain_set.specs.Nth.{Undamaged};
-ghost use Rattle.table_cursor.specs.Ahead.{Leads, pairs_from, ahead, Good, Before, Answers};
+ghost use Rattle.table_cursor.specs.Ahead.{Leads, pairs_from, ahead, Good, Before, Gives, Answers};
 ghost use Rattle.table_cursor.specs.Steps.{Begins, pairs_behind, Reaches, Holds};
 
 use crate::places::{Cursor, Held, Next};
@@ -21,21 +21,19 @@ use table_read::blocks::{basic_front, overflow_front, overflow_link, step_of};
 use table_read::lists::{basic_run, displaced_run, follow, overflow_run};
 use table_read::slots::{Slots, entry_in, label_in};
 
-// The next record, and the cursor behind it.
-pub fn next(t: &[u8], g: Layout, c: Cursor) -> Next
+// The next record, and the cursor behind it; there is none at the table's end.
+pub fn next(t: &[u8], g: Layout, c: Cursor) -> Option<Next>
     requires { Table g t.now × Undamaged g (decode g t.now) × Good g t.now c }
     ensures { Answers g t.now (λ s. ahead s t.now c) result }
 {
     let mut d = c;
     if d.passed >= d.run.count {
-        let list = d.list;
-        let behind = d.behind;
-        d = moved(t, g, list, behind);
+        d = moved(t, g, d.list, d.behind);
         if d.passed >= d.run.count {
-            return Next::End;
+            return None;
         }
     }
-    taken(t, g, d)
+    Some(taken(t, g, d))
 }
 
 // The cursor at the first record behind a run of list i, from which the step is `behind`; at the end of its run, there is
@@ -55,16 +53,14 @@ fn next_from(t: &[u8], g: Layout, i: usize) -> Cursor
     requires { Table g t.now × Undamaged g (decode g t.now) × (i ≤ g.lists) }
     ensures { Reaches g t.now (λ s. pairs_from s t.now i) result }
 {
-    let mut j = i;
-    while j < g.lists as usize {
+    for j in i..g.lists as usize {
         let c = enter(t, g, ListNumber(j));
         if 0 < c.run.count {
             return c;
         }
-        j += 1;
     }
     Cursor {
-        list: ListNumber(j),
+        list: ListNumber(g.lists as usize),
         passed: 0,
         run: Slots {
             start: 0,
@@ -79,23 +75,19 @@ fn next_from(t: &[u8], g: Layout, i: usize) -> Cursor
 // The record at the cursor, which is at one.
 fn taken(t: &[u8], g: Layout, c: Cursor) -> Next
     requires { Table g t.now × Good g t.now c × (c.passed < c.run.count) }
-    ensures { Answers g t.now (λ s. ahead s t.now c) result }
+    ensures { Gives g t.now (λ s. ahead s t.now c) result }
 {
-    let list = c.list;
-    let run = c.run;
-    let behind = c.behind;
     let n = c.passed;
-    let slot = held(t, g, run, SlotNumber(n));
-    let entry = slot.entry;
-    Next::Record {
-        list: list,
-        entry: entry,
+    let slot = held(t, g, c.run, SlotNumber(n));
+    Next {
+        list: c.list,
+        entry: slot.entry,
         label: slot.label,
         cursor: Cursor {
-            list: list,
+            list: c.list,
             passed: n + 1,
-            run: run,
-            behind: apart(behind),
+            run: c.run,
+            behind: apart(c.behind),
         },
     }
 }
@@ -158,7 +150,7 @@ pub(crate) fn at(t: &[u8], g: Layout, i: ListNumber, n: usize) -> Cursor
         return Cursor {
             list: i,
             passed: n,
-            run: run,
+            run,
             behind: Step::Last,
         };
     }
@@ -172,21 +164,19 @@ fn at_long(t: &[u8], g: Layout, i: ListNumber, first: BlockNumber, n: usize) -> 
 {
     let mut c = enter_long(t, g, i, first);
     let mut left = n;
+    // A `while`, since no number is counted: the blocks themselves end it.
     while c.run.count < left {
-        let behind = c.behind;
-        let Step::Further(b) = behind else {
+        let Step::Further(b) = c.behind else {
             break;
         };
         left -= c.run.count;
         c = enter_block(t, g, i, b);
     }
-    let run = c.run;
-    let behind = c.behind;
     Cursor {
         list: i,
         passed: left,
-        run: run,
-        behind: behind,
+        run: c.run,
+        behind: c.behind,
     }
 }
 
@@ -201,7 +191,7 @@ fn enter(t: &[u8], g: Layout, i: ListNumber) -> Cursor
         return Cursor {
             list: i,
             passed: 0,
-            run: run,
+            run,
             behind: Step::Last,
         };
     }
@@ -214,21 +204,20 @@ fn enter_long(t: &[u8], g: Layout, i: ListNumber, first: BlockNumber) -> Cursor
     requires { Table g t.now × (i.0 < g.lists) × Overflows g (decode g t.now) i.0 first.0 × OwnFollowed g i.0 g.nob (decode g t.now).overflow first.0 }
     ensures { Begins g t.now i.0 (slots_of (content g (decode g t.now) i.0)) result }
 {
-    let behind = Step::Further(first);
     let Ok(last) = follow(t, g, i, first) else {
         return Cursor {
             list: i,
             passed: 0,
             run: basic_run(g, i, 0),
-            behind: behind,
+            behind: Step::Further(first),
         };
     };
     let run = displaced_run(g, i, overflow_link(t, g, last));
     Cursor {
         list: i,
         passed: 0,
-        run: run,
-        behind: behind,
+        run,
+        behind: Step::Further(first),
     }
 }
 
@@ -242,7 +231,7 @@ fn enter_block(t: &[u8], g: Layout, i: ListNumber, b: BlockNumber) -> Cursor
     Cursor {
         list: i,
         passed: 0,
-        run: run,
+        run,
         behind: step_of(front, g.sio),
     }
 }

@@ -9,9 +9,6 @@ use Rattle.table_cursor.proofs.count.blocks_length.Given as goal
 
 abbrev pub invariant-loop-k : goal.invariant-loop-k
 invariant-loop-k l =
-    (l.k ≤ l.g.nob) × (l.n ≤ l.k * 15)
-    × (plus l.n (blocks_length l.g (decode l.g l.t).overflow (own_blocks l.i.0 (decode l.g l.t).overflow (follow l.g (l.g.nob - l.k) (decode l.g l.t).overflow l.b.0)))
+    (l.n ≤ l._k * 15)
+    × (plus l.n (blocks_length l.g (decode l.g l.t).overflow (own_blocks l.i.0 (decode l.g l.t).overflow (follow l.g (l.g.nob - l._k) (decode l.g l.t).overflow l.b.0)))
     ≡ blocks_length l.g (decode l.g l.t).overflow (own_blocks l.i.0 (decode l.g l.t).overflow (follow l.g l.g.nob (decode l.g l.t).overflow l.fn.first.0)))
-
-abbrev pub decreases-loop-k : goal.decreases-loop-k
-decreases-loop-k l = l.g.nob - l.k

@@ -24,6 +24,3 @@ at_long-requires c =
     let o = over c.args.g (decode c.args.g c.args.t.now) c.args.i.0 (c.requires.1 c.args.i.0 c.requires.2)
     _ _ c.basic_front-front.ensures.0 (omega (arith, c.if-front-g.false)) c.basic_front-front.ensures.1 in
     (c.requires.0, c.requires.2, o.0, o.1, c.requires.3)
-
-pub returns : goal.returns
-returns c = c.at_long.ensures

@@ -2,25 +2,10 @@
 use Prim.Native.Nat.{◌≤◌}
 use native.Mathlib.Omega.{arith}
 use Rattle.table.specs.Decode.{decode}
-use Rattle.table_cursor.proofs.Move.{none_behind, leads_further}
-use Rattle.table_cursor.proofs.Toward.{toward_first, toward_block, toward_here, run_some, run_last}
+use Rattle.table_cursor.proofs.Move.{none_behind}
+use Rattle.table_cursor.proofs.Toward.{toward_block, toward_here, run_last}
 use Rattle.table_cursor.proofs.walk.at_long.Goals as goal
 use Rattle.table_cursor.proofs.walk.at_long.Goals.{Left-loop-c, else-loop-c-test, then-loop-c-test+in_default}
-
-pub enter_long-c-requires : goal.enter_long-c-requires
-enter_long-c-requires c = (c.requires.0, c.requires.1, c.requires.2, c.requires.3)
-
-pub loop-c-init : goal.loop-c-init
-loop-c-init c =
-    toward_first c.args.g c.args.t.now c.args.i c.args.n c.enter_long-c.result c.enter_long-c.ensures c.requires.4
-
-pub enter_block-c-requires : goal.enter_block-c-requires
-enter_block-c-requires c =
-    (c.requires.0, c.requires.1, leads_further _ _ _ _ c.in-Further.is c.loop-c.invariant.begins.good.behind)
-
-pub loop-c-smaller : goal.loop-c-smaller
-loop-c-smaller c =
-    omega (arith, c.loop-c-test.true, run_some c.args.g c.args.t.now c.args.i c.args.n c.loop-c.c c.loop-c.left c.loop-c.invariant c.loop-c-test.true)
 
 pub loop-c-preserved : goal.loop-c-preserved
 loop-c-preserved c =

@@ -27,26 +27,6 @@ label_fits s =
       fits = R.fits;
     }
 
-pub overflow_mul-at : goal.overflow_mul-at
-overflow_mul-at c =
-    omega (arith, inside (goal.at.overflow_mul-at c).Start, c.requires.1.near)
-
-pub overflow_add-at : goal.overflow_add-at
-overflow_add-at c =
-    omega (arith, inside (goal.at.overflow_add-at c).Start, c.requires.1.near)
-
-pub key_at-requires : goal.key_at-requires
-key_at-requires c =
-    ((entry_fits (goal.at.key_at-requires c).Start).ends, (entry_fits (goal.at.key_at-requires c).Start).near, c.requires.0.bie_high)
-
-pub overflow_add-at-2 : goal.overflow_add-at-2
-overflow_add-at-2 c =
-    omega (arith, inside (goal.at.overflow_add-at-2 c).Start, c.requires.1.near, c.requires.0.slot_is)
-
-pub get-requires : goal.get-requires
-get-requires c =
-    omega (arith, (label_fits (goal.at.get-requires c).Start).ends, c.requires.0.val_high)
-
 pub overflow_cast-result : goal.overflow_cast-result
 overflow_cast-result c =
     let f = field_fits c.args.t.now (c.args.b.start + c.args.j.0 * c.args.g.slot + c.args.g.bie) c.args.g.val 32 c.requires.0.val_high in

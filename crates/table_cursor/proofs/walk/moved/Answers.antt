@@ -4,12 +4,8 @@ use native.Mathlib.Omega.{arith}
 use Rattle.table.specs.Decode.{decode}
 use Rattle.table_cursor.specs.Ahead.{pairs_from}
 use Rattle.table_cursor.specs.Steps.{pairs_behind}
-use Rattle.table_cursor.proofs.Move.{none_behind, leads_further, reaches_same, reaches_at, behind_block, behind_list}
+use Rattle.table_cursor.proofs.Move.{none_behind, reaches_same, reaches_at, behind_block, behind_list}
 use Rattle.table_cursor.proofs.walk.moved.Goals as goal
-
-pub enter_block-requires : goal.enter_block-requires
-enter_block-requires c =
-    (c.requires.0, c.requires.2, leads_further _ _ _ _ c.in-Further.is c.requires.3)
 
 pub returns-in-Further : goal.returns-in-Further
 returns-in-Further c =

@@ -4,7 +4,7 @@ use Prim.Native.Nat.{◌<◌}
 use native.Mathlib.Omega.{arith}
 use Rattle.table_cursor.specs.Ahead.{ahead}
 use Rattle.table_cursor.specs.Steps.{pairs_behind, Reaches}
-use Rattle.table_cursor.proofs.Move.{answers_same, reaches_same, reaches_at, ahead_behind}
+use Rattle.table_cursor.proofs.Move.{gives_same, reaches_same, reaches_at, ahead_behind}
 use Rattle.table_cursor.proofs.walk.next.Goals as goal
 use Rattle.table_cursor.proofs.walk.next.Goals.{After-moved-d, Joined-d, then-d+else-d-2, else-d}
 
@@ -33,13 +33,8 @@ here c =
       | else-d w ↦ (rw w.d-is (reaches_at g t (λ s. ahead s t d) d c.requires.2 (omega (arith, w.if-d.false)) (λ s e. refl)), rw w.d-is (omega (arith, w.if-d.false)))
     ]
 
-pub taken-requires : goal.taken-requires
-taken-requires c =
-    let h = here (goal.at.taken-requires c).Joined-d in
-    (c.requires.0, h.0.good h.1, h.1)
-
 pub returns : goal.returns
 returns c =
     let h = here (goal.at.returns c).Joined-d in
     let t = c.args.t.now in
-    answers_same c.args.g t (λ s. ahead s t c.args.c) (λ s. ahead s t c.if-d.d) (h.0.are h.1) c.taken.result c.taken.ensures
+    gives_same c.args.g t (λ s. ahead s t c.args.c) (λ s. ahead s t c.if-d.d) (h.0.are h.1) c.taken.result c.taken.ensures
