@@ -248,6 +248,6 @@ fn main(rt: HostRuntime) {
     let mut buf = [0u8; BUFFER_BYTES];
     let mut t = [0u8; TABLE_BYTES];
     let mut out = [0u8; BUFFER_BYTES];
-    table_make::make(s, &mut t);
+    let _made = table_make::make(s, &mut t);
     run(&io, &classes, &mut buf, &mut t, &mut out);
 }

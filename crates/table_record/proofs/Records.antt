@@ -1,4 +1,5 @@
 -- Laws of counting records: slot n of slots in two rows, and record n of the lists from one on.
+use Rattle.std.specs.Prelude.{None, Ok}
 use mathlib.Core.Path.{◌≡◌, refl, sym, ap, ap₂, ◌∙◌}
 use mathlib.Core.List.{List, ◌∷◌, ◌++◌}
 use mathlib.Core.Option.{Option, none, some}
@@ -27,7 +28,6 @@ use Rattle.table_read.specs.theory.Reads.{slots_length, unpack_length, basic_slo
 use Rattle.table_read.specs.theory.Walks.{one_step, followed, ended_own, content_short, content_bad, content_long, OneStep}
 use Rattle.table_read.specs.theory.Finds.{block_last, block_more}
 use Rattle.table_read.specs.declared.slots.Slots.{Slots}
-use Rattle.table.specs.declared.answers.RecordAnswer.TheVariants as answer
 use Rattle.table_record.specs.declared.Nth.{Nth}
 use Rattle.table_record.specs.declared.Nth.TheVariants as nth
 
@@ -197,7 +197,7 @@ module _ (s : Settings) where
     unfolding records_from record_in
     records_all n = refl
 
-    pub records_none : (i n : ℕ) → length st.basic ≤ i → records_from s st i n ≡ answer.None
+    pub records_none : (i n : ℕ) → length st.basic ≤ i → records_from s st i n ≡ (Ok None)
     unfolding records_from record_from
     records_none i n h = rw (drop_of_length-le st.basic h)
 

@@ -1,4 +1,5 @@
 -- Laws of retrieving: the number of a slot, a slot of a list's basic block, and a slot of an overflow block whose list was followed.
+use Rattle.std.specs.Prelude.{Err, None, Ok}
 use mathlib.Core.Path.{◌≡◌, refl, sym, ap, ap₂, subst, ◌∙◌}
 use mathlib.Core.Bool.{Bool, true, false, not}
 use mathlib.Core.List.{List, [], ◌∷◌}
@@ -42,14 +43,16 @@ use Rattle.table_read.specs.theory.Reads.{restored_bytes_out, slots_length, slot
 use Rattle.table_read.specs.theory.Walks.{owns, content_short}
 use Rattle.table_read.specs.theory.BlockSlots.{has_as}
 use Rattle.table_read.specs.declared.slots.Slots.{Slots}
-use Rattle.table.specs.declared.answers.RecordAnswer.{RecordAnswer}
-use Rattle.table.specs.declared.answers.RecordAnswer.TheVariants as answer
 use Rattle.table_record.specs.RecordSteps.{nth_of, nth_in, on_nth, at_spot, Readable, Stands}
 use Rattle.table_record.specs.declared.Nth.{Nth}
 use Rattle.table_record.specs.declared.Nth.TheVariants as nth
 use Rattle.table_record.specs.declared.slot.Spot.{Spot}
 use Rattle.table_record.specs.declared.slot.Spot.TheVariants as spot
 use Rattle.table_record.proofs.Records.{nth_here, nth_past, nth_damaged, nth_short, nth_displaced}
+use Rattle.std.specs.declared.result.Result.{Result}
+use Rattle.std.specs.declared.option.Option.{Option}
+use Rattle.settings.specs.declared.refusal.Refusal.{Refusal}
+use Rattle.table.specs.declared.answers.Record.{Record}
 
 -- ---- the numbers
 
@@ -87,20 +90,20 @@ key_bound t at n k e = rw (e, number_key (field t at n)) (field_lt t at n)
 
 module _ (s : Settings) (g : Layout) (laid : layout_of s ≡ g) where
   -- an entry and a label of the slot x, as they were read
-  pub record_as : (i x : ℕ) (k : Key) (l : ℕ) → k ≡ key_of (entry_of g x) → l ≡ label_of g x → answer.Record (key_of (rebuilt s i (key_number k))) l ≡ record_of s i x
+  pub record_as : (i x : ℕ) (k : Key) (l : ℕ) → k ≡ key_of (entry_of g x) → l ≡ label_of g x → RECORD (key_of (rebuilt s i (key_number k))) l ≡ record_of s i x
   record_as i x k l ek el =
-      ap₂ (λ (y : Key) (z : ℕ). answer.Record (key_of (rebuilt s i (key_number y))) z) ek el
-      ∙ ap (λ (e : ℕ). answer.Record (key_of (rebuilt s i e)) (label_of g x)) (number_key (entry_of g x))
-      ∙ ap (λ (y : Layout). answer.Record (key_of (rebuilt s i (entry_of y x))) (label_of y x)) (sym laid)
+      ap₂ (λ (y : Key) (z : ℕ). RECORD (key_of (rebuilt s i (key_number y))) z) ek el
+      ∙ ap (λ (e : ℕ). RECORD (key_of (rebuilt s i e)) (label_of g x)) (number_key (entry_of g x))
+      ∙ ap (λ (y : Layout). RECORD (key_of (rebuilt s i (entry_of y x))) (label_of y x)) (sym laid)
 
   -- slot n of a row
-  here_record : (i : ℕ) (es : List ℕ) (n : ℕ) → n < length es → on_nth s i (nth_of g es n) (λ m. answer.None) ≡ record_of s i (get_or es n 0)
+  here_record : (i : ℕ) (es : List ℕ) (n : ℕ) → n < length es → on_nth s i (nth_of g es n) (λ m. (Ok None)) ≡ record_of s i (get_or es n 0)
   here_record i es n h =
-      ap (λ (r : Nth). on_nth s i r (λ m. answer.None)) (nth_here g es n h)
+      ap (λ (r : Nth). on_nth s i r (λ m. (Ok None))) (nth_here g es n h)
       ∙ record_as i (get_or es n 0) (key_of (entry_of g (get_or es n 0))) (label_of g (get_or es n 0)) refl refl
 
-  past_none : (i : ℕ) (es : List ℕ) (n : ℕ) → length es ≤ n → on_nth s i (nth_of g es n) (λ m. answer.None) ≡ answer.None
-  past_none i es n h = ap (λ (r : Nth). on_nth s i r (λ m. answer.None)) (nth_past g es n h)
+  past_none : (i : ℕ) (es : List ℕ) (n : ℕ) → length es ≤ n → on_nth s i (nth_of g es n) (λ m. (Ok None)) ≡ (Ok None)
+  past_none i es n h = ap (λ (r : Nth). on_nth s i r (λ m. (Ok None))) (nth_past g es n h)
 
 module _ (s : Settings) (g : Layout) (laid : layout_of s ≡ g) (st : State) where
   -- slot number n
@@ -113,15 +116,15 @@ module _ (s : Settings) (g : Layout) (laid : layout_of s ≡ g) (st : State) whe
   in_overflow n b e h = rw (e, ← laid) (rw (le-ltb n (basic_capacity (layout_of s)) (rw (e, ← laid) at h)))
 
   -- slot p of the basic block of list i
-  basic_as : (i p : ℕ) (o : Option Content) → on_nth s i (nth_in (layout_of s) o p) (λ m. answer.None) ≡ basic_found s i p o
+  basic_as : (i p : ℕ) (o : Option Content) → on_nth s i (nth_in (layout_of s) o p) (λ m. (Ok None)) ≡ basic_found s i p o
   unfolding nth_in nth_of
   basic_as i p none = refl
   basic_as i p (some v) = cases (ltb p (length v.slots)) (λ e. rw (e, number_key)) (λ e. rw e)
 
-  basic_answer : (i p : ℕ) (r : Nth) → r ≡ nth_in g (content g st i) p → on_nth s i r (λ m. answer.None) ≡ retrieve_basic s st i p
+  basic_answer : (i p : ℕ) (r : Nth) → r ≡ nth_in g (content g st i) p → on_nth s i r (λ m. (Ok None)) ≡ retrieve_basic s st i p
   unfolding retrieve_basic
   basic_answer i p r e =
-      ap (λ (x : Nth). on_nth s i x (λ m. answer.None)) (e ∙ ap (λ (x : Layout). nth_in x (content x st i) p) (sym laid))
+      ap (λ (x : Nth). on_nth s i x (λ m. (Ok None))) (e ∙ ap (λ (x : Layout). nth_in x (content x st i) p) (sym laid))
       ∙ basic_as i p (content (layout_of s) st i)
 
   -- slot k of overflow block j, which names list i
@@ -135,7 +138,7 @@ module _ (s : Settings) (g : Layout) (laid : layout_of s ≡ g) (st : State) whe
         ∙ ap (overflow_found s j k (overflow_at st.overflow j)) e)
 
     -- a list that does not have the block
-    unlisted : (v : Content) → content g st i ≡ some v → ltb 0 (occurs j v.blocks) ≡ false → answer.None ≡ retrieve_overflow s st j k
+    unlisted : (v : Content) → content g st i ≡ some v → ltb 0 (occurs j v.blocks) ≡ false → (Ok None) ≡ retrieve_overflow s st j k
     unlisted v e n = sym (rw n) ∙ overflow_as (some v) e
 
     -- a list that has it: the slot is in use if the counter says so
@@ -147,7 +150,7 @@ module _ (s : Settings) (g : Layout) (laid : layout_of s ≡ g) (st : State) whe
       abbrev used : List ℕ
       used = take (suc block.counter) block.slots
 
-      slot_held : ltb k (suc block.counter) ≡ true → on_nth s i (nth_of g used k) (λ m. answer.None) ≡ overflow_found s j k block (some v)
+      slot_held : ltb k (suc block.counter) ≡ true → on_nth s i (nth_of g used k) (λ m. (Ok None)) ≡ overflow_found s j k block (some v)
       slot_held q =
           let n = ltb-true k (suc block.counter) q in
           let here : k < length used = omega (arith, length-take (suc block.counter) block.slots) in
@@ -156,19 +159,19 @@ module _ (s : Settings) (g : Layout) (laid : layout_of s ≡ g) (st : State) whe
           ∙ ap (λ (y : ℕ). record_of s y (get_or block.slots k 0)) owner-is
           ∙ sym (rw (has, q))
 
-      slot_unused : ltb k (suc block.counter) ≡ false → on_nth s i (nth_of g used k) (λ m. answer.None) ≡ overflow_found s j k block (some v)
+      slot_unused : ltb k (suc block.counter) ≡ false → on_nth s i (nth_of g used k) (λ m. (Ok None)) ≡ overflow_found s j k block (some v)
       slot_unused q =
           let past : length used ≤ k = omega (arith, length-take (suc block.counter) block.slots, ltb-false k (suc block.counter) q) in
           past_none s g laid i used k past ∙ sym (rw (has, q))
 
-      slot_answer : on_nth s i (nth_of g used k) (λ m. answer.None) ≡ retrieve_overflow s st j k
+      slot_answer : on_nth s i (nth_of g used k) (λ m. (Ok None)) ≡ retrieve_overflow s st j k
       slot_answer = cases (ltb k (suc block.counter)) slot_held slot_unused ∙ overflow_as (some v) list_is
 
 -- ---- spots
 
 module _ (g : Layout) (t : List ℕ) where
   -- what is read at a spot
-  module _ (answers : Settings → RecordAnswer) (r : Spot) (v : Stands g t answers r) (x : Spot) (e : r ≡ x) where
+  module _ (answers : Settings → Result (Option Record) Refusal) (r : Spot) (v : Stands g t answers r) (x : Spot) (e : r ≡ x) where
     pub spot_readable : Readable g t x
     spot_readable = subst (Readable g t) e v.readable
 
@@ -185,8 +188,8 @@ module _ (g : Layout) (t : List ℕ) where
   number_overflow r n b e h v = record { are = λ s laid. v.are s laid ∙ in_overflow s g laid (decode g t) n b e h; readable = v.readable }
 
   -- place j of the slots `run`, which are of list i
-  module _ (F : Proper g) (run : Slots) (R : SlotsWithin g t run) (i : ListNumber) (l : i.0 < g.lists) (j : SlotNumber) (answers : Settings → RecordAnswer)
-      (is : (s : Settings) → layout_of s ≡ g → on_nth s i.0 (nth_of g (slots_in g t run) j.0) (λ m. answer.None) ≡ answers s) where
+  module _ (F : Proper g) (run : Slots) (R : SlotsWithin g t run) (i : ListNumber) (l : i.0 < g.lists) (j : SlotNumber) (answers : Settings → Result (Option Record) Refusal)
+      (is : (s : Settings) → layout_of s ≡ g → on_nth s i.0 (nth_of g (slots_in g t run) j.0) (λ m. (Ok None)) ≡ answers s) where
     past_row : run.count ≤ j.0 → Stands g t answers spot.Empty
     past_row h =
         record {
@@ -228,7 +231,7 @@ module _ (g : Layout) (t : List ℕ) (T : Table g t) (i : ListNumber) (l : i.0 <
   -- of a list without overflow blocks
   module _ (c : ℕ) (ec : c ≡ (basic_at (decode g t).basic i.0).counter) (low : c ≤ g.sib) where
     short_row : (s : Settings) → layout_of s ≡ g
-        → on_nth s i.0 (nth_of g (slots_in g t (basic_run g i.0 c)) p.0) (λ m. answer.None) ≡ retrieve_basic s (decode g t) i.0 p.0
+        → on_nth s i.0 (nth_of g (slots_in g t (basic_run g i.0 c)) p.0) (λ m. (Ok None)) ≡ retrieve_basic s (decode g t) i.0 p.0
     short_row s laid = basic_answer s g laid (decode g t) i.0 p.0 _ (nth_short g t T i.0 l p.0 (basic_run g i.0 c) c ec low refl)
 
     pub short_empty : c ≤ p.0 → Stands g t (λ s. retrieve_basic s (decode g t) i.0 p.0) spot.Empty
@@ -247,7 +250,7 @@ module _ (g : Layout) (t : List ℕ) (T : Table g t) (i : ListNumber) (l : i.0 <
       pub displaced : run.displaced ≡ g.link
       pub within : SlotsWithin g t run
       pub are : (s : Settings) → layout_of s ≡ g
-          → on_nth s i.0 (nth_of g (slots_in g t run) p.0) (λ m. answer.None) ≡ retrieve_basic s (decode g t) i.0 p.0
+          → on_nth s i.0 (nth_of g (slots_in g t run) p.0) (λ m. (Ok None)) ≡ retrieve_basic s (decode g t) i.0 p.0
 
     -- the blocks start at h and end with z
     pub long_row : (h z : ℕ) (over : Overflows g (decode g t) i.0 h) (last_is : z ≡ last_from g i.0 g.nob (decode g t).overflow h) (sound : z < g.nob)
@@ -292,9 +295,9 @@ module _ (g : Layout) (t : List ℕ) (i : ListNumber) (j : ℕ) (k : SlotNumber)
   -- it has the block: the counter decides
   module _ (T : Table g t) (l : i.0 < g.lists) (jl : j < g.nob) (kl : k.0 < g.sio) (v : Listed g t i.0 j true) (c : ℕ) (ec : c ≡ (overflow_at (decode g t).overflow j).counter) where
     block_row : (s : Settings) → layout_of s ≡ g
-        → on_nth s i.0 (nth_of g (slots_in g t (overflow_run g j c)) k.0) (λ m. answer.None) ≡ retrieve_overflow s (decode g t) j k.0
+        → on_nth s i.0 (nth_of g (slots_in g t (overflow_run g j c)) k.0) (λ m. (Ok None)) ≡ retrieve_overflow s (decode g t) j k.0
     block_row s laid =
-        ap (λ (xs : List ℕ). on_nth s i.0 (nth_of g xs k.0) (λ m. answer.None))
+        ap (λ (xs : List ℕ). on_nth s i.0 (nth_of g xs k.0) (λ m. (Ok None)))
         (ap (λ (n : ℕ). slots_in g t (overflow_run g j n)) ec ∙ overflow_slots_in g t T j (overflow_at (decode g t).overflow j).counter jl)
         ∙ slot_answer s g laid (decode g t) i.0 j k.0 owner-is v.list v.is v.has (sized g t T j jl) kl
 
@@ -312,24 +315,24 @@ module _ (s : Settings) (t : List ℕ) (n : ℕ) where
   abbrev number_due : List Due
   number_due = due (not (ltb n (capacity (layout_of s)))) refusal.Slot ∷ []
 
-  abbrev found : RecordAnswer
+  abbrev found : Result (Option Record) Refusal
   found = retrieve_in s (decode (layout_of s) t) n
 
-  pub call_illegal : legal s ≡ false → answer.Refused refusal.Settings ≡ retrieve_call s t n
+  pub call_illegal : legal s ≡ false → Err refusal.Settings ≡ retrieve_call s t n
   unfolding retrieve_call
-  call_illegal h = sym (due_settings answer.Refused s (length t) number_due found h)
+  call_illegal h = sym (due_settings Err s (length t) number_due found h)
 
   module _ (g : Layout) (h : legal s ≡ true) (laid : layout_of s ≡ g) where
-    pub call_short : length t < g.bytes → answer.Refused refusal.Short ≡ retrieve_call s t n
+    pub call_short : length t < g.bytes → Err refusal.Short ≡ retrieve_call s t n
     unfolding retrieve_call
-    call_short l = sym (due_short answer.Refused s (length t) number_due found g h laid l)
+    call_short l = sym (due_short Err s (length t) number_due found g h laid l)
 
     module _ (room : g.bytes ≤ length t) where
-      later : retrieve_call s t n ≡ unless_due number_due answer.Refused found
+      later : retrieve_call s t n ≡ unless_due number_due Err found
       unfolding retrieve_call
-      later = due_later answer.Refused s (length t) number_due found g h laid room
+      later = due_later Err s (length t) number_due found g h laid room
 
-      pub call_past : capacity g ≤ n → answer.Refused refusal.Slot ≡ retrieve_call s t n
+      pub call_past : capacity g ≤ n → Err refusal.Slot ≡ retrieve_call s t n
       call_past l = sym (later ∙ rw (le-ltb n (capacity (layout_of s)) (rw (← laid) at l)))
 
       pub call_slot : n < capacity g → retrieve_in s (decode g t) n ≡ retrieve_call s t n

@@ -1,5 +1,5 @@
 -- What the functions below record are asked and answer.
-use Rattle.std.specs.Prelude.{◌≡◌, ℕ, ◌+◌, ◌-◌, ◌*◌, ◌^◌, ◌≤◌, ◌<◌, cond, List, length, get_or, drop, ltb}
+use Rattle.std.specs.Prelude.{◌≡◌, ℕ, ◌+◌, ◌-◌, ◌*◌, ◌^◌, ◌≤◌, ◌<◌, cond, List, length, get_or, drop, ltb, Err, None, Ok}
 use Rattle.std.proofs.Math.Option.{Option, none, some}
 use Rattle.settings.specs.Legal.{Legal, most_bits}
 use Rattle.settings.specs.Layout.{layout_of}
@@ -14,12 +14,14 @@ use Rattle.table.specs.Table.{Table}
 use Rattle.table.specs.Follow.{Content}
 use Rattle.table.specs.Record.{record_of, record_from}
 use Rattle.table_read.specs.Steps.{SlotsWithin, slots_in}
-use Rattle.table.specs.declared.answers.RecordAnswer.{RecordAnswer}
-use Rattle.table.specs.declared.answers.RecordAnswer.TheVariants as answer
 use Rattle.table_record.specs.declared.Nth.{Nth}
 use Rattle.table_record.specs.declared.Nth.TheVariants as nth
 use Rattle.table_record.specs.declared.slot.Spot.{Spot}
 use Rattle.table_record.specs.declared.slot.Spot.TheVariants as spot
+use Rattle.std.specs.declared.result.Result.{Result}
+use Rattle.std.specs.declared.option.Option.{Option}
+use Rattle.settings.specs.declared.refusal.Refusal.{Refusal}
+use Rattle.table.specs.declared.answers.Record.{Record}
 
 -- the settings s are legal, g is their layout, and the bytes t hold a table of it
 pub record Ready (s : Settings) (g : Layout) (t : List ℕ) : Type 0 where
@@ -45,22 +47,22 @@ module _ (g : Layout) where
     pub below : (k : Key) (label : ℕ) → r ≡ nth.Slot k label → key_number k < 2 ^ g.bie
 
 -- the answer with what stands at a number in list i: its record; behind the list's slots, what `on` says of the number that is left
-abbrev pub on_nth : Settings → ℕ → Nth → (ℕ → RecordAnswer) → RecordAnswer
-on_nth s i (nth.Slot k l) on = answer.Record (key_of (rebuilt s i (key_number k))) l
+abbrev pub on_nth : Settings → ℕ → Nth → (ℕ → Result (Option Record) Refusal) → Result (Option Record) Refusal
+on_nth s i (nth.Slot k l) on = RECORD (key_of (rebuilt s i (key_number k))) l
 on_nth s i (nth.Past m) on = on m
-on_nth s i nth.Damage on = answer.Refused refusal.Damage
+on_nth s i nth.Damage on = Err refusal.Damage
 
 -- record n of the lists from list i on
-unfoldable pub records_from : Settings → State → ℕ → ℕ → RecordAnswer
+unfoldable pub records_from : Settings → State → ℕ → ℕ → Result (Option Record) Refusal
 records_from s st i n = record_from s i (drop i st.basic) st.overflow n
 
 module _ (g : Layout) (t : List ℕ) where
   -- the answer with what stands at a spot
-  abbrev pub at_spot : Settings → Spot → RecordAnswer
+  abbrev pub at_spot : Settings → Spot → Result (Option Record) Refusal
   at_spot s (spot.Slot i at) = record_of s i.0 (field t at g.slot)
   at_spot s (spot.Under i run j) = record_of s i.0 (get_or (slots_in g t run) j.0 0)
-  at_spot s spot.Empty = answer.None
-  at_spot s spot.Damage = answer.Refused refusal.Damage
+  at_spot s spot.Empty = (Ok None)
+  at_spot s spot.Damage = Err refusal.Damage
 
   -- a spot is one of a list's, and can be read
   abbrev pub Readable : Spot → Type 0
@@ -70,6 +72,6 @@ module _ (g : Layout) (t : List ℕ) where
   Readable spot.Damage = Unit {0}
 
   -- what stands at the spot r is the answer that the settings give, whichever have this layout
-  pub record Stands (answers : Settings → RecordAnswer) (r : Spot) : Type 0 where
+  pub record Stands (answers : Settings → Result (Option Record) Refusal) (r : Spot) : Type 0 where
     pub are : (s : Settings) → layout_of s ≡ g → at_spot s r ≡ answers s
     pub readable : Readable r

@@ -1,4 +1,5 @@
 -- What page comes to once the lists are surveyed: refusal 7, refusal 13, or the page.
+use Rattle.std.specs.Prelude.{Err, Ok}
 use mathlib.Core.Path.{◌≡◌, refl, sym, ap, ap₂, ◌∙◌}
 use mathlib.Core.Bool.{Bool, true, false, cond, not, ◌&&◌}
 use mathlib.Core.List.{List, [], ◌∷◌, ◌++◌}
@@ -30,8 +31,7 @@ use Rattle.text_sheet.specs.Pages.{page_count, pairs_on, page_text}
 use Rattle.text_sheet.specs.Answers.{page_room, records, damage_due, page_due, page_put, page_call}
 use Rattle.text_sheet.specs.Steps.{Lines, first_record, page_after}
 use Rattle.text_sheet.proofs.Pages.{count_bounds, count_least, count_none}
-use Rattle.text_sheet.specs.declared.PageAnswer.{PageAnswer}
-use Rattle.text_sheet.specs.declared.PageAnswer.TheVariants as paging
+use Rattle.std.specs.declared.result.Result.{Result}
 
 -- ---- whether there is a page k, by its first record n
 
@@ -90,7 +90,7 @@ not_there k count (beyond a) few h l = no_page k count (omega arith) (omega (ari
 -- ---- what is answered
 
 module _ (s : Settings) (g : Layout) (t : List ℕ) (laid : layout_of s ≡ g) (k : ℕ) (out : List ℕ) where
-  pub damaged : undamaged g (decode g t) ≡ false → Gives (page_after s t k out) (paging.Refused refusal.Damage) out
+  pub damaged : undamaged g (decode g t) ≡ false → Gives (page_after s t k out) (Err refusal.Damage) out
   damaged e =
       let d : undamaged (layout_of s) (held s t) ≡ false = ap (λ (x : Layout). undamaged x (decode x t)) laid ∙ e in
       rw d (record { answer = refl; bytes = refl })
@@ -113,38 +113,38 @@ module _ (s : Settings) (g : Layout) (t : List ℕ) (laid : layout_of s ≡ g) (
     page_is e a =
         ap (λ (ps : List Pair). heading ++ rows (take 40 ps)) (a ∙ ap₂ (λ (m : ℕ) (ps : List Pair). drop m ps) e held_is)
 
-    pub no_such : 0 < n → count ≤ n → Gives (page_after s t k out) (paging.Refused refusal.Page) out
+    pub no_such : 0 < n → count ≤ n → Gives (page_after s t k out) (Err refusal.Page) out
     no_such h l =
         let e : is_page k (length (records s t)) ≡ false = ap (is_page k) counted ∙ not_there k count begins C.few h l in
         rw (whole, e) (record { answer = refl; bytes = refl })
 
     -- the lines of the page's records are the page
-    pub put : (0 < n → n < count) → (r : ℕ) (out' : List ℕ) → Lines (take 40 (ahead s t c)) out out' r → Gives (page_after s t k out) (paging.Bytes r) out'
+    pub put : (0 < n → n < count) → (r : ℕ) (out' : List ℕ) → Lines (take 40 (ahead s t c)) out out' r → Gives (page_after s t k out) (Ok r) out'
     put h r out' L =
         let w = there k count begins C.few h in
         let e : is_page k (length (records s t)) ≡ true = ap (is_page k) counted ∙ w.0 in
         let same : heading ++ rows (take 40 (ahead s t c)) ≡ page_text (records s t) k = page_is w.1 (C.are h s laid) in
         let long : r ≡ length (page_text (records s t) k) = L.end ∙ ap (λ (x : List ℕ). length x) same in
-        rw (whole, e) (record { answer = ap paging.Bytes long; bytes = L.are ∙ ap₂ (λ (x : List ℕ) (m : ℕ). x ++ drop m out) same long })
+        rw (whole, e) (record { answer = ap Ok long; bytes = L.are ∙ ap₂ (λ (x : List ℕ) (m : ℕ). x ++ drop m out) same long })
 
 -- ---- refusals 1, 2, 3 and 9
 
-gives : {o : Reply PageAnswer} {a : PageAnswer} {u : List ℕ} → o ≡ reply a u → Gives o a u
+gives : {o : Reply (Result ℕ Refusal)} {a : Result ℕ Refusal} {u : List ℕ} → o ≡ reply a u → Gives o a u
 gives e = rw e (record { answer = refl; bytes = refl })
 
 module _ (s : Settings) (t : List ℕ) (k : ℕ) (out : List ℕ) where
-  refuse : Refusal → Reply PageAnswer
-  refuse why = reply (paging.Refused why) out
+  refuse : Refusal → Reply (Result ℕ Refusal)
+  refuse why = reply (Err why) out
 
   later : List Due
   later = width_due s ∷ due (not (leb page_room (length out))) refusal.Output ∷ damage_due s t ∷ page_due s t k ∷ []
 
-  pub refused_settings : legal s ≡ false → Gives (page_call s t k out) (paging.Refused refusal.Settings) out
+  pub refused_settings : legal s ≡ false → Gives (page_call s t k out) (Err refusal.Settings) out
   unfolding page_call refuse later
   refused_settings h = gives (due_settings refuse s (length t) later (page_put s t k out) h)
 
   module _ (g : Layout) (h : legal s ≡ true) (e : layout_of s ≡ g) where
-    pub refused_short : length t < g.bytes → Gives (page_call s t k out) (paging.Refused refusal.Short) out
+    pub refused_short : length t < g.bytes → Gives (page_call s t k out) (Err refusal.Short) out
     unfolding page_call refuse later
     refused_short l = gives (due_short refuse s (length t) later (page_put s t k out) g h e l)
 
@@ -153,11 +153,11 @@ module _ (s : Settings) (t : List ℕ) (k : ℕ) (out : List ℕ) where
       unfolding page_call refuse later
       opened = due_later refuse s (length t) later (page_put s t k out) g h e l
 
-      pub refused_width : (s.w ≡ 128 → ⊥) → Gives (page_call s t k out) (paging.Refused refusal.Width) out
+      pub refused_width : (s.w ≡ 128 → ⊥) → Gives (page_call s t k out) (Err refusal.Width) out
       unfolding refuse later
       refused_width n = gives (opened ∙ rw (ne_eqb s.w 128 n))
 
-      pub refused_output : s.w ≡ 128 → length out < page_room → Gives (page_call s t k out) (paging.Refused refusal.Output) out
+      pub refused_output : s.w ≡ 128 → length out < page_room → Gives (page_call s t k out) (Err refusal.Output) out
       unfolding refuse later
       refused_output w n = gives (opened ∙ rw (eq-eqb s.w 128 w, lt-leb page_room (length out) n))
 

@@ -1,5 +1,5 @@
 -- What the functions below page are asked and answer. Only private contracts cite these.
-use Rattle.std.specs.Prelude.{◌≡◌, cond, ◌&&◌, List, [], ◌∷◌, ◌++◌, ℕ, ◌-◌, ◌*◌, ◌^◌, length, drop, leb}
+use Rattle.std.specs.Prelude.{◌≡◌, cond, ◌&&◌, List, [], ◌∷◌, ◌++◌, ℕ, ◌-◌, ◌*◌, ◌^◌, length, drop, leb, Err}
 use Rattle.settings.specs.Layout.{layout_of}
 use Rattle.settings.specs.Legal.{Legal}
 use Rattle.settings.specs.Reply.{Reply, called}
@@ -13,8 +13,8 @@ use Rattle.plain_set.specs.Rebuilt.{Pair}
 use Rattle.plain_set.specs.Nth.{Undamaged}
 use Rattle.text_sheet.specs.Row.{heading, rows}
 use Rattle.text_sheet.specs.Answers.{damage_due, page_due, page_put}
-use Rattle.text_sheet.specs.declared.PageAnswer.{PageAnswer}
-use Rattle.text_sheet.specs.declared.PageAnswer.TheVariants as paging
+use Rattle.std.specs.declared.result.Result.{Result}
+use Rattle.settings.specs.declared.refusal.Refusal.{Refusal}
 
 -- the settings are legal, and g is their layout; the bytes t hold a table without damage, and the cursor c can be moved on
 pub record Ready (s : Settings) (g : Layout) (t : List ℕ) (c : Cursor) : Type 0 where
@@ -34,5 +34,5 @@ unfoldable pub first_record : ℕ → ℕ
 first_record k = cond (leb 1 k && leb k (2 ^ 40)) (40 * (k - 1)) (2 ^ 40)
 
 -- what page comes to once refusals 1, 2, 3 and 9 are settled
-abbrev pub page_after : Settings → List ℕ → ℕ → List ℕ → Reply PageAnswer
-page_after s t k out = called paging.Refused out (damage_due s t ∷ page_due s t k ∷ []) (page_put s t k out)
+abbrev pub page_after : Settings → List ℕ → ℕ → List ℕ → Reply (Result ℕ Refusal)
+page_after s t k out = called Err out (damage_due s t ∷ page_due s t k ∷ []) (page_put s t k out)

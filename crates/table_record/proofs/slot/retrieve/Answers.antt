@@ -1,4 +1,5 @@
 -- The layout's answer, the length and the number decide the call's.
+use Rattle.std.specs.Prelude.{Err}
 use mathlib.Core.Path.{◌≡◌, sym, ap, ◌∙◌}
 use mathlib.Core.Bool.{true}
 use native.Mathlib.Omega.{arith}
@@ -7,7 +8,6 @@ use Rattle.settings.specs.Layout.{layout_of}
 use Rattle.settings.specs.theory.Legal.{legal_means, laid_layout, laid_refused}
 use Rattle.table.specs.Table.{Table}
 use Rattle.table.specs.theory.Opened.{opened_table}
-use Rattle.table.specs.declared.answers.RecordAnswer.TheVariants as answer
 use Rattle.table_record.proofs.Retrievals.{call_illegal, call_short, call_past, call_slot}
 use Rattle.table_record.proofs.slot.retrieve.Goals as goal
 use Rattle.table_record.proofs.slot.retrieve.Goals.{Else-t-g}
@@ -55,4 +55,4 @@ pub returns-in-Refused : goal.returns-in-Refused
 returns-in-Refused c =
     let a = c.args in
     let e = laid_refused a.s _ (sym c.layout.ensures ∙ c.in-Refused.is) in
-    ap answer.Refused (sym e.1) ∙ call_illegal a.s a.t.now a.n e.0
+    ap Err (sym e.1) ∙ call_illegal a.s a.t.now a.n e.0
