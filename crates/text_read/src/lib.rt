@@ -2,6 +2,7 @@
 #![tactic(auto)]
 
 mod class;
+mod groups;
 mod reader;
 
 pub use class::{ClassTable, classes};

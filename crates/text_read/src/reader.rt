@@ -1,14 +1,14 @@
-// Reads an address in one pass. The groups go into two halves of 64 bits as they come; none is stored.
-ghost use Rattle.std.specs.Prelude.{◌≡◌, ◌+◌, ◌*◌, ◌^◌, ◌≤◌, ◌<◌, cond, ◌&&◌, length, drop, eqb, Some, None, Ok, Err};
-ghost use Rattle.keys.specs.Key.{key_of};
-ghost use Rattle.settings.specs.declared.refusal.Refusal.TheVariants as refusal;
+// Reads an address in one pass.
+ghost use Rattle.std.specs.Prelude.{◌≡◌, ◌+◌, ◌*◌, ◌^◌, ◌≤◌, ◌<◌, true, cond, ◌&&◌, length, drop, eqb, Some, None};
 ghost use Rattle.text_read.specs.Class.{colon, dot};
-ghost use Rattle.text_read.specs.Reading.{begins, tail, dotted as dottedGroups};
+ghost use Rattle.text_read.specs.Reading.{begins, tail, part, dotted as dottedGroups};
 ghost use Rattle.text_read.specs.Answers.{reading_of};
 ghost use Rattle.text_read.specs.Classes.{Five};
-ghost use Rattle.text_read.specs.ReaderSteps.{Sized, Fine, head_answer, by_length, until, numeral_of, group_in, decimal_in, dotted_from, number_of, made, to_end, part_at, filled_with, after_gap};
+ghost use Rattle.text_read.specs.Gathered.{made};
+ghost use Rattle.text_read.specs.ReaderSteps.{Fine, head_answer, by_length, until, numeral_of, group_in, decimal_in, dotted_from, to_end, part_at, gathered};
 
 use crate::class::{CLASSES, COLON, ClassTable, DOT};
+use crate::groups::{Groups, NO_GROUPS, PREFIX};
 use keys::Key;
 use settings::Refusal;
 
@@ -18,28 +18,6 @@ struct Numeral {
     value: u64,
     next: usize,
 }
-
-// Groups that are read: the number high * 2^64 + low that they stand for, and how many they are.
-#[derive(Clone, Copy)]
-struct Groups {
-    high: u64,
-    low: u64,
-    count: usize,
-}
-
-// Before the first group.
-const NO_GROUPS: Groups = Groups {
-    high: 0,
-    low: 0,
-    count: 0,
-};
-
-// Before the dotted tail of an address under ::ffff:0:0/96: five zero groups, and ffff.
-const PREFIX: Groups = Groups {
-    high: 0,
-    low: 0xffff,
-    count: 6,
-};
 
 // Groups parted by single colons.
 #[derive(Clone, Copy)]
@@ -149,7 +127,8 @@ fn four(value: u64, n: usize, next: usize) -> Option<Numeral>
     None
 }
 
-// The number below 2^32 that four decimals with dots stand for, from `from` to the end of the text.
+// The number below 2^32 that four decimals with dots stand for, from `from` to the end of the text. A `loop`, since the
+// text's end and not a count ends it: a `for` over the four would read the last of them apart.
 fn dotted(table: &ClassTable, text: &[u8], from: usize) -> Option<Numeral>
     requires { from ≤ length text.now }
     ensures { result ≡ numeral_of (dotted_from 0 0 (drop from text.now)) (length text.now) }
@@ -171,38 +150,16 @@ fn dotted(table: &ClassTable, text: &[u8], from: usize) -> Option<Numeral>
     }
 }
 
-// 65536^n. A product, a quotient or a remainder by it is compiled to a shift or a mask.
-fn power(n: usize) -> u64
-    requires { n < 4 }
-    ensures { result ≡ 65536 ^ n }
-{
-    1 << (16 * n)
-}
-
-// n groups more, one to three, that stand for the number x: the first n of the low half go over to the high half.
-fn pushed(groups: Groups, n: usize, x: u64) -> Groups
-    requires { Sized groups × (1 ≤ n) × (n ≤ 3) × (groups.count + n ≤ 8) × (x < 65536 ^ n) }
-    ensures { result ≡ made (number_of groups * 65536 ^ n + x) (groups.count + n) }
-{
-    let up = power(n);
-    let over = power(4 - n);
-    Groups {
-        high: groups.high * up + groups.low / over,
-        low: groups.low % over * up + x,
-        count: groups.count + n,
-    }
-}
-
 // The groups and the two of the dotted tail from `at` on: a field that is no group can only be that.
 fn with_tail(table: &ClassTable, text: &[u8], at: usize, groups: Groups) -> Option<Part>
-    requires { (at ≤ length text.now) × Sized groups × (groups.count ≤ 8) }
-    ensures { result ≡ to_end (number_of groups) groups.count (dottedGroups (drop at text.now)) }
+    requires { at ≤ length text.now }
+    ensures { result ≡ to_end groups.number groups.count (dottedGroups (drop at text.now)) }
 {
-    if 6 < groups.count {
+    if 6 < groups.count() {
         return None;
     }
     let tail = dotted(table, text, at)?;
-    Some(Part::Whole(pushed(groups, 2, tail.value)))
+    Some(Part::Whole(groups.pushed(2, tail.value)))
 }
 
 // The groups that stand before a dotted tail at `at`. Where the text begins with it, it stands alone, and is read as the
@@ -216,7 +173,8 @@ fn before_tail(at: usize, groups: Groups) -> Groups
     groups
 }
 
-// The groups from `from` on, up to "::" or the end of the text.
+// The groups from `from` on, up to "::" or the end of the text. A `loop`, since what follows a group decides whether one
+// more is read, and where.
 fn read_part(table: &ClassTable, text: &[u8], from: usize) -> Option<Part>
     requires { from ≤ length text.now }
     ensures { result ≡ part_at 0 0 (drop from text.now) from }
@@ -227,10 +185,10 @@ fn read_part(table: &ClassTable, text: &[u8], from: usize) -> Option<Part>
         let Some(Numeral { value, next }) = group(table, text, at) else {
             return with_tail(table, text, at, before_tail(at, groups));
         };
-        if 7 < groups.count {
+        if 7 < groups.count() {
             return None;
         }
-        groups = pushed(groups, 1, value);
+        groups = groups.pushed(1, value);
         if next == text.len() {
             return Some(Part::Whole(groups));
         }
@@ -247,81 +205,19 @@ fn read_part(table: &ClassTable, text: &[u8], from: usize) -> Option<Part>
     }
 }
 
-// No legal address.
-fn refused() -> Result<Key, Refusal>
-    ensures { result ≡ Err refusal.Text }
-{
-    Err(Refusal::Text)
-}
-
-// The key of these halves.
-fn found(high: u64, low: u64) -> Result<Key, Refusal>
-    ensures { result ≡ Ok (record { high = high; low = low }) }
-{
-    Ok(Key { high, low })
-}
-
-// Eight groups, without "::".
-fn eight(groups: Groups) -> Result<Key, Refusal>
-    requires { Sized groups }
-    ensures { result ≡ cond (eqb groups.count 8) (Ok (key_of (number_of groups))) (Err refusal.Text) }
-{
-    if groups.count == 8 {
-        return found(groups.high, groups.low);
-    }
-    refused()
-}
-
-// At most four groups before "::": the high half takes them all. If there are none, zero moves by nothing.
-fn raised(head: Groups, tail: Groups) -> Result<Key, Refusal>
-    requires { Sized head × Sized tail × (head.count ≤ 4) × (head.count + tail.count ≤ 7) }
-    ensures { result ≡ filled_with (number_of head) head.count (number_of tail) tail.count }
-{
-    let up = power((4 - head.count) % 4);
-    found(head.low * up + tail.high, tail.low)
-}
-
-// Five to seven groups before "::": they go across both halves, and the low half has room for the tail.
-fn across(head: Groups, tail: Groups) -> Result<Key, Refusal>
-    requires { Sized head × Sized tail × (4 < head.count) × (head.count + tail.count ≤ 7) }
-    ensures { result ≡ filled_with (number_of head) head.count (number_of tail) tail.count }
-{
-    let up = power(8 - head.count);
-    let over = power(head.count - 4);
-    found(
-        head.high * up + head.low / over,
-        head.low % over * up + tail.low,
-    )
-}
-
-// The head's groups first, the tail's last, and zero groups between, so that there are eight. The shifts are by a variable
-// amount: an arm for each count would be a jump that is badly predicted where texts differ.
-fn filled(head: Groups, tail: Groups) -> Result<Key, Refusal>
-    requires { Sized head × Sized tail × (head.count ≤ 8) × (tail.count ≤ 8) }
-    ensures { result ≡ filled_with (number_of head) head.count (number_of tail) tail.count }
-{
-    if 7 < head.count + tail.count {
-        return refused();
-    }
-    if 4 < head.count {
-        return across(head, tail);
-    }
-    raised(head, tail)
-}
-
-// The address whose groups before "::" are read. One part follows, or nothing: a second "::" is not legal. Here and in
-// `first_part` the slice is taken anew for the part, so that it stays in registers.
-fn after_gap(table: &ClassTable, text: &[u8], at: usize, head: Groups) -> Result<Key, Refusal>
-    requires { (0 < at) × (at ≤ length text.now) × Sized head × (head.count ≤ 8) }
-    ensures { result ≡ after_gap (number_of head) head.count (drop at text.now) }
+// The groups behind "::". One part follows, or nothing: a second "::" is not legal. Here and in `first_part` the slice is
+// taken anew for the part, so that it stays in registers.
+fn behind_gap(table: &ClassTable, text: &[u8], at: usize) -> Option<Groups>
+    requires { (0 < at) × (at ≤ length text.now) }
+    ensures { result ≡ gathered (part true (drop at text.now)) }
 {
     if at == text.len() {
-        return filled(head, NO_GROUPS);
+        return Some(NO_GROUPS);
     }
-    let Some(Part::Whole(tail)) = read_part(table, &text[..], at) else {
-        return refused();
-    };
-    filled(head, tail)
+    match read_part(table, &text[..], at)? {
+        Part::Whole(tail) => Some(tail),
+        Part::Gap { .. } => None,
+    }
 }
 
 // The text begins with "::".
@@ -355,8 +251,11 @@ pub fn read_by(table: &ClassTable, text: &[u8]) -> Result<Key, Refusal>
     ensures { result ≡ reading_of text.now }
 {
     match first_part(table, text).ok_or(Refusal::Text)? {
-        Part::Gap { groups, next } => after_gap(table, text, next, groups),
-        Part::Whole(groups) => eight(groups),
+        Part::Gap { groups, next } => {
+            let tail = behind_gap(table, text, next).ok_or(Refusal::Text)?;
+            groups.filled(tail)
+        }
+        Part::Whole(groups) => groups.eight(),
     }
 }
 

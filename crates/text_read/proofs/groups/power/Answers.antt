@@ -5,7 +5,7 @@ use native.Mathlib.Nat.{one-mul}
 use native.Mathlib.Omega.{arith}
 use lib.Pow.{shl_exact}
 use Rattle.text_read.proofs.Joined.{power_bits}
-use Rattle.text_read.proofs.reader.power.Goals as goal
+use Rattle.text_read.proofs.groups.power.Goals as goal
 
 pub returns : goal.returns
 returns c = shl_exact 1 (16 * c.args.n) 64 (omega arith) (omega arith) ∙ one-mul _ ∙ power_bits c.args.n
