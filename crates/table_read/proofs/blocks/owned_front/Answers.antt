@@ -2,7 +2,6 @@
 use mathlib.Core.Path.{◌≡◌, ap₂, ◌∙◌}
 use Prim.Native.Nat.{ℕ, ◌+◌, ◌/◌, ◌%◌, ◌^◌}
 use native.Mathlib.Omega.{arith}
-use lib.Pow.{pow_pos}
 use Rattle.bits.specs.Field.{field}
 use Rattle.bits.specs.theory.Fields.{first_field, last_field}
 use Rattle.table.specs.Decode.{block_at}
@@ -14,12 +13,6 @@ use Rattle.table_read.proofs.blocks.owned_front.Goals.{After-get_short-all, Afte
 
 block : (s : Start) → BlockIn s.args.t.now s.args.g.overflow s.args.j.0 (s.args.g.link + s.args.g.owner)
 block s = over_in s.args.g s.args.t.now s.requires.0 (s.args.g.link + s.args.g.owner) (omega arith) s.args.j.0 s.requires.1
-
-pub pow-owner-requires : goal.pow-owner-requires
-pow-owner-requires c = omega (arith, c.requires.0.proper.owner_high)
-
-pub pow-link-requires : goal.pow-link-requires
-pow-link-requires c = omega (arith, c.requires.0.proper.link_high)
 
 pub counter_at-requires : goal.counter_at-requires
 counter_at-requires c =
@@ -47,9 +40,6 @@ owner_pow c = c.pow-owner.ensures
 
 link_pow : (c : After-get_short-all) → c.pow-link.result ≡ 2 ^ c.args.g.link
 link_pow c = c.pow-link.ensures
-
-pub nonzero_div-both : goal.nonzero_div-both
-nonzero_div-both c = rw (owner_pow (goal.at.nonzero_div-both c).After-get_short-all) (pow_pos c.args.g.owner)
 
 pub returns : goal.returns
 returns c =

@@ -12,9 +12,6 @@ use Rattle.table_read.specs.theory.Lasts.{last_block, last_none}
 use Rattle.table_read.proofs.lists.follow.Goals as goal
 use Rattle.table_read.proofs.lists.follow.Goals.{After-step_of, At-loop}
 
-pub loop-init : goal.loop-init
-loop-init c = let e : c.args.g.nob - 0 ≡ c.args.g.nob = omega arith in rw e
-
 -- damage, where the last block from b on is no block
 none_here : (m : At-loop) → let g = m.args.g in
     last_from g ((m.args.i.0)) (g.nob - m.loop.counter) ((let s = m.args in (decode s.g s.t.now).overflow)) m.loop.b.0 ≡ g.nob

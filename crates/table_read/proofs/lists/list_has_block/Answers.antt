@@ -1,12 +1,11 @@
 -- The invariant: the list goes on at block b, and the answer is the same from there. The measure is the turns left.
 use Rattle.std.proofs.Common.{inl}
-use mathlib.Core.Path.{◌≡◌, sym, ap, ◌∙◌}
-use Prim.Native.Nat.{ℕ, ◌+◌, ◌-◌}
+use mathlib.Core.Path.{◌≡◌, sym, ◌∙◌}
+use Prim.Native.Nat.{◌+◌, ◌-◌}
 use native.Mathlib.Omega.{arith}
 use Rattle.table.specs.Decode.{decode}
 use Rattle.table.specs.theory.Ways.{told_further, told_other}
 use Rattle.table_read.specs.theory.Walks.{OneStep, one_step}
-use Rattle.table_read.specs.BlockSlots.{has_block}
 use Rattle.table_read.specs.theory.BlockSlots.{has_here, has_last, has_on}
 use Rattle.table_read.proofs.lists.list_has_block.Goals as goal
 use Rattle.table_read.proofs.lists.list_has_block.Goals.{At-loop}
@@ -15,11 +14,6 @@ use Rattle.table_read.proofs.lists.list_has_block.Goals.{At-loop}
 here : (c : At-loop) → OneStep c.args.g (decode c.args.g c.args.t.now).overflow (c.args.g.nob - c.loop.counter) c.loop.b.0
 here c =
     one_step c.args.g (decode c.args.g c.args.t.now).overflow (c.args.g.nob - c.loop.counter) c.loop.b.0 c.loop.invariant.0
-
-pub loop-init : goal.loop-init
-loop-init c =
-    let z : c.args.g.nob - 0 ≡ c.args.g.nob = omega arith in
-    (rw z c.requires.1, ap (λ (n : ℕ). has_block c.args.g n (decode c.args.g c.args.t.now).overflow c.args.first.0 c.args.f.0) z)
 
 pub returns-then-b-f : goal.returns-then-b-f
 returns-then-b-f c =
@@ -49,7 +43,3 @@ loop-preserved c =
           (has_on c.args.g (decode c.args.g c.args.t.now).overflow c.args.f.0 (c.args.g.nob - c.loop.counter) c.loop.b.0 k c.if-b-f.false full
           ∙ c.loop.invariant.1),
     )
-
-pub returns : goal.returns
-returns c =
-    absurd (omega (arith, (here (goal.at.returns c).At-loop).fuel, c.loop-test.false))
