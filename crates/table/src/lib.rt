@@ -3,8 +3,10 @@
 
 mod answers;
 mod damage;
+mod slot;
 mod step;
 
 pub use answers::{Answer, CheckAnswer, MakeAnswer, RecordAnswer, Word};
 pub use damage::Damage;
+pub use slot::Slot;
 pub use step::{Before, Step};
