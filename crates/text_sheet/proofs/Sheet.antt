@@ -1,5 +1,5 @@
 -- The claim on the sheet of a table, for every table in which no list is damaged, and so for every one that check finds sound.
-use Rattle.std.specs.Prelude.{◌≡◌, true, List, [], ◌∷◌, ◌++◌, ℕ, suc, ◌-◌, ◌*◌, ◌^◌, ◌≤◌, ◌<◌, length, get_or, drop, take}
+use Rattle.std.specs.Prelude.{◌≡◌, true, List, [], ◌∷◌, ◌++◌, ℕ, suc, ◌-◌, ◌*◌, ◌^◌, ◌≤◌, ◌<◌, length, get_or, drop, take, Ok}
 use Rattle.std.proofs.Common.{sym, ap, ◌∙◌, arith, mod-lt, length-append, pow_pos, pow_mono}
 use borrow.Author.Tests.{eq-eqb, le-leb}
 use Rattle.laws.specs.Options.{nothing}
@@ -27,7 +27,6 @@ use Rattle.text_sheet.specs.Answers.{page_room, records, page_call}
 use Rattle.text_sheet.specs.Claim.{Sheet}
 use Rattle.text_sheet.specs.theory.Lines.{heading_length, Labelled, pair_row_length, rows_length}
 use Rattle.text_sheet.proofs.Pages.{whole}
-use Rattle.text_sheet.specs.declared.PageAnswer.TheVariants as paging
 
 -- Labels have at most 32 bits -------------------------------------------------------------------------------------------------
 
@@ -63,7 +62,7 @@ page_fits s t right k = omega (arith, page_length (records s t) (labelled s righ
 
 module _ (s : Settings) (t : List ℕ) (right : Legal s) (wide : s.w ≡ 128) (room : table_bytes s ≤ length t) (ends : undamaged (layout_of s) (held s t) ≡ true) where
   page_call_lem : (k : ℕ) (out : List ℕ) → 1 ≤ k → k ≤ page_count (length (records s t)) → page_room ≤ length out
-      → let text = page_text (records s t) k in page_call s t k out ≡ reply (paging.Bytes (length text)) (text ++ drop (length text) out)
+      → let text = page_text (records s t) k in page_call s t k out ≡ reply (Ok (length text)) (text ++ drop (length text) out)
   unfolding page_call
   page_call_lem k out a b r =
       rw (
@@ -84,7 +83,7 @@ module _ (s : Settings) (t : List ℕ) (right : Legal s) (wide : s.w ≡ 128) (r
         row = λ n h. pair_row_length (get_or (records s t) n (pair 0 0)) (all_at (labelled s right t) (pair 0 0) n h);
         page = λ k out a b r.
             page_call_lem k out a b r
-            ∙ ap (λ (n : ℕ). reply (paging.Bytes n) (page_text (records s t) k ++ drop n out)) (page_length (records s t) (labelled s right t) k);
+            ∙ ap (λ (n : ℕ). reply (Ok n) (page_text (records s t) k ++ drop n out)) (page_length (records s t) (labelled s right t) k);
       }
 
 -- and so of every table for addresses that check finds sound, whatever marks it was lent

@@ -1,5 +1,5 @@
 -- What the sheet of a table is, all pages together (clauses 9.8 to 9.11).
-use Rattle.std.specs.Prelude.{◌≡◌, List, [], ◌++◌, ℕ, zero, suc, ◌*◌, ◌≤◌, ◌<◌, length, get_or, drop}
+use Rattle.std.specs.Prelude.{◌≡◌, List, [], ◌++◌, ℕ, zero, suc, ◌*◌, ◌≤◌, ◌<◌, length, get_or, drop, Ok}
 use Rattle.settings.specs.declared.settings.Settings.{Settings}
 use Rattle.settings.specs.Reply.{reply}
 use Rattle.table.specs.Calls.{record_call}
@@ -8,7 +8,6 @@ use Rattle.plain_set.specs.Nth.{nth_record}
 use Rattle.text_sheet.specs.Row.{pair_row}
 use Rattle.text_sheet.specs.Pages.{page_count, pairs_on, page_text}
 use Rattle.text_sheet.specs.Answers.{page_room, records, page_call}
-use Rattle.text_sheet.specs.declared.PageAnswer.TheVariants as paging
 
 -- the records of pages 1 to n, one page behind the other
 abbrev pub joined : List Pair → ℕ → List Pair
@@ -36,4 +35,4 @@ module _ (s : Settings) (t : List ℕ) where
     -- each page is answered: a line of 51 bytes for the heading and for each of its records, and the bytes behind them stay
     pub page : (k : ℕ) (out : List ℕ) → 1 ≤ k → k ≤ page_count (length (records s t)) → page_room ≤ length out
         → let n = 51 * suc (length (pairs_on (records s t) k)) in
-        page_call s t k out ≡ reply (paging.Bytes n) (page_text (records s t) k ++ drop n out)
+        page_call s t k out ≡ reply (Ok n) (page_text (records s t) k ++ drop n out)
