@@ -5,19 +5,12 @@ ghost use Rattle.bits.specs.Put.{put_field};
 
 use crate::number::{part, replace};
 
-// b as a number of 64 bits. The bound is for callers, who must show that their sums fit.
-pub(crate) fn long(b: u8) -> u64
-    ensures { (result ≡ b) × (result < 256) }
-{
-    b as u64
-}
-
 // The n bits after the first a of byte i.
 pub fn get(s: &[u8], i: usize, a: usize, n: usize) -> u64
     requires { (i < length s.now) × (0 < n) × (a + n ≤ 8) }
     ensures { result ≡ field s.now (8 * i + a) n }
 {
-    part(long(s[i]), 8 - a - n, n)
+    part(u64::from(s[i]), 8 - a - n, n)
 }
 
 // Those bits become v.
@@ -25,5 +18,5 @@ pub fn put(s: &mut [u8], i: usize, a: usize, n: usize, v: u64)
     requires { (i < length s.old) × (0 < n) × (a + n ≤ 8) × (v < 2 ^ n) }
     ensures { s.new ≡ put_field s.old (8 * i + a) n v }
 {
-    s[i] = replace(long(s[i]), 8 - a - n, n, v) as u8;
+    s[i] = replace(u64::from(s[i]), 8 - a - n, n, v) as u8;
 }

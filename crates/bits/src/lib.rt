@@ -1,5 +1,6 @@
 // Fields in lent bytes (clause 4.1). A
-// field is 0 to 64 bits wide and starts at any bit.
+// field is 0 to 64 bits wide and starts at any bit. `get`, `get_short` and `get_inner`, and `put` and `put_short`, are no one
+// function with a parameter for which tests to make: their names and what they require say which are needed.
 #![tactic(auto)]
 
 mod byte;
@@ -74,11 +75,10 @@ pub fn get_short(s: &[u8], off: usize, n: usize) -> u64
     requires { (0 < n) × (n ≤ 57) × (off + n ≤ 8 * length s.now) }
     ensures { result ≡ field s.now off n }
 {
-    let i = off / 8;
-    if s.len() < i + 8 {
+    if s.len() < off / 8 + 8 {
         return near_end::get(&s[..], off, n);
     }
-    word::get(s, i, off % 8, n)
+    get_inner(s, off, n)
 }
 
 // The field of n bits from bit off on becomes v, where n is 1 to 57.
@@ -95,7 +95,8 @@ pub fn put_short(s: &mut [u8], off: usize, n: usize, v: u64)
 }
 
 // The field of n bits from bit off on, where n is up to 128, becomes high * 2^64 + low. Above 64 bits the
-// first word is filled, and the rest follows from its end on.
+// first word is filled, and the rest follows from its end on. Two numbers, and no struct of them: a function copies its
+// structs at its entry.
 pub fn put_wide(s: &mut [u8], off: usize, n: usize, high: u64, low: u64)
     requires { (n ≤ 128) × (off + n ≤ 8 * length s.old) × (off + n ≤ 2 ^ 28) × (high * 2 ^ 64 + low < 2 ^ n) }
     ensures { s.new ≡ put_field s.old off n (high * 2 ^ 64 + low) }
@@ -125,7 +126,8 @@ pub fn word_is(s: &[u8], i: usize, q: u64) -> bool
     word::low_first(s, i) == q
 }
 
-// The same of four bytes.
+// The same of four bytes. Apart, since the library has a conversion for each size: one function for both would add up the
+// bytes by hand.
 pub fn four_is(s: &[u8], i: usize, q: u64) -> bool
     requires { (i + 4 ≤ length s.now) × (q < 2 ^ 32) }
     ensures { result ≡ eqb (field s.now (8 * i) 32) (swapped (q * 2 ^ 32)) }
@@ -137,9 +139,5 @@ pub fn four_is(s: &[u8], i: usize, q: u64) -> bool
 pub fn zero_bytes(s: &mut [u8])
     ensures { s.new ≡ replicate (length s.old) 0 }
 {
-    let mut i: usize = 0;
-    while i < s.len() {
-        s[i] = 0;
-        i += 1;
-    }
+    s.fill(0);
 }

@@ -37,7 +37,8 @@ pub fn join(x: u64, t: usize, y: u64) -> u64
     x * pow(t) + y
 }
 
-// The 64 bits of high * 2^64 + low above its k low ones, which are some of low.
+// The 64 bits of high * 2^64 + low above its k low ones, which are some of low: for who knows that, without the tests of
+// `part_of_two`.
 pub(crate) fn across(high: u64, low: u64, k: usize) -> u64
     requires { (0 < k) × (k < 64) }
     ensures { result ≡ (high * 2 ^ 64 + low) / 2 ^ k % 2 ^ 64 }

@@ -1,11 +1,10 @@
-// Words of eight bytes, the first byte highest. The bytes are taken lowest first and then swapped
-// round, because LLVM makes one load, or one store, and a byte swap of exactly that.
+// Words of eight bytes, the first byte highest, and bytes compared as they stand, the first one lowest. The library's
+// conversions and copies are one load or one store each, and a byte swap.
 ghost use Rattle.std.specs.Prelude.{◌≡◌, ◌+◌, ◌*◌, ◌%◌, ◌^◌, ◌≤◌, ◌<◌, length};
 ghost use Rattle.bits.specs.Field.{field};
 ghost use Rattle.bits.specs.Put.{put_field};
 ghost use Rattle.bits.specs.Word.{low_first, low_first_four, swapped, set_four};
 
-use crate::byte::long;
 use crate::number::{part, replace};
 
 // The eight bytes from i on, the first one lowest.
@@ -13,14 +12,16 @@ pub(crate) fn low_first(s: &[u8], i: usize) -> u64
     requires { i + 8 ≤ length s.now }
     ensures { result ≡ low_first s.now i }
 {
-    long(s[i])
-        + long(s[i + 1]) * 256
-        + long(s[i + 2]) * 65536
-        + long(s[i + 3]) * 16777216
-        + long(s[i + 4]) * 4294967296
-        + long(s[i + 5]) * 1099511627776
-        + long(s[i + 6]) * 281474976710656
-        + long(s[i + 7]) * 72057594037927936
+    u64::from_le_bytes([
+        s[i],
+        s[i + 1],
+        s[i + 2],
+        s[i + 3],
+        s[i + 4],
+        s[i + 5],
+        s[i + 6],
+        s[i + 7],
+    ])
 }
 
 // The four bytes from i on, the first one lowest.
@@ -28,21 +29,14 @@ pub(crate) fn low_first_four(s: &[u8], i: usize) -> u64
     requires { i + 4 ≤ length s.now }
     ensures { result ≡ low_first_four s.now i }
 {
-    long(s[i]) + long(s[i + 1]) * 256 + long(s[i + 2]) * 65536 + long(s[i + 3]) * 16777216
+    u64::from(u32::from_le_bytes([s[i], s[i + 1], s[i + 2], s[i + 3]]))
 }
 
 // x, with its eight bytes in the other order.
 pub fn swap_bytes(x: u64) -> u64
     ensures { result ≡ swapped x }
 {
-    (x % 256) * 72057594037927936
-        + (x / 256 % 256) * 281474976710656
-        + (x / 65536 % 256) * 1099511627776
-        + (x / 16777216 % 256) * 4294967296
-        + (x / 4294967296 % 256) * 16777216
-        + (x / 1099511627776 % 256) * 65536
-        + (x / 281474976710656 % 256) * 256
-        + (x / 72057594037927936 % 256)
+    x.swap_bytes()
 }
 
 // The eight bytes from i on, the first one highest.
@@ -53,23 +47,17 @@ fn load(s: &[u8], i: usize) -> u64
     swap_bytes(low_first(s, i))
 }
 
-// The lowest byte of x.
-fn low_byte(x: u64) -> u8
-    ensures { result ≡ x % 256 }
-{
-    (x % 256) as u8
-}
-
 // The four bytes from i on become the four low bytes of x, the lowest first. Four, and not eight, keep
 // the proof short; two calls still make one store.
 pub fn store_four(s: &mut [u8], i: usize, x: u64)
     requires { i + 4 ≤ length s.old }
     ensures { s.new ≡ set_four s.old i x }
 {
-    s[i] = low_byte(x);
-    s[i + 1] = low_byte(x / 256);
-    s[i + 2] = low_byte(x / 65536);
-    s[i + 3] = low_byte(x / 16777216);
+    let b = x.to_le_bytes();
+    s[i] = b[0];
+    s[i + 1] = b[1];
+    s[i + 2] = b[2];
+    s[i + 3] = b[3];
 }
 
 // The eight bytes from i on become w, the first one highest.

@@ -1,5 +1,5 @@
 -- What each call that may write leaves in the bytes that it may write.
-use Rattle.std.specs.Prelude.{◌≡◌, refl, ◌⊎◌, ◌≢◌, cond, not, List, [], ◌∷◌, ◌++◌, length, drop, replicate, leb}
+use Rattle.std.specs.Prelude.{◌≡◌, refl, ◌⊎◌, ◌≢◌, cond, not, List, [], ◌∷◌, ◌++◌, length, drop, replicate, leb, Bool, Err, Ok, false, true, ⊤}
 use Rattle.std.proofs.Common.{◌∙◌, inl, inr, arith, length-append, length-drop, drop-set-lt, leb-true}
 use Rattle.std.proofs.Math.Option.{Option, none, some}
 use Prim.Native.Nat.{ℕ, zero, suc, ◌+◌, ◌*◌, ◌/◌, ◌≤◌}
@@ -31,29 +31,21 @@ use Rattle.table.specs.New.{new_state, new_bytes}
 use Rattle.table.specs.Check.{table_sound, mark_bytes, marks_after}
 use Rattle.table.specs.Answer.{said, no_key}
 use Rattle.table.specs.Calls.{Verb, find, enter, relabel, delete, list_call, verb_due, held, make_call, key_call, check_call}
-use Rattle.table.specs.declared.answers.Answer as table
-use Rattle.table.specs.declared.answers.Answer.TheVariants as answer
+use Rattle.table.specs.Answer as table
 use Rattle.table.specs.declared.answers.Word.TheVariants as word
-use Rattle.table.specs.declared.answers.MakeAnswer.{MakeAnswer}
-use Rattle.table.specs.declared.answers.MakeAnswer.TheVariants as making
-use Rattle.table.specs.declared.answers.CheckAnswer.{CheckAnswer}
-use Rattle.table.specs.declared.answers.CheckAnswer.TheVariants as checking
 use Rattle.table.specs.theory.FormedCalls.{either}
 use Rattle.table.specs.theory.Written.{written_length}
 use Rattle.text_read.specs.Answers.{reading_of}
 use Rattle.text_write.specs.Writing as text
 use Rattle.text_write.specs.Answers.{write_call}
-use Rattle.text_write.specs.declared.Written.{Written}
-use Rattle.text_write.specs.declared.Written.TheVariants as writing
 use Rattle.text_calls.specs.TextCalls.{key_read, text_due, for_key, text_call}
 use Rattle.text_calls.specs.declared.calls.TextAnswer.{TextAnswer}
 use Rattle.text_calls.specs.Asked.{Asked, by_key, by_text, verb_asked, table_call}
 use Rattle.text_sheet.specs.Pages.{page_text}
 use Rattle.text_sheet.specs.Answers.{page_room, records, damage_due, page_due, page_call}
 use Rattle.text_sheet.proofs.Sheet.{page_fits}
-use Rattle.text_sheet.specs.declared.PageAnswer.{PageAnswer}
-use Rattle.text_sheet.specs.declared.PageAnswer.TheVariants as paging
 use Rattle.demand1.specs.Claim.{Said, refused, told, of_make, of_key, of_check, of_written, of_page, make, ask, Writes, makes, enters, relabels, deletes, Untouched}
+use Rattle.std.specs.declared.result.Result.{Result}
 
 -- Bytes beyond -----------------------------------------------------------------------------------------------------------------
 
@@ -110,7 +102,7 @@ module _ (s : Settings) (t : List ℕ) where
   make_kept =
       by_dues (λ choose.
       Kept (table_bytes s) t (Writes make)
-      (answering of_make (choose (Reply MakeAnswer) (λ why. reply (making.Refused why) t) (reply making.Made (new_bytes (layout_of s) t)))))
+      (answering of_make (choose (Reply (Result ⊤ Refusal)) (λ why. reply (Err why) t) (reply (Ok tt) (new_bytes (layout_of s) t)))))
       (settings_due s ∷ short_due s (length t) ∷ [])
       (λ why. stays (refused why))
       (λ d.
@@ -182,7 +174,7 @@ module _ (s : Settings) (t : List ℕ) where
         by_dues (λ choose.
         Kept (table_bytes s) t (Writes (ask q))
         (answering of_key
-        (choose (Reply table.Answer) (λ why. reply (answer.Refused why) t)
+        (choose (Reply table.Answer) (λ why. reply (Err why) t)
         (replied (layout_of s) t (list_call (layout_of s) (held s t) i e v)))))
         (settings_due s ∷ short_due s (length t) ∷ key_due s (key_number k) ∷ verb_due s v)
         (λ why. stays (refused why))
@@ -195,7 +187,7 @@ module _ (s : Settings) (t : List ℕ) where
         by_dues (λ choose.
         Kept (table_bytes s) t (Writes (ask q))
         (answering (λ a. of_key a.answer)
-        (choose (Reply TextAnswer) (λ why. reply (for_key no_key (answer.Refused why)) t) (answering (for_key k) (key_call s t v k)))))
+        (choose (Reply TextAnswer) (λ why. reply (for_key no_key (Err why)) t) (answering (for_key k) (key_call s t v k)))))
         (settings_due s ∷ short_due s (length t) ∷ width_due s ∷ text_due x ∷ [])
         (λ why. stays (refused why))
         (λ d. key_kept v k h)
@@ -219,8 +211,8 @@ check_kept s t m =
     by_dues (λ choose.
     Kept ((s.nob + 7) / 8) m Accepted
     (answering of_check
-    (choose (Reply CheckAnswer) (λ why. reply (checking.Refused why) m)
-    (reply (cond (table_sound (layout_of s) t) checking.Sound checking.Unsound) (marks_after (layout_of s) m)))))
+    (choose (Reply (Result Bool Refusal)) (λ why. reply (Err why) m)
+    (reply (cond (table_sound (layout_of s) t) (Ok true) (Ok false)) (marks_after (layout_of s) m)))))
     (settings_due s ∷ short_due s (length t) ∷ due (not (leb (mark_bytes (layout_of s)) (length m))) refusal.Marks ∷ [])
     (λ why. stays (refused why))
     (λ d.
@@ -235,7 +227,7 @@ write_kept k b =
     by_dues (λ choose.
     Kept (length x) b Accepted
     (answering of_written
-    (choose (Reply Written) (λ why. reply (writing.Refused why) b) (reply (writing.Length (length x)) (x ++ drop (length x) b)))))
+    (choose (Reply (Result ℕ Refusal)) (λ why. reply (Err why) b) (reply (Ok (length x)) (x ++ drop (length x) b)))))
     (due (not (leb (length x) (length b))) refusal.Output ∷ [])
     (λ why. stays (refused why))
     (λ d. writes told_accepted (front_untouched x b (leb-true (length x) (length b) (passed d.0))))
@@ -248,7 +240,7 @@ page_kept s t k b =
     by_dues (λ choose.
     Kept (length x) b Accepted
     (answering of_page
-    (choose (Reply PageAnswer) (λ why. reply (paging.Refused why) b) (reply (paging.Bytes (length x)) (x ++ drop (length x) b)))))
+    (choose (Reply (Result ℕ Refusal)) (λ why. reply (Err why) b) (reply (Ok (length x)) (x ++ drop (length x) b)))))
     (
     settings_due s
     ∷ short_due s (length t)

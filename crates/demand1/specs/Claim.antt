@@ -1,32 +1,21 @@
 -- Demand 1, clauses 6.13 and 7.1: what a call leaves in the bytes that it is lent.
-use Rattle.std.specs.Prelude.{◌≡◌, List, ℕ, ◌+◌, ◌/◌, length, drop}
+use Rattle.std.specs.Prelude.{◌≡◌, List, ℕ, ◌+◌, ◌/◌, length, drop, Bool, Err, None, Ok, false, true, ⊤}
 use Rattle.settings.specs.declared.settings.Settings.{Settings}
 use Rattle.settings.specs.declared.refusal.Refusal.{Refusal}
 use Rattle.settings.specs.Reply.{Reply}
 use Rattle.keys.specs.declared.Key.{Key}
 use Rattle.table.specs.Calls.{enter, relabel, delete, make_call, record_call, retrieve_call, check_call}
-use Rattle.table.specs.declared.answers.Answer as table
-use Rattle.table.specs.declared.answers.Answer.TheVariants as answer
+use Rattle.table.specs.Answer as table
 use Rattle.table.specs.declared.answers.Word.{Word}
 use Rattle.table.specs.declared.answers.Word.TheVariants as word
-use Rattle.table.specs.declared.answers.MakeAnswer.{MakeAnswer}
-use Rattle.table.specs.declared.answers.MakeAnswer.TheVariants as making
-use Rattle.table.specs.declared.answers.RecordAnswer.{RecordAnswer}
-use Rattle.table.specs.declared.answers.RecordAnswer.TheVariants as recording
-use Rattle.table.specs.declared.answers.CheckAnswer.{CheckAnswer}
-use Rattle.table.specs.declared.answers.CheckAnswer.TheVariants as checking
 use Rattle.text_read.specs.Answers.{reading_of}
-use Rattle.text_read.specs.declared.Parsed.{Parsed}
-use Rattle.text_read.specs.declared.Parsed.TheVariants as parsed
 use Rattle.text_write.specs.Writing.{written}
 use Rattle.text_write.specs.Answers.{write_call}
-use Rattle.text_write.specs.declared.Written.{Written}
-use Rattle.text_write.specs.declared.Written.TheVariants as writing
 use Rattle.text_calls.specs.Asked.{Asked, verb_asked, table_call}
 use Rattle.text_sheet.specs.Pages.{page_text}
 use Rattle.text_sheet.specs.Answers.{records, page_call}
-use Rattle.text_sheet.specs.declared.PageAnswer.{PageAnswer}
-use Rattle.text_sheet.specs.declared.PageAnswer.TheVariants as paging
+use Rattle.std.specs.declared.result.Result.{Result}
+use Rattle.table.specs.Answer.{RecordAnswer, recorded}
 
 -- The calls of the specification ------------------------------------------------------------------------------------------------
 
@@ -55,35 +44,33 @@ pub data Said : Type 0 where
   -- a record, check's answer, a key that was read, the length of a text or a page
   told : Said
 
-abbrev pub of_make : MakeAnswer → Said
-of_make making.Made = made
-of_make (making.Refused why) = refused why
+abbrev pub of_make : Result ⊤ Refusal → Said
+of_make (Ok done) = made
+of_make (Err why) = refused why
 
 abbrev pub of_key : table.Answer → Said
-of_key (answer.Said label w compared slot) = worded w
-of_key (answer.Refused why) = refused why
+of_key (Ok said) = worded said.word
+of_key (Err why) = refused why
 
 abbrev pub of_record : RecordAnswer → Said
-of_record (recording.Record k label) = told
-of_record recording.None = told
-of_record (recording.Refused why) = refused why
+of_record (Ok found) = told
+of_record (Err why) = refused why
 
-abbrev pub of_check : CheckAnswer → Said
-of_check checking.Sound = told
-of_check checking.Unsound = told
-of_check (checking.Refused why) = refused why
+abbrev pub of_check : Result Bool Refusal → Said
+of_check (Ok sound) = told
+of_check (Err why) = refused why
 
-abbrev pub of_read : Parsed → Said
-of_read (parsed.Key k) = told
-of_read (parsed.Refused why) = refused why
+abbrev pub of_read : Result Key Refusal → Said
+of_read (Ok k) = told
+of_read (Err why) = refused why
 
-abbrev pub of_written : Written → Said
-of_written (writing.Length n) = told
-of_written (writing.Refused why) = refused why
+abbrev pub of_written : Result ℕ Refusal → Said
+of_written (Ok n) = told
+of_written (Err why) = refused why
 
-abbrev pub of_page : PageAnswer → Said
-of_page (paging.Bytes n) = told
-of_page (paging.Refused why) = refused why
+abbrev pub of_page : Result ℕ Refusal → Said
+of_page (Ok n) = told
+of_page (Err why) = refused why
 
 -- The answer and all lent bytes after it, by the definitions that the contracts of the calls cite -----------------------------
 

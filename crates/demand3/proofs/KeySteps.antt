@@ -15,7 +15,7 @@ use Rattle.table.specs.State.{State}
 use Rattle.table.specs.Done.{bytes_with}
 use Rattle.table.specs.Calls.{Verb, verb_due, held}
 use Rattle.plain_set.specs.Rebuilt.{Pair}
-use Rattle.table.specs.declared.answers.Answer as table
+use Rattle.table.specs.Answer as table
 use Rattle.table.specs.theory.Formed.{Formed, decode_formed}
 use Rattle.table.specs.theory.FormedCalls.{Holds, holds_none, holds_some}
 use Rattle.plain_set.specs.Set.{Step, key_step}

@@ -1,6 +1,6 @@
 -- Every call, with a key or a text, whatever its inputs, lent any number of a memory's first bytes: if its inputs are legal, it is the call with a
 -- legal key on the table that the memory holds; if not, table and set give the same refusal, and nothing changes.
-use Rattle.std.specs.Prelude.{◌≡◌, refl, false, List, [], ◌∷◌, ◌++◌, ℕ, length, take, drop, eqb, leb}
+use Rattle.std.specs.Prelude.{◌≡◌, refl, false, List, [], ◌∷◌, ◌++◌, ℕ, length, take, drop, eqb, leb, Err, Ok}
 use Rattle.std.proofs.Common.{ap, take-append-drop}
 use Rattle.std.proofs.Math.Option.{Option, none, some}
 use Rattle.laws.specs.Cases.{cases}
@@ -13,11 +13,8 @@ use Rattle.settings.specs.Reply.{Reply, reply, called, answering}
 use Rattle.table.specs.Answer.{no_key}
 use Rattle.table.specs.Calls.{Verb, key_call}
 use Rattle.plain_set.specs.Rebuilt.{Pair}
-use Rattle.table.specs.declared.answers.Answer as table
-use Rattle.table.specs.declared.answers.Answer.TheVariants as answer
+use Rattle.table.specs.Answer as table
 use Rattle.text_read.specs.Answers.{reading_of}
-use Rattle.text_read.specs.declared.Parsed.{Parsed}
-use Rattle.text_read.specs.declared.Parsed.TheVariants as parsed
 use Rattle.text_calls.specs.TextCalls.{key_read, not_read, for_key, text_call}
 use Rattle.plain_set.specs.Set.{Call, call, text, key_given, refused, Step, step, key_step, call_due, set_step}
 use Rattle.plain_set.proofs.Refusals.{legal_call, key_refused, none_due}
@@ -27,28 +24,31 @@ use Rattle.plain_set.proofs.Longer.{bytes_take, bytes_drop, agree_append, agree_
 use Rattle.text_calls.specs.Asked.{Asked, by_key, by_text, table_call}
 use Rattle.demand3.specs.Claim.{Lending, memory_after, as_read, given, set_after}
 use Rattle.demand3.proofs.KeySteps.{Follows, legal_follows}
+use Rattle.std.specs.declared.result.Result.{Result}
+use Rattle.settings.specs.declared.refusal.Refusal.{Refusal}
+use Rattle.keys.specs.declared.Key.{Key}
 
 -- Keys and texts -------------------------------------------------------------------------------------------------------------
 
 -- the call with a text that is read as p: behind codes 1 to 4 the call with its key tests 1 and 2 again, which are not due then
-reading_is : (s : Settings) (t : List ℕ) (v : Verb) (p : Parsed)
+reading_is : (s : Settings) (t : List ℕ) (v : Verb) (p : Result Key Refusal)
     → answering (λ a. a.answer)
-    (called (λ why. for_key no_key (answer.Refused why)) t (settings_due s ∷ short_due s (length t) ∷ width_due s ∷ due (not_read p) refusal.Text ∷ [])
+    (called (λ why. for_key no_key (Err why)) t (settings_due s ∷ short_due s (length t) ∷ width_due s ∷ due (not_read p) refusal.Text ∷ [])
     (answering (for_key (key_read p)) (key_call s t v (key_read p))))
-    ≡ called answer.Refused t (call_due s (length t) (call v (text (as_read p)))) (legal_call s t v (key_given (text (as_read p))))
+    ≡ called Err t (call_due s (length t) (call v (text (as_read p)))) (legal_call s t v (key_given (text (as_read p))))
 unfolding key_call
-reading_is s t v (parsed.Key k) =
+reading_is s t v (Ok k) =
     cases (legal s)
     (λ e. cases (leb (table_bytes s) (length t)) (λ f. rw (e, f) (cases (eqb s.w 128) (λ h. rw h) (λ h. rw h))) (λ f. rw (e, f)))
     (λ e. rw e)
-reading_is s t v (parsed.Refused why) =
+reading_is s t v (Err why) =
     cases (legal s)
     (λ e. cases (leb (table_bytes s) (length t)) (λ f. rw (e, f) (cases (eqb s.w 128) (λ h. rw h) (λ h. rw h))) (λ f. rw (e, f)))
     (λ e. rw e)
 
 -- a call is refused for its inputs as the set refuses it; or it is the call with its key
 pub call_is : (s : Settings) (t : List ℕ) (c : Asked)
-    → table_call s t c ≡ called answer.Refused t (call_due s (length t) (given c)) (legal_call s t (given c).verb (key_given (given c).given))
+    → table_call s t c ≡ called Err t (call_due s (length t) (given c)) (legal_call s t (given c).verb (key_given (given c).given))
 unfolding text_call
 call_is s t (by_key v k) = key_refused s t v k
 call_is s t (by_text v x) = reading_is s t v (reading_of x)
@@ -74,7 +74,7 @@ lent_follows {s} {t} {T} {ps} right a c =
     let k : ℕ = key_given (given c.call).given in
     rw (call_is s u c.call)
     (by_dues (λ choose.
-    let r : Reply table.Answer = choose (Reply table.Answer) (λ why. reply (answer.Refused why) u) (legal_call s u v k) in
+    let r : Reply table.Answer = choose (Reply table.Answer) (λ why. reply (Err why) u) (legal_call s u v k) in
     Follows s T v (choose (Option ℕ) (λ why. none) (some k)) (reply r.answer (r.bytes ++ rest))
     (choose Step (λ why. step (refused why) ps) (key_step s ps v k)))
     (call_due s (length u) (given c.call))
@@ -91,13 +91,13 @@ lent_follows {s} {t} {T} {ps} right a c =
 
 -- with settings that are not legal every call is refused 1 by table and set, and both stay
 pub record Refuses (s : Settings) (t : List ℕ) (ps : List Pair) (c : Lending) : Type 0 where
-  pub call : lent_call s t c ≡ reply (answer.Refused refusal.Settings) t
+  pub call : lent_call s t c ≡ reply (Err refusal.Settings) t
   pub set : set_after s t ps c ≡ step (refused refusal.Settings) ps
 
 pub illegal_refuses : (s : Settings) → legal s ≡ false → (t : List ℕ) (ps : List Pair) (c : Lending) → Refuses s t ps c
 unfolding set_step
 illegal_refuses s e t ps c =
     record {
-      call = rw (call_is s (take c.lent t) c.call, e) (ap (reply (answer.Refused refusal.Settings)) (take-append-drop c.lent t));
+      call = rw (call_is s (take c.lent t) c.call, e) (ap (reply (Err refusal.Settings)) (take-append-drop c.lent t));
       set = rw e;
     }

@@ -1,13 +1,11 @@
 -- Clause 8.12 for every list of calls, beside a table that check found sound or that make made. What a call makes of numbers is proved in plain_set,
 -- and what it makes of table and set in Lent; here is the induction over the calls.
-use Rattle.std.specs.Prelude.{◌≡◌, List, [], ◌∷◌, ◌++◌, ℕ, take, drop}
+use Rattle.std.specs.Prelude.{◌≡◌, List, [], ◌∷◌, ◌++◌, ℕ, take, drop, Ok, true}
 use Rattle.std.proofs.Common.{subst, take-append-drop}
 use Rattle.bits.specs.Bytes.{Bytes}
 use Rattle.settings.specs.declared.settings.Settings.{Settings}
 use Rattle.settings.specs.Legal.{Legal}
 use Rattle.table.specs.Calls.{held, make_call, check_call}
-use Rattle.table.specs.declared.answers.MakeAnswer.TheVariants as making
-use Rattle.table.specs.declared.answers.CheckAnswer.TheVariants as checking
 use Rattle.plain_set.specs.Rebuilt.{Pair, rebuilt_pairs}
 use Rattle.plain_set.specs.Set.{key_given}
 use Rattle.plain_set.proofs.Agree.{Agree}
@@ -47,14 +45,14 @@ module _ {s : Settings} (right : Legal s) where
       ((λ n q. belongs_stays w.agree ((call_numbers a c).told n q) cs), agree_numbers {t = (lent_call s t c).bytes} {T = w.after} {ps = (set_after s t ps c).after} w.agree cs)
 
 -- beside a table that check finds sound
-pub numbers_good : (s : Settings) (t m : List ℕ) → Bytes t → (check_call s t m).answer ≡ checking.Sound
+pub numbers_good : (s : Settings) (t m : List ℕ) → Bytes t → (check_call s t m).answer ≡ (Ok true)
     → (cs : List Lending) → NumbersGood s t (rebuilt_pairs s (held s t)) cs
 numbers_good s t m bytes e cs =
     let o = sound_opened s t m e in
     agree_numbers o.0.right (sound_agree s o.0.right t bytes o.0.room o.1).1 cs
 
 -- beside a new table
-pub numbers_good_new : (s : Settings) (t : List ℕ) → Bytes t → (make_call s t).answer ≡ making.Made
+pub numbers_good_new : (s : Settings) (t : List ℕ) → Bytes t → (make_call s t).answer ≡ (Ok tt)
     → (cs : List Lending) → NumbersGood s (make_call s t).bytes [] cs
 numbers_good_new s t bytes e cs =
     let o = made_opened s t e in

@@ -1,14 +1,12 @@
 -- One call with a key or a text on a table that check finds sound: what it is refused for, however much of the table it is lent, and what a relabel
 -- changes that is lent all of it.
-use Rattle.std.specs.Prelude.{◌≡◌, refl, List, [], ◌∷◌, ℕ, length, take}
+use Rattle.std.specs.Prelude.{◌≡◌, refl, List, [], ◌∷◌, ℕ, length, take, Err, Ok, true}
 use Rattle.std.proofs.Common.{sym, ap, ◌∙◌}
 use Rattle.bits.specs.Bytes.{Bytes}
 use Rattle.settings.specs.declared.settings.Settings.{Settings}
 use Rattle.settings.specs.declared.refusal.Refusal.{Refusal}
 use Rattle.settings.specs.theory.Dues.{NoneDue}
 use Rattle.table.specs.Calls.{relabel, held, check_call}
-use Rattle.table.specs.declared.answers.Answer.TheVariants as answer
-use Rattle.table.specs.declared.answers.CheckAnswer.TheVariants as checking
 use Rattle.plain_set.specs.Rebuilt.{rebuilt_pairs}
 use Rattle.plain_set.specs.Set.{key_given, call_due}
 use Rattle.plain_set.specs.Plain.{plain}
@@ -21,10 +19,10 @@ use Rattle.demand3.specs.Claim.{Lending, given}
 use Rattle.demand3.proofs.Lent.{call_is}
 use Rattle.demand3.proofs.Demand3.{demand_three}
 
-module _ (s : Settings) (t m : List ℕ) (bytes : Bytes t) (sound : (check_call s t m).answer ≡ checking.Sound) where
+module _ (s : Settings) (t m : List ℕ) (bytes : Bytes t) (sound : (check_call s t m).answer ≡ (Ok true)) where
   -- clause 8.9: with legal inputs only what the set refuses itself is refused
   pub refused_as_set : (c : Lending) (why : Refusal) → NoneDue (call_due s (length (take c.lent t)) (given c.call))
-      → (table_call s (take c.lent t) c.call).answer ≡ answer.Refused why
+      → (table_call s (take c.lent t) c.call).answer ≡ Err why
       → OwnRefusal s (rebuilt_pairs s (held s t)) (given c.call).verb (key_given (given c.call).given) why
   refused_as_set c why d q =
       refused_only s (length (take c.lent t)) (rebuilt_pairs s (held s t)) (given c.call) why d

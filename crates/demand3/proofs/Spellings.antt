@@ -6,7 +6,7 @@ use Rattle.std.proofs.Common.{ap, ap₂, ◌∙◌}
 use Rattle.settings.specs.declared.settings.Settings.{Settings}
 use Rattle.settings.specs.Reply.{Reply}
 use Rattle.table.specs.Calls.{Verb}
-use Rattle.table.specs.declared.answers.Answer as table
+use Rattle.table.specs.Answer as table
 use Rattle.text_read.specs.Answers.{reading_of}
 use Rattle.text_read.specs.Grammar.{Dotted}
 use Rattle.text_write.specs.Ascii.{ascii}

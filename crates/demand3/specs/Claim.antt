@@ -1,5 +1,5 @@
 -- Demand 3, clause 8.9: one claim over the list of calls, whatever its length.
-use Rattle.std.specs.Prelude.{◌≡◌, List, [], ◌∷◌, ◌++◌, ℕ, length, take, drop}
+use Rattle.std.specs.Prelude.{◌≡◌, List, [], ◌∷◌, ◌++◌, ℕ, length, take, drop, Err, Ok}
 use Rattle.std.proofs.Math.Option.{Option, none, some}
 use Rattle.settings.specs.declared.settings.Settings.{Settings}
 use Rattle.keys.specs.Key.{key_number}
@@ -9,9 +9,10 @@ use Rattle.plain_set.specs.Set as set
 use Rattle.plain_set.specs.Holds.{Holds}
 use Rattle.plain_set.specs.Plain.{plain}
 use Rattle.text_read.specs.Answers.{reading_of}
-use Rattle.text_read.specs.declared.Parsed.{Parsed}
-use Rattle.text_read.specs.declared.Parsed.TheVariants as parsed
 use Rattle.text_calls.specs.Asked.{Asked, by_key, by_text, table_call}
+use Rattle.std.specs.declared.result.Result.{Result}
+use Rattle.settings.specs.declared.refusal.Refusal.{Refusal}
+use Rattle.keys.specs.declared.Key.{Key}
 
 -- a call, and how many of the table's bytes it is lent
 pub record Lending : Type 0 where
@@ -24,9 +25,9 @@ memory_after s t c = (table_call s (take c.lent t) c.call).bytes ++ drop c.lent 
 
 -- What the set is given (clause 8.1): a text as the key that is read from it, or as not legal ------------------------------
 
-abbrev pub as_read : Parsed → Option ℕ
-as_read (parsed.Key k) = some (key_number k)
-as_read (parsed.Refused why) = none
+abbrev pub as_read : Result Key Refusal → Option ℕ
+as_read (Ok k) = some (key_number k)
+as_read (Err why) = none
 
 abbrev pub given : Asked → Call
 given (by_key v k) = call v (set.key (key_number k))

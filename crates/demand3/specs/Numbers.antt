@@ -2,12 +2,12 @@
 use Rattle.std.specs.Prelude.{◌≡◌, false, List, [], ◌∷◌, ℕ, take}
 use Rattle.std.proofs.Math.Option.{some}
 use Rattle.settings.specs.declared.settings.Settings.{Settings}
-use Rattle.table.specs.declared.answers.Answer.{Answer}
 use Rattle.plain_set.specs.Rebuilt.{Pair}
 use Rattle.plain_set.specs.Set.{key_given}
 use Rattle.plain_set.specs.Numbers.{number_in, is_gone, Gives}
 use Rattle.text_calls.specs.Asked.{table_call}
 use Rattle.demand3.specs.Claim.{Lending, memory_after, given, set_after}
+use Rattle.table.specs.Answer.{Answer}
 
 module _ (s : Settings) where
   -- what a call on the memory t answers

@@ -5,7 +5,6 @@
 mod streams;
 
 ghost use Rattle.std.specs.Prelude.{◌≡◌, true, false, ◌⊎◌, ◌≤◌, ◌<◌, length, take, is_ok};
-ghost use Rattle.text_read.specs.ReaderSteps.{Classes};
 ghost use Rattle.program_commands.specs.Command.{longest_line};
 ghost use Rattle.program_answers.specs.Program.{program_bytes};
 ghost use Rattle.program_answers.specs.Answer.{answer_room};
@@ -15,10 +14,10 @@ ghost use Rattle.filter.specs.World.{Erred, Gives, Wrote};
 ghost use Rattle.filter.specs.Loop.{Placed, unanswered, Answered, Read, Ends, Ran};
 
 use program_answers::TABLE_BYTES;
-use settings::Made;
 use std::io;
 use std::io::ErrorKind;
 use streams::{Streams, fail, read_once, write_once};
+use text_read::ClassTable;
 
 // Writes all of buf. A write that takes a part of it, or that a signal interrupts, is gone on with; one that takes nothing
 // has failed. Nothing is promised of interrupted writes, so a counter that no run uses up shows that the loop ends.
@@ -89,8 +88,8 @@ const START: State = State {
 
 // Answers whole lines of buf[at..end] into out until that is full, or until they are all answered. Then what is left moves
 // to the start of buf: no more than a line, so that there is room for the next read.
-fn answer(classes: &[u8; 256], buf: &mut [u8], t: &mut [u8], out: &mut [u8], s: State) -> State
-    requires { Classes classes.now × Placed s buf.old × (program_bytes ≤ length t.old) × (answer_room ≤ length out.old) }
+fn answer(classes: &ClassTable, buf: &mut [u8], t: &mut [u8], out: &mut [u8], s: State) -> State
+    requires { Placed s buf.old × (program_bytes ≤ length t.old) × (answer_room ≤ length out.old) }
     ensures { Answered s buf.old t.old result buf.new t.new out.new }
 {
     let at = s.at;
@@ -178,12 +177,12 @@ fn read_more(io: &Streams, buf: &mut [u8], s: State) -> State
 // so here too a counter shows that the loop ends.
 fn answer_input(
     io: &Streams,
-    classes: &[u8; 256],
+    classes: &ClassTable,
     buf: &mut [u8],
     t: &mut [u8],
     out: &mut [u8],
 ) -> State
-    requires { Classes classes.now × (longest_line < length buf.old) × (program_bytes ≤ length t.old) × (answer_room ≤ length out.old) × (t.old ≡ new_table) }
+    requires { (longest_line < length buf.old) × (program_bytes ≤ length t.old) × (answer_room ≤ length out.old) × (t.old ≡ new_table) }
     ensures { Ends result buf.new t.new }
 {
     let mut s = START;
@@ -205,13 +204,13 @@ fn answer_input(
 // The end of the input: the answer to a last line that lacks its line feed, written out.
 fn last_line(
     io: &Streams,
-    classes: &[u8; 256],
+    classes: &ClassTable,
     buf: &[u8],
     t: &mut [u8],
     out: &mut [u8],
     s: State,
 ) -> bool
-    requires { Classes classes.now × Placed s buf.now × Waits (unanswered s buf.now) × (program_bytes ≤ length t.old) × (answer_room ≤ length out.old) }
+    requires { Placed s buf.now × Waits (unanswered s buf.now) × (program_bytes ≤ length t.old) × (answer_room ≤ length out.old) }
     ensures { Wrote (due t.old s.skip (unanswered s buf.now)) result }
 {
     let at = s.at;
@@ -221,8 +220,8 @@ fn last_line(
 }
 
 // The whole run.
-fn run(io: &Streams, classes: &[u8; 256], buf: &mut [u8], t: &mut [u8], out: &mut [u8])
-    requires { Classes classes.now × (longest_line < length buf.old) × (program_bytes ≤ length t.old) × (answer_room ≤ length out.old) × (t.old ≡ new_table) }
+fn run(io: &Streams, classes: &ClassTable, buf: &mut [u8], t: &mut [u8], out: &mut [u8])
+    requires { (longest_line < length buf.old) × (program_bytes ≤ length t.old) × (answer_room ≤ length out.old) × (t.old ≡ new_table) }
     ensures { Ran }
 {
     let s = answer_input(io, classes, buf, t, out);
@@ -241,7 +240,7 @@ fn main(rt: HostRuntime) {
         output: rt.stdout(),
         errors: rt.stderr(),
     };
-    let Made::Settings(s) = program_answers::settings() else {
+    let Ok(s) = program_answers::settings() else {
         fail(&io, "settings", io::Error::from(ErrorKind::InvalidInput));
         return;
     };

@@ -1,5 +1,5 @@
 -- Record n of a table without damage is the nth of the pairs that are rebuilt from it, and beyond the last it is "none".
-use Rattle.std.specs.Prelude.{◌≡◌, ◌≢◌, true, ℕ, zero, suc, ◌+◌, ◌-◌, ◌≤◌, ◌<◌, get_or, ltb}
+use Rattle.std.specs.Prelude.{◌≡◌, ◌≢◌, true, ℕ, zero, suc, ◌+◌, ◌-◌, ◌≤◌, ◌<◌, get_or, ltb, None, Ok}
 use Rattle.std.proofs.Math.Path.{refl, sym}
 use Rattle.std.proofs.Common.{ap, ◌∙◌}
 use mathlib.Core.List.{List, [], ◌∷◌, ◌++◌}
@@ -23,8 +23,6 @@ use Rattle.table.specs.Calls.{record_call, check_call}
 use Rattle.table.specs.Check.{table_sound}
 use Rattle.table.specs.theory.Formed.{decode_formed}
 use Rattle.table.specs.theory.Sound.{test_sound}
-use Rattle.table.specs.declared.answers.RecordAnswer.TheVariants as answer
-use Rattle.table.specs.declared.answers.CheckAnswer.TheVariants as checking
 use Rattle.plain_set.specs.Nth.{record_of_pair, nth_record, Undamaged}
 use Rattle.plain_set.specs.theory.Answers.{sound_opened}
 
@@ -35,7 +33,7 @@ nth_pair [] n h = absurd (omega arith)
 nth_pair (p ∷ ps) zero h = refl
 nth_pair (p ∷ ps) (suc n) h = nth_pair ps n (omega arith)
 
-pub nth_none : (ps : List Pair) (n : ℕ) → length ps ≤ n → nth_record ps n ≡ answer.None
+pub nth_none : (ps : List Pair) (n : ℕ) → length ps ≤ n → nth_record ps n ≡ (Ok None)
 nth_none [] n h = refl
 nth_none (p ∷ ps) zero h = absurd (omega arith)
 nth_none (p ∷ ps) (suc n) h = nth_none ps n (omega arith)
@@ -101,6 +99,6 @@ module _ (s : Settings) (t : List ℕ) where
   undamaged e i h n = nothing (sym n ∙ (test_sound (layout_of s) e).state.undamaged i h)
 
   -- and so on every table that check finds sound, whatever marks it was lent
-  pub sound_record_nth : (m : List ℕ) → (check_call s t m).answer ≡ checking.Sound → (n : ℕ)
+  pub sound_record_nth : (m : List ℕ) → (check_call s t m).answer ≡ (Ok true) → (n : ℕ)
       → record_call s t n ≡ nth_record (rebuilt_pairs s (decode (layout_of s) t)) n
   sound_record_nth m e n = let o = sound_opened s t m e in record_nth o.0.right o.0.room (undamaged o.1) n

@@ -1,6 +1,6 @@
 -- The number of a slot and the key that it holds, on lent bytes: retrieve gives the key, with the label that the set has for it. And what becomes of
 -- numbers in a call, with a key or a text, whatever its inputs, that is lent the first bytes of a memory.
-use Rattle.std.specs.Prelude.{◌≡◌, refl, false, List, [], ◌++◌, ℕ, ◌^◌, ◌≤◌, ◌<◌, length, get_or}
+use Rattle.std.specs.Prelude.{◌≡◌, refl, false, List, [], ◌++◌, ℕ, ◌^◌, ◌≤◌, ◌<◌, length, get_or, Err}
 use Rattle.std.proofs.Common.{sym, ap, ◌∙◌, le-leb, lt-ltb}
 use Rattle.std.proofs.Math.Option.{Option, none, some}
 use Rattle.laws.specs.Options.{nothing}
@@ -21,9 +21,6 @@ use Rattle.table.specs.Numbers.{slot_number, capacity}
 use Rattle.table.specs.Record.{record_of}
 use Rattle.table.specs.Done.{bytes_with}
 use Rattle.table.specs.Calls.{Verb, list_call, verb_due, held, retrieve_call}
-use Rattle.table.specs.declared.answers.Answer.{Answer}
-use Rattle.table.specs.declared.answers.Answer.TheVariants as answer
-use Rattle.table.specs.declared.answers.RecordAnswer.TheVariants as recording
 use Rattle.table.specs.theory.Formed.{Formed, decode_formed}
 use Rattle.table.specs.theory.FormedCalls.{Holds, holds_none, holds_some}
 use Rattle.table.specs.theory.Written.{decode_written, written_length}
@@ -40,6 +37,7 @@ use Rattle.plain_set.proofs.NumberSteps.{Numbered, call_keeps}
 use Rattle.plain_set.proofs.Agree.{Agree}
 use Rattle.plain_set.proofs.Stored.{bits_room}
 use Rattle.plain_set.proofs.Longer.{decode_append, agree_front}
+use Rattle.table.specs.Answer.{recorded, Answer}
 
 module _ (s : Settings) where
   -- n is the number of a slot of the table in t, and that slot holds the key k
@@ -108,7 +106,7 @@ module _ {s : Settings} (right : Legal s) {t : List ℕ} {T : List (List ℕ)} {
         gives =
             ap (retrieve_call s t) number_is
             ∙ retrieve_number right a i below p there
-            ∙ ap (λ (m : ℕ). recording.Record (key_of m) (label_of g x)) (key_of_entry s right k x b.key has_entry_lem);
+            ∙ ap (λ (m : ℕ). recorded (key_of m) (label_of g x)) (key_of_entry s right k x b.key has_entry_lem);
       }
 
 -- A call -----------------------------------------------------------------------------------------------------------------------
@@ -151,12 +149,12 @@ module _ {s : Settings} (right : Legal s) (u rest : List ℕ) (room : table_byte
 -- with whatever is given, and lent u, the first bytes of a memory
 pub lent_numbers : {s : Settings} → Legal s → (u rest : List ℕ) → Bytes u → {T : List (List ℕ)} {ps : List Pair}
     → Agree s (u ++ rest) T ps → (v : Verb) (o : Given)
-    → let r : Reply Answer = called answer.Refused u (call_due s (length u) (call v o)) (legal_call s u v (key_given o)) in
+    → let r : Reply Answer = called Err u (call_due s (length u) (call v o)) (legal_call s u v (key_given o)) in
     Numbers s (u ++ rest) (key_given o) (reply r.answer (r.bytes ++ rest))
 lent_numbers {s} right u rest bytes a v o =
     let k : ℕ = key_given o in
     by_dues (λ choose.
-    let r : Reply Answer = choose (Reply Answer) (λ why. reply (answer.Refused why) u) (legal_call s u v k) in
+    let r : Reply Answer = choose (Reply Answer) (λ why. reply (Err why) u) (legal_call s u v k) in
     Numbers s (u ++ rest) k (reply r.answer (r.bytes ++ rest)))
     (call_due s (length u) (call v o))
     (λ why. record { stays = λ q j n b. b; told = λ n q. nothing q })

@@ -26,7 +26,6 @@ use Rattle.table.specs.Enter.{enter_followed, enter_in}
 use Rattle.table.specs.Relabel.{relabel_followed, relabel_in}
 use Rattle.table.specs.Delete.{delete_followed, delete_in}
 use Rattle.table.specs.Calls.{Verb, find, enter, relabel, delete, list_call, verb_due}
-use Rattle.table.specs.declared.answers.Answer.{Answer}
 use Rattle.plain_set.specs.Numbers.{number_in, is_gone}
 use Rattle.plain_set.specs.theory.Pad.{length_snoc}
 use Rattle.plain_set.specs.theory.Rep.{Rep, Stores}
@@ -38,6 +37,7 @@ use Rattle.plain_set.proofs.Refusals.{label_below}
 use Rattle.plain_set.specs.theory.OneList.{place_in, slot_for}
 use Rattle.plain_set.proofs.Lists.{row_of, holds_key, place_there, place_entry, is_full}
 use Rattle.plain_set.proofs.StateSteps.{state_after}
+use Rattle.table.specs.Answer.{Answer}
 
 module _ (g : Layout) where
   -- n is the number of a slot of list i that holds the entry e

@@ -1,6 +1,6 @@
 -- A call's refusals for its inputs, which table and set share, in their order: one is due, or none is. Which calls the set refuses that have legal
 -- inputs. And find, and any refusal, leave the set as it is.
-use Rattle.std.specs.Prelude.{◌≡◌, refl, Bool, true, ◌&&◌, List, [], ◌∷◌, ℕ, ◌^◌, ◌≤◌, ◌<◌, length, ltb}
+use Rattle.std.specs.Prelude.{◌≡◌, refl, Bool, true, ◌&&◌, List, [], ◌∷◌, ℕ, ◌^◌, ◌≤◌, ◌<◌, length, ltb, Err}
 use Rattle.std.proofs.Common.{sym, ap, ◌∙◌, arith, leb-true, ltb-true}
 use Rattle.std.proofs.Math.Option.{Option, none, some}
 use Rattle.laws.specs.Cases.{never}
@@ -17,8 +17,7 @@ use Rattle.keys.specs.Key.{key_number, list_number, entry}
 use Rattle.plain_set.specs.Rebuilt.{Pair}
 use Rattle.table.specs.Done.{replied}
 use Rattle.table.specs.Calls.{Verb, find, enter, relabel, delete, list_call, verb_due, held, key_call}
-use Rattle.table.specs.declared.answers.Answer as table
-use Rattle.table.specs.declared.answers.Answer.TheVariants as answer
+use Rattle.table.specs.Answer as table
 use Rattle.table.specs.declared.answers.Word.{Word}
 use Rattle.table.specs.theory.FormedCalls.{either}
 use Rattle.plain_set.specs.OwnRefusal.{OwnRefusal, known, no_block}
@@ -32,7 +31,7 @@ legal_call s t v k = replied (layout_of s) t (list_call (layout_of s) (held s t)
 
 -- the table refuses a call with a key as the set does
 pub key_refused : (s : Settings) (t : List ℕ) (v : Verb) (k : Key)
-    → key_call s t v k ≡ called answer.Refused t (call_due s (length t) (call v (key (key_number k)))) (legal_call s t v (key_number k))
+    → key_call s t v k ≡ called Err t (call_due s (length t) (call v (key (key_number k)))) (legal_call s t v (key_number k))
 unfolding key_call
 key_refused s t v k = refl
 

@@ -1,7 +1,7 @@
 -- Relabel changes a label, and nothing else.
 use Rattle.std.proofs.Math.Path.{◌≡◌, refl}
 use Rattle.std.proofs.Common.{sym, ap, ◌∙◌, get_or-set_same, get_or-set_other, eqb-true}
-use Rattle.std.specs.Prelude.{true, length, get_or, eqb, ltb}
+use Rattle.std.specs.Prelude.{true, length, get_or, eqb, ltb, Err, Ok}
 use mathlib.Core.List.{List, [], ◌∷◌, map}
 use Rattle.std.proofs.Math.Option.{Option}
 use Prim.Native.Nat.{ℕ, zero, suc, ◌-◌, ◌^◌, ◌<◌}
@@ -26,9 +26,6 @@ use Rattle.table.specs.Store.{slot_in, store_overflow, store_at}
 use Rattle.table.specs.Updates.{with_link, with_slot, with_rest}
 use Rattle.table.specs.Relabel.{relabel_followed, relabel_in}
 use Rattle.table.specs.Calls.{relabel, list_call, held, check_call}
-use Rattle.table.specs.declared.answers.Answer.{Answer}
-use Rattle.table.specs.declared.answers.Answer.TheVariants as answer
-use Rattle.table.specs.declared.answers.CheckAnswer.TheVariants as checking
 use Rattle.table.specs.theory.Formed.{Formed, decode_formed}
 use Rattle.table.specs.theory.FormedCalls.{either, holds_of}
 use Rattle.table.specs.theory.Written.{decode_written}
@@ -46,6 +43,8 @@ use Rattle.plain_set.proofs.Agree.{Agree}
 use Rattle.plain_set.proofs.Stored.{bits_room}
 use Rattle.plain_set.proofs.Start.{sound_agree}
 use Rattle.plain_set.specs.theory.Answers.{sound_opened}
+use Rattle.table.specs.Answer.{Answer}
+use Rattle.table.specs.theory.Answers.{said_same}
 
 -- The free chain ---------------------------------------------------------------------------------------------------------
 
@@ -174,25 +173,26 @@ module _ {s : Settings} (right : Legal s) {t : List ℕ} {T : List (List ℕ)} {
       (λ e.
       rw (e, decode_written g (layout_proper s right) t (store_formed e) (bits_room s t a.room))
       (λ q.
-      let was : label_in s k es ≡ m = cc in
-      let last : n ≡ suc p = cc in
+      let same = said_same q in
+      let was : label_in s k es ≡ m = same.label in
+      let last : n ≡ suc p = sym same.compared in
       let place : n - 1 ≡ p = omega arith in
       (omega arith, rw place (rw was at (store_only e)))))
-      (λ e. rw e (λ q. absurd (let z : ◌≡◌ {A = ℕ} 0 1 = cc in omega arith))))
+      (λ e. rw e (λ q. absurd (let w = (said_same q).word in let z : ◌≡◌ {A = ℕ} 0 1 = cc in omega arith))))
 
 -- On a table that check finds sound, with whatever inputs ------------------------------------------------------------------
 
-module _ (s : Settings) (t m : List ℕ) (bytes : Bytes t) (sound : (check_call s t m).answer ≡ checking.Sound) (l : ℕ) where
+module _ (s : Settings) (t m : List ℕ) (bytes : Bytes t) (sound : (check_call s t m).answer ≡ (Ok true)) (l : ℕ) where
   -- with a key or a text
   pub given_relabel : (o : Given)
       → RelabelsOnly s t (key_given o) l
-      (called answer.Refused t (call_due s (length t) (call (relabel l) o)) (legal_call s t (relabel l) (key_given o)))
+      (called Err t (call_due s (length t) (call (relabel l) o)) (legal_call s t (relabel l) (key_given o)))
   given_relabel o =
       let c = sound_opened s t m sound in
       let a = (sound_agree s c.0.right t bytes c.0.room c.1).1 in
       by_dues (λ choose.
       RelabelsOnly s t (key_given o) l
-      (choose (Reply Answer) (λ why. reply (answer.Refused why) t) (legal_call s t (relabel l) (key_given o))))
+      (choose (Reply Answer) (λ why. reply (Err why) t) (legal_call s t (relabel l) (key_given o))))
       (call_due s (length t) (call (relabel l) o))
       (λ why was n slot q. absurd (let z : ◌≡◌ {A = ℕ} 0 1 = cc in omega arith))
       (λ d.

@@ -10,8 +10,7 @@ use Rattle.table.specs.State.{State, basic_at, overflow_at, entry_of, label_of}
 use Rattle.table.specs.Follow.{Content, mk_content, content}
 use Rattle.table.specs.Sound.{Chain}
 use Rattle.table.specs.Calls.{held}
-use Rattle.table.specs.Answer.{said}
-use Rattle.table.specs.declared.answers.Answer.{Answer}
+use Rattle.table.specs.Answer.{said, Answer}
 use Rattle.table.specs.declared.answers.Word.TheVariants as word
 
 -- no counter is another

@@ -10,9 +10,9 @@ use Rattle.laws.specs.Lists.{take_stored}
 use Rattle.settings.specs.declared.refusal.Refusal.{Refusal}
 use Rattle.settings.specs.Reply.{Reply, reply, answering, Gives}
 use Rattle.keys.specs.declared.Key.{Key}
-use Rattle.table.specs.declared.answers.Answer.{Answer}
 use Rattle.program_answers.specs.Answer.{answer_room, refused_text, answer_text}
 use Rattle.program_answers.specs.Steps.{Put, Wrote, Answered}
+use Rattle.table.specs.Answer.{Answer}
 
 -- lists that agree from n on agree from any later place on
 pub rest_more : (n m : ℕ) (a b : List ℕ) → n ≤ m → drop n a ≡ drop n b → drop m a ≡ drop m b

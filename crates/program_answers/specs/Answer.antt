@@ -1,13 +1,11 @@
 -- Clause 10.5: the line that answers a line.
-use Rattle.std.specs.Prelude.{ℕ, List, [], ◌∷◌, ◌++◌}
+use Rattle.std.specs.Prelude.{ℕ, List, [], ◌∷◌, ◌++◌, Err}
 use Rattle.std.proofs.Math.Option.{Option, none, some}
 use Rattle.settings.specs.Refusal.{number_of}
 use Rattle.settings.specs.declared.refusal.Refusal.{Refusal}
 use Rattle.settings.specs.declared.refusal.Refusal.TheVariants as refusal
 use Rattle.settings.specs.Reply.{Reply, reply, answering}
 use Rattle.keys.specs.declared.Key.{Key}
-use Rattle.table.specs.declared.answers.Answer.{Answer}
-use Rattle.table.specs.declared.answers.Answer.TheVariants as answer
 use Rattle.table.specs.declared.answers.Word.{Word}
 use Rattle.table.specs.declared.answers.Word.TheVariants as word
 use Rattle.text_write.specs.Writing.{written}
@@ -15,6 +13,7 @@ use Rattle.text_write.specs.Ascii.{ascii}
 use Rattle.program_commands.specs.Command.{Command, command_of}
 use Rattle.text_write.specs.Decimal.{decimal_text}
 use Rattle.program_answers.specs.Outcome.{command_call}
+use Rattle.table.specs.Answer.{Answer}
 
 -- the words, with the spaces around them
 unfoldable pub word_text : Word → List ℕ
@@ -40,8 +39,8 @@ said_text address w label compared = address ++ word_text w ++ numbers_text labe
 
 -- the address, the word, the label and compared; or the refusal
 unfoldable pub answer_text : Key → Answer → List ℕ
-answer_text k (answer.Said label w compared slot) = said_text (written k.high k.low) w label compared
-answer_text k (answer.Refused why) = refused_text why
+answer_text k (Ok said) = said_text (written k.high k.low) said.word said.label said.compared
+answer_text k (Err why) = refused_text why
 
 -- what is written for a line, and the table afterwards
 unfoldable pub command_reply : List ℕ → Option Command → Reply (List ℕ)

@@ -1,6 +1,5 @@
 // The answer to a line.
 ghost use Rattle.std.specs.Prelude.{◌≡◌, ◌+◌, ◌≤◌, length, drop};
-ghost use Rattle.text_read.specs.ReaderSteps.{Classes};
 ghost use Rattle.text_write.specs.Writing.{written};
 ghost use Rattle.program_answers.specs.Program.{program_bytes};
 ghost use Rattle.program_answers.specs.Answer.{answer_room, word_text, numbers_text, refused_text, said_text, line_reply};
@@ -10,10 +9,10 @@ ghost use Rattle.table.specs.declared.answers.Word.TheVariants as word;
 use crate::outcome::apply;
 use crate::text::{put, put_decimal};
 use keys::Key;
-use program_commands::{Asked, Request, parse, unread};
+use program_commands::{Request, parse, unread};
 use settings::Refusal;
-use table::{Answer, Word};
-use text_read::Parsed;
+use table::{Said, Word};
+use text_read::ClassTable;
 
 // Room for any answer: an address of at most 39 bytes, a word, two numbers of at most ten digits.
 pub const ANSWER_MAX: usize = 80;
@@ -84,13 +83,13 @@ fn put_numbers(label: u32, compared: u32, out: &mut [u8], at: usize) -> usize
 }
 
 // Address, word, label, compared.
-fn say(key: Key, word: Word, label: u32, compared: u32, out: &mut [u8]) -> usize
+fn say(key: Key, said: Said, out: &mut [u8]) -> usize
     requires { answer_room ≤ length out.old }
-    ensures { Wrote (said_text (written key.high key.low) word label compared) out.new result }
+    ensures { Wrote (said_text (written key.high key.low) said.word said.label said.compared) out.new result }
 {
     let n = text_write::put_text(out, key);
-    let m = put_word(word, out, n);
-    put_numbers(label, compared, out, m)
+    let m = put_word(said.word, out, n);
+    put_numbers(said.label, said.compared, out, m)
 }
 
 // The answer to a command whose address was read.
@@ -100,30 +99,23 @@ fn answer_key(q: Request, key: Key, t: &mut [u8], out: &mut [u8]) -> usize
 {
     let op = q.op;
     match apply(op, q.label, t, key) {
-        Answer::Said {
-            word,
-            label,
-            compared,
-            slot: _,
-        } => say(key, word, label, compared, out),
-        Answer::Refused(why) => refuse(why, out),
+        Ok(said) => say(key, said, out),
+        Err(why) => refuse(why, out),
     }
 }
 
 // The answer to a line, and what the line does to the table. Left free: the bytes of `out` behind the answer, since an
 // address is put with four digits a group where fewer count, and nobody reads them. Its length stays.
-pub fn answer_line(classes: &[u8; 256], line: &[u8], t: &mut [u8], out: &mut [u8]) -> usize
-    requires { Classes classes.now × (program_bytes ≤ length t.old) × (answer_room ≤ length out.old) }
+pub fn answer_line(classes: &ClassTable, line: &[u8], t: &mut [u8], out: &mut [u8]) -> usize
+    requires { (program_bytes ≤ length t.old) × (answer_room ≤ length out.old) }
     ensures { Answered (line_reply t.old line.now) t.new out.new result }
 {
-    match parse(line) {
-        Asked::Request(q) => {
-            let end = q.end;
-            match text_read::read_by(classes, &line[2..end]) {
-                Parsed::Key(key) => answer_key(q, key, t, out),
-                Parsed::Refused(_) => refuse(unread(line, end), out),
-            }
-        }
-        Asked::Malformed => refuse(Refusal::Line, out),
+    let Some(q) = parse(line) else {
+        return refuse(Refusal::Line, out);
+    };
+    let end = q.end;
+    match text_read::read_by(classes, &line[2..end]) {
+        Ok(key) => answer_key(q, key, t, out),
+        Err(_) => refuse(unread(line, end), out),
     }
 }

@@ -1,9 +1,7 @@
 // What a command comes to, for the key that its address spells.
-ghost use Rattle.std.specs.Prelude.{◌≡◌, true, ◌≤◌, length};
+ghost use Rattle.std.specs.Prelude.{◌≡◌, true, ◌≤◌, Ok, length};
 ghost use Rattle.settings.specs.Layout.{layout_of};
 ghost use Rattle.settings.specs.Reply.{Gives};
-ghost use Rattle.settings.specs.declared.layout.Laid.TheVariants as laid;
-ghost use Rattle.settings.specs.declared.settings.Made.TheVariants as made;
 ghost use Rattle.table.specs.Calls.{key_call};
 ghost use Rattle.table_find.specs.Seek.{open_of, sought_of};
 ghost use Rattle.program_commands.specs.Command.{takes_label};
@@ -12,8 +10,8 @@ ghost use Rattle.program_answers.specs.Outcome.{verb_of};
 
 use keys::Key;
 use program_commands::Op;
-use settings::{Blocks, Layout, Made, Refusal, Settings};
-use table::Answer;
+use settings::{Blocks, Layout, Refusal, Settings};
+use table::Said;
 use table_delete::delete_sought;
 use table_enter::enter_sought;
 use table_find::{Sought, fits, seek};
@@ -34,8 +32,8 @@ const SETTINGS: Settings = Settings {
 pub const TABLE_BYTES: usize = 19681;
 
 // The settings, by their constructor, which does not refuse them.
-pub fn settings() -> Made
-    ensures { result ≡ made.Settings program }
+pub fn settings() -> Result<Settings, Refusal>
+    ensures { result ≡ Ok program }
 {
     Settings::new(
         SETTINGS.w,
@@ -79,12 +77,19 @@ fn layout() -> Layout
 }
 
 // Enter or relabel, once the key was sought.
-fn apply_labelled(op: Op, label: u32, t: &mut [u8], g: Layout, key: Key, v: Sought) -> Answer
-    requires { (takes_label op ≡ true) × (open_of program (length t.old) key ≡ laid.Layout g) × (v ≡ sought_of program t.old key) }
+fn apply_labelled(
+    op: Op,
+    label: u32,
+    t: &mut [u8],
+    g: Layout,
+    key: Key,
+    v: Sought,
+) -> Result<Said, Refusal>
+    requires { (takes_label op ≡ true) × (open_of program (length t.old) key ≡ Ok g) × (v ≡ sought_of program t.old key) }
     ensures { Gives (key_call program t.old (verb_of op label) key) result t.new }
 {
     if !fits(label as u64, SETTINGS.val) {
-        return Answer::Refused(Refusal::Label);
+        return Err(Refusal::Label);
     }
     match op {
         Op::Enter => enter_sought(t, SETTINGS, g, key, v, label),
@@ -95,7 +100,7 @@ fn apply_labelled(op: Op, label: u32, t: &mut [u8], g: Layout, key: Key, v: Soug
 // The command on the table, behind the checks that its settings pass. The key is sought before the commands part, so that
 // find is there once, for the compiler to join with what is known of the layout. A `match` of all four would be a jump
 // through a table.
-pub(crate) fn apply(op: Op, label: u32, t: &mut [u8], key: Key) -> Answer
+pub(crate) fn apply(op: Op, label: u32, t: &mut [u8], key: Key) -> Result<Said, Refusal>
     requires { program_bytes ≤ length t.old }
     ensures { Gives (key_call program t.old (verb_of op label) key) result t.new }
 {

@@ -1,6 +1,6 @@
 -- The command in a line, by what its parser has found.
 use mathlib.Core.Path.{◌≡◌, refl, ap, ◌∙◌}
-use mathlib.Core.Bool.{Bool, true, false, true≢false, cond, ◌||◌}
+use mathlib.Core.Bool.{true, false, cond}
 use mathlib.Core.List.{List, [], ◌∷◌, ◌++◌}
 use mathlib.Core.Option.{Option, none, some}
 use Prim.Native.Nat.{ℕ, suc, ◌+◌, ◌-◌, ◌≤◌, ◌<◌}
@@ -8,31 +8,21 @@ use native.Mathlib.Omega.{arith}
 use lib.ListN.{length, get_or, take, drop, length-drop}
 use lib.Seq.{take_all}
 use lib.Dec.{eqb, leb, ltb}
-use borrow.Author.Tests.{ltb-true, ltb-false, ne_eqb, eqb-true, eqb-false}
+use borrow.Author.Tests.{ltb-true, ltb-false, ne_eqb}
 use Rattle.laws.specs.Cases.{cases, cond_same}
 use Rattle.program_lines.specs.Ends.{before, first_from}
 use Rattle.program_lines.specs.theory.Ends.{first_after, first_le}
+use Rattle.std.specs.declared.option.Option.TheVariants as answer
 use Rattle.program_commands.specs.Fields.{space, fields}
 use Rattle.program_commands.specs.Command.{mk_command, op_of, label_of, addressed, takes_label, missing_label, with_label, asked, spelled, longest_line, command_of}
-use Rattle.program_commands.specs.Steps.{label_number, label_room, Begins, Labelled, spaceless, address_in, requested, Asks}
+use Rattle.program_commands.specs.Steps.{label_read, label_room, Begins, Labelled, spaceless, address_in, requested, Asks}
 use Rattle.program_commands.specs.declared.command.Op.{Op}
 use Rattle.program_commands.specs.declared.command.Op.TheVariants as op
 use Rattle.program_commands.specs.declared.command.Request.{Request}
-use Rattle.program_commands.specs.declared.command.Asked.TheVariants as answer
 use Rattle.program_commands.specs.theory.Fields.{Some, fields_some, fields_one, fields_join, cut_first, has_space, Several, fields_more}
 use Rattle.program_commands.proofs.Places.{first_at, first_same, address_length, parted, Room, room}
-use Rattle.program_commands.proofs.Labels.{label_long, number_none, number_some}
-use Rattle.program_commands.specs.theory.Long.{long_none}
+use Rattle.program_commands.proofs.Labels.{label_long, read_as_none, read_as_some}
 use Rattle.program_commands.specs.theory.Asked.{fielded, asked_alone, asked_labelled}
-
--- one of two tests holds
-either : {A : Type 0} (t u : Bool) → (t || u) ≡ true → (t ≡ true → A) → (u ≡ true → A) → A
-either true u e f g = f refl
-either false u e f g = g e
-
-neither : (t u : Bool) → (t || u) ≡ false → (t ≡ false) × (u ≡ false)
-neither true u e = absurd (true≢false e)
-neither false u e = (refl, e)
 
 -- What fields ask for --------------------------------------------------------------------------------------------------
 
@@ -102,10 +92,10 @@ not_spelled : (l : List ℕ) → spelled l ≡ none → command_of l ≡ none
 unfolding command_of
 not_spelled l e = rw e (cond_same (leb (length l) longest_line) none)
 
-pub malformed : (l : List ℕ) → command_of l ≡ none → Asks l answer.Malformed
+pub malformed : (l : List ℕ) → command_of l ≡ none → Asks l answer.None
 malformed l e = record { is = e ∙ (unfold requested in refl); bounded = tt }
 
-short_line : (l : List ℕ) → length l < 3 → command_of l ≡ none
+pub short_line : (l : List ℕ) → length l < 3 → command_of l ≡ none
 short_line l h = not_spelled l (go l h)
   where
     go : (l : List ℕ) → length l < 3 → spelled l ≡ none
@@ -113,18 +103,6 @@ short_line l h = not_spelled l (go l h)
     go (c ∷ []) h = unfold spelled in refl
     go (c ∷ d ∷ []) h = unfold spelled fields in rw (no_address c []) (cond_same (eqb d space) none)
     go (c ∷ d ∷ e ∷ l) h = absurd (omega arith)
-
-module _ (l : List ℕ) where
-  -- by the test of the length
-  pub size_malformed : (ltb (length l) 3 || ltb longest_line (length l)) ≡ true → Asks l answer.Malformed
-  size_malformed e =
-      malformed l
-      (either (ltb (length l) 3) (ltb longest_line (length l)) e (λ t. short_line l (ltb-true (length l) 3 t)) (λ t. long_none l (ltb-true longest_line (length l) t)))
-
-  pub size_fits : (ltb (length l) 3 || ltb longest_line (length l)) ≡ false → (3 ≤ length l) × (length l ≤ longest_line)
-  size_fits e =
-      let p = neither (ltb (length l) 3) (ltb longest_line (length l)) e in
-      (ltb-false (length l) 3 p.0, ltb-false longest_line (length l) p.1)
 
 pub unspaced_line : (l : List ℕ) → (get_or l 1 0 ≡ space → ⊥) → command_of l ≡ none
 unspaced_line l n = not_spelled l (go l n)
@@ -160,25 +138,25 @@ module _ (l : List ℕ) (c : ℕ) (b : Begins l c) where
 
   -- an address that goes to the end of the line
   alone_asks : (o : Op) (e : ℕ) → op_of c ≡ some o → e ≡ length l → (spaceless (drop 2 l) ≡ false → asked c (fields (drop 2 l)) ≡ none)
-      → Asks l (answer.Request (asks_for o e (missing_label o)))
+      → Asks l (answer.Some (asks_for o e (missing_label o)))
   alone_asks o e p h f = record {
     is = begun l c b ∙ alone c o (drop 2 l) p (omega (arith, length-drop 2 l, b.low)) f ∙ (unfold requested in rw (whole l e h));
     bounded = (omega (arith, b.low), omega arith);
   }
 
   -- of an op that takes no label
-  address_asks : (o : Op) → op_of c ≡ some o → takes_label o ≡ false → Asks l (answer.Request (asks_for o (length l) 0))
+  address_asks : (o : Op) → op_of c ≡ some o → takes_label o ≡ false → Asks l (answer.Some (asks_for o (length l) 0))
   address_asks o p n =
       rw n at
       (alone_asks o (length l) p refl
       (λ t. no_second c (λ x m. rw p (no_label_taken o n x m)) (fields (drop 2 l)) (fields_more (drop 2 l) t)))
 
 module _ (l : List ℕ) where
-  pub delete_asks : Begins l 45 → Asks l (answer.Request (asks_for op.Delete (length l) 0))
+  pub delete_asks : Begins l 45 → Asks l (answer.Some (asks_for op.Delete (length l) 0))
   unfolding op_of
   delete_asks b = address_asks l 45 b op.Delete refl refl
 
-  pub find_asks : Begins l 63 → Asks l (answer.Request (asks_for op.Find (length l) 0))
+  pub find_asks : Begins l 63 → Asks l (answer.Some (asks_for op.Find (length l) 0))
   unfolding op_of
   find_asks b = address_asks l 63 b op.Find refl refl
 
@@ -207,7 +185,7 @@ module _ (l : List ℕ) (o : Op) (a : Labelled l o) (k e : ℕ) (r : k ≡ label
       ap (asked a.byte) (ap fields (cut_first s p).is)
       ∙ second a.byte o a.stands (take j s) (drop (suc j) s) (label_long (drop (suc j) s) (omega (arith, length-drop (suc j) s, length-drop 2 l)))
 
-  pub labelled_alone : e ≡ length l → Asks l (answer.Request (asks_for o e 1))
+  pub labelled_alone : e ≡ length l → Asks l (answer.Some (asks_for o e 1))
   labelled_alone h = rw a.takes at (alone_asks l a.byte a.begins o e a.stands h (too_long h))
 
   module _ (n : e ≡ length l → ⊥) where
@@ -223,7 +201,7 @@ module _ (l : List ℕ) (o : Op) (a : Labelled l o) (k e : ℕ) (r : k ≡ label
     pub label_fits : (e + 1 ≤ length l) × (length l ≤ e + 1 + 3)
     label_fits = (omega (arith, below), omega (arith, after, roomed.near))
 
-    labelled_with : (v : ℕ) → label_of (drop (e + 1) l) ≡ some v → (e ≡ 2 → ⊥) → Asks l (answer.Request (asks_for o e v))
+    labelled_with : (v : ℕ) → label_of (drop (e + 1) l) ≡ some v → (e ≡ 2 → ⊥) → Asks l (answer.Some (asks_for o e v))
     labelled_with v p m = record {
       is =
           begun l a.byte a.begins ∙ ap (asked a.byte) (ap fields spaced)
@@ -237,14 +215,21 @@ module _ (l : List ℕ) (o : Op) (a : Labelled l o) (k e : ℕ) (r : k ≡ label
     unaddressed : e ≡ 2 → command_of l ≡ none
     unaddressed p = begun l a.byte a.begins ∙ ap (asked a.byte) (ap fields spaced) ∙ rw p (unfold fields in no_address a.byte (fields (drop (2 + 1) l)))
 
-    -- by the test of the label and the address
-    module _ (v : ℕ) (m : v ≡ label_number (label_of (drop (e + 1) l))) where
-      pub labelled_malformed : (eqb v 1000 || eqb e 2) ≡ true → Asks l answer.Malformed
-      labelled_malformed t =
-          malformed l
-          (either (eqb v 1000) (eqb e 2) t (λ u. no_label (number_none (drop (e + 1) l) v m (eqb-true v 1000 u))) (λ u. unaddressed (eqb-true e 2 u)))
+    -- by what is read of the label
+    abbrev rest : List ℕ
+    rest = take (length l - (e + 1)) (drop (e + 1) l)
 
-      pub labelled_asks : (eqb v 1000 || eqb e 2) ≡ false → Asks l (answer.Request (asks_for o e v))
-      labelled_asks t =
-          let p = neither (eqb v 1000) (eqb e 2) t in
-          labelled_with v (number_some (drop (e + 1) l) v m (eqb-false v 1000 p.0)) (eqb-false e 2 p.1)
+    rest_is : rest ≡ drop (e + 1) l
+    rest_is = take_all (length l - (e + 1)) (drop (e + 1) l) (omega (arith, length-drop (e + 1) l))
+
+    pub rest_fits : length rest ≤ 3
+    rest_fits = rw rest_is (omega (arith, length-drop (e + 1) l, label_fits))
+
+    pub labelled_asks : (v : ℕ) → answer.Some v ≡ label_read (label_of rest) → (e ≡ 2 → ⊥) → Asks l (answer.Some (asks_for o e v))
+    labelled_asks v p m = labelled_with v (rw rest_is at (read_as_some _ v p)) m
+
+    pub unlabelled : answer.None ≡ label_read (label_of rest) → Asks l answer.None
+    unlabelled p = malformed l (no_label (rw rest_is at (read_as_none _ p)))
+
+    pub unaddressed_malformed : e ≡ 2 → Asks l answer.None
+    unaddressed_malformed p = malformed l (unaddressed p)

@@ -1,23 +1,25 @@
 -- Words that only private contracts use.
-use Rattle.std.specs.Prelude.{◌≡◌, Bool, true, cond, ◌&&◌, List, ℕ, ◌-◌, ◌≤◌, length, get_or, take, drop, eqb, leb, ltb}
-use Rattle.std.proofs.Math.Option.{Option, none, some}
+use Rattle.std.specs.Prelude.{◌≡◌, Bool, true, false, cond, Option, Some, None, List, ℕ, ◌-◌, ◌≤◌, length, get_or, take, drop, eqb, ltb}
+use Rattle.std.proofs.Math.Option.{none, some}
+use Rattle.std.proofs.Math.Option as maybe
 use Rattle.settings.specs.declared.refusal.Refusal.{Refusal}
 use Rattle.settings.specs.declared.refusal.Refusal.TheVariants as refusal
+use Rattle.text_read.specs.Numerals.{digits, number}
 use Rattle.program_lines.specs.Ends.{before}
 use Rattle.program_commands.specs.Fields.{space}
 use Rattle.program_commands.specs.Command.{Command, mk_command, op_of, takes_label, longest_line, command_of}
 use Rattle.program_commands.specs.declared.command.Op.{Op}
-use Rattle.program_commands.specs.declared.command.Asked.{Asked}
-use Rattle.program_commands.specs.declared.command.Asked.TheVariants as answer
+use Rattle.program_commands.specs.declared.command.Request.{Request}
 
--- '0' is 48 and '9' is 57
-unfoldable pub is_digit : ℕ → Bool
-is_digit b = leb 48 b && leb b 57
+-- a label, as `label_from` answers it
+abbrev pub label_read : maybe.Option ℕ → Option ℕ
+label_read none = None
+label_read (some n) = Some n
 
--- a label, or a number above all labels
-unfoldable pub label_number : Option ℕ → ℕ
-label_number none = 1000
-label_number (some n) = n
+-- the decimal number that y spells, if it is one
+abbrev pub NumberRead : List ℕ → Option ℕ → Type 0
+NumberRead y None = digits 10 y ≡ false
+NumberRead y (Some n) = (digits 10 y ≡ true) × (number 10 0 y ≡ n)
 
 unfoldable pub label_room : ℕ → ℕ
 label_room n = cond (ltb n 6) 2 (n - 4)
@@ -45,16 +47,16 @@ abbrev pub address_in : List ℕ → ℕ → List ℕ
 address_in l e = take (e - 2) (drop 2 l)
 
 -- what the answer of `parse` stands for
-unfoldable pub requested : List ℕ → Asked → Option Command
-requested l (answer.Request q) =
+unfoldable pub requested : List ℕ → Option Request → maybe.Option Command
+requested l (Some q) =
     cond (spaceless (address_in l q.end)) (some (mk_command q.op (address_in l q.end) q.label)) none
-requested l answer.Malformed = none
+requested l None = none
 
-abbrev pub Bounded : List ℕ → Asked → Type 0
-Bounded l (answer.Request q) = (2 ≤ q.end) × (q.end ≤ length l)
-Bounded l answer.Malformed = Unit {0}
+abbrev pub Bounded : List ℕ → Option Request → Type 0
+Bounded l (Some q) = (2 ≤ q.end) × (q.end ≤ length l)
+Bounded l None = Unit {0}
 
-pub record Asks (l : List ℕ) (r : Asked) : Type 0 where
+pub record Asks (l : List ℕ) (r : Option Request) : Type 0 where
   pub is : command_of l ≡ requested l r
   pub bounded : Bounded l r
 

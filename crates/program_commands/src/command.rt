@@ -1,7 +1,7 @@
 // What a line asks for.
-ghost use Rattle.std.specs.Prelude.{◌≡◌, ◌+◌, ◌≤◌, ◌<◌, length, drop};
+ghost use Rattle.std.specs.Prelude.{◌≡◌, ◌≤◌, length};
 ghost use Rattle.program_commands.specs.Command.{label_of};
-ghost use Rattle.program_commands.specs.Steps.{is_digit, label_number, label_room, Labelled, Asks, address_in, unread_for};
+ghost use Rattle.program_commands.specs.Steps.{NumberRead, label_read, label_room, Labelled, Asks, address_in, unread_for};
 
 use program_lines::find_byte;
 use settings::Refusal;
@@ -22,52 +22,42 @@ pub struct Request {
     pub label: u32,
 }
 
-// What a line is, as long as its address has no space.
-#[derive(Clone, Copy)]
-pub enum Asked {
-    Request(Request),
-    Malformed,
-}
-
 pub const LINE_MAX: usize = 64;
-
-// More than any label of three digits: what stands there is no label.
-pub const NO_LABEL: u32 = 1000;
 
 // The label of a "+" or "=" line without one. It is not 0, which providers use for "watch only".
 pub const MISSING_LABEL: u32 = 1;
 
-fn is_digit(b: u8) -> bool
-    ensures { result ≡ is_digit b }
+// The number that at most three bytes spell, if they are digits.
+fn number(text: &[u8]) -> Option<u32>
+    requires { length text.now ≤ 3 }
+    ensures { NumberRead text.now result }
 {
-    (b'0' <= b) & (b <= b'9')
+    let mut n: u32 = 0;
+    for b in text {
+        if !b.is_ascii_digit() {
+            return None;
+        }
+        n = n * 10 + (*b - b'0') as u32;
+    }
+    Some(n)
 }
 
-// The label in the at most three bytes from `at` on.
-fn label_from(line: &[u8], at: usize) -> u32
-    requires { (at ≤ length line.now) × (length line.now ≤ at + 3) }
-    ensures { result ≡ label_number (label_of (drop at line.now)) }
+// The label that at most three bytes spell.
+fn label_from(text: &[u8]) -> Option<u32>
+    requires { length text.now ≤ 3 }
+    ensures { result ≡ label_read (label_of text.now) }
 {
-    let n = line.len();
-    if at == n {
-        return NO_LABEL;
+    let [first, rest @ ..] = text else {
+        return None;
+    };
+    if (*first == b'0') & (0 < rest.len()) {
+        return None;
     }
-    if (line[at] == b'0') & (at + 1 < n) {
-        return NO_LABEL;
-    }
-    let mut label: u32 = 0;
-    let mut i = at;
-    while i < n {
-        if !is_digit(line[i]) {
-            return NO_LABEL;
-        }
-        label = label * 10 + (line[i] as u32 - 48);
-        i += 1;
-    }
-    label
+    number(text)
 }
 
 // Where the space before a label can stand: with a label of one to three bytes it is one of the last four.
+#[tactic(auto, unfolding(crate::specs::Steps::label_room))]
 fn label_room(n: usize) -> usize
     requires { 3 ≤ n }
     ensures { result ≡ label_room n }
@@ -79,64 +69,55 @@ fn label_room(n: usize) -> usize
 }
 
 // The command in a line that begins with "+ " or "= " and goes on: `op` is its first byte's.
-fn parse_labelled(line: &[u8], op: Op) -> Asked
+fn parse_labelled(line: &[u8], op: Op) -> Option<Request>
     requires { Labelled line.now op }
     ensures { Asks line.now result }
 {
     let n = line.len();
     let end = find_byte(line, b' ', label_room(n));
     if end == n {
-        return Asked::Request(Request {
-            op,
-            end,
-            label: MISSING_LABEL,
-        });
+        let label = MISSING_LABEL;
+        return Some(Request { op, end, label });
     }
-    let label = label_from(line, end + 1);
-    if (label == NO_LABEL) | (end == 2) {
-        return Asked::Malformed;
+    if end == 2 {
+        return None;
     }
-    Asked::Request(Request { op, end, label })
+    let label = label_from(&line[end + 1..])?;
+    Some(Request { op, end, label })
 }
 
 // The command in a line. Whether the address has a space is left to its reader, who meets one anyway: left free is
 // what a line is that would be a command but for a space in its address. Whatever is answered, it stands for no
 // command then (`requested`), and the bytes from 2 to its `end` lie within the line.
-pub fn parse(line: &[u8]) -> Asked
+pub fn parse(line: &[u8]) -> Option<Request>
     ensures { Asks line.now result }
 {
-    let n = line.len();
-    if (n < 3) | (LINE_MAX < n) {
-        return Asked::Malformed;
+    let end = line.len();
+    if LINE_MAX < end {
+        return None;
     }
-    if line[1] != b' ' {
-        return Asked::Malformed;
-    }
-    let c = line[0];
-    if c == b'+' {
-        return parse_labelled(line, Op::Enter);
-    }
-    if c == b'-' {
-        return Asked::Request(Request {
+    let [first, b' ', _, ..] = line else {
+        return None;
+    };
+    match *first {
+        b'+' => parse_labelled(line, Op::Enter),
+        b'-' => Some(Request {
             op: Op::Delete,
-            end: n,
+            end,
             label: 0,
-        });
-    }
-    if c == b'?' {
-        return Asked::Request(Request {
+        }),
+        b'?' => Some(Request {
             op: Op::Find,
-            end: n,
+            end,
             label: 0,
-        });
+        }),
+        b'=' => parse_labelled(line, Op::Relabel),
+        _ => None,
     }
-    if c == b'=' {
-        return parse_labelled(line, Op::Relabel);
-    }
-    Asked::Malformed
 }
 
 // Why an address that was not read is refused: with a space in it the line is no command.
+#[tactic(auto, using(crate::proofs::Places::unread_line, crate::proofs::Places::unread_text))]
 pub fn unread(line: &[u8], end: usize) -> Refusal
     requires { (2 ≤ end) × (end ≤ length line.now) }
     ensures { result ≡ unread_for (address_in line.now end) }

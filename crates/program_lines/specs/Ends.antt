@@ -1,7 +1,5 @@
 -- Where a byte stands, and where a line ends.
-use Rattle.std.specs.Prelude.{ℕ, suc, ◌+◌, List, [], ◌∷◌, Bool, true, false, cond, length, drop, eqb, ltb}
-use Rattle.program_lines.specs.declared.Span.{Span}
-use Rattle.program_lines.specs.declared.Span.TheVariants.{Line, Rest}
+use Rattle.std.specs.Prelude.{ℕ, suc, ◌+◌, List, [], ◌∷◌, cond, length, drop, eqb, ltb, Option, Some, None}
 
 -- the number of bytes before the first b, or of all bytes where there is none
 unfoldable pub before : ℕ → List ℕ → ℕ
@@ -16,10 +14,6 @@ first_from b s at = at + before b (drop at s)
 abbrev pub line_feed : ℕ
 line_feed = 10
 
-abbrev pub pick_span : Bool → Span → Span → Span
-pick_span true x y = x
-pick_span false x y = y
-
--- what stands at a position
-unfoldable pub span_at : List ℕ → ℕ → Span
-span_at s at = pick_span (ltb (first_from line_feed s at) (length s)) (Line (first_from line_feed s at)) Rest
+-- where the line at a position ends, if a line feed ends it
+unfoldable pub span_at : List ℕ → ℕ → Option ℕ
+span_at s at = cond (ltb (first_from line_feed s at) (length s)) (Some (first_from line_feed s at)) None

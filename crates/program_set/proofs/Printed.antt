@@ -1,6 +1,6 @@
 -- What is written for a command is its call's answer as the set would print it: the address is that of the key read, and `compared` is counted on
 -- the key's list.
-use Rattle.std.specs.Prelude.{◌≡◌, List, ◌∷◌, length}
+use Rattle.std.specs.Prelude.{◌≡◌, List, ◌∷◌, length, Err, Ok}
 use Rattle.std.proofs.Math.Path.{refl}
 use Rattle.std.proofs.Math.Option.{Option, none, some}
 use Prim.Native.Nat.{ℕ, ◌^◌, ◌≤◌, ◌<◌}
@@ -23,13 +23,10 @@ use Rattle.table.specs.Delete.{take_out, delete_followed, delete_in}
 use Rattle.plain_set.specs.Rebuilt.{slots_of}
 use Rattle.table.specs.Calls.{Verb, find, enter, relabel, delete, list_call, verb_due, held, key_call}
 use Rattle.table.specs.theory.FormedCalls.{either}
-use Rattle.table.specs.declared.answers.Answer as table
-use Rattle.table.specs.declared.answers.Answer.TheVariants as answer
+use Rattle.table.specs.Answer as table
 use Rattle.table.specs.declared.answers.Word.{Word}
 use Rattle.table.specs.declared.answers.Word.TheVariants as word
 use Rattle.text_read.specs.Answers.{reading_of}
-use Rattle.text_read.specs.declared.Parsed.{Parsed}
-use Rattle.text_read.specs.declared.Parsed.TheVariants as parsed
 use Rattle.text_calls.specs.theory.RoundTrip.{reading_fits}
 use Rattle.program_commands.specs.Command.{Command}
 use Rattle.program_answers.specs.Program.{program, program_bytes}
@@ -39,13 +36,15 @@ use Rattle.program_answers.specs.theory.Applies.{text_key, text_unread}
 use Rattle.plain_set.specs.Plain.{plain}
 use Rattle.text_calls.specs.Asked.{by_text, table_call}
 use Rattle.program_set.specs.Claim.{key_named, compared_on, printed}
+use Rattle.std.specs.declared.result.Result.{Result}
+use Rattle.settings.specs.declared.refusal.Refusal.{Refusal}
 
 -- `compared` is counted on the key's list, on any table ------------------------------------------------------------------------
 
 -- an answer that says a word says it with the number n
 abbrev Counts : ℕ → table.Answer → Type 0
-Counts n (answer.Said label w m x) = m ≡ n
-Counts n (answer.Refused why) = Unit {0}
+Counts n (Ok said) = said.compared ≡ n
+Counts n (Err why) = Unit {0}
 
 change_counts : (w : Word) (label n x : ℕ) (d : Done) → Counts n (answered (said w label n x) d).answer
 change_counts w label n x damage = tt
@@ -96,7 +95,7 @@ module _ (t : List ℕ) where
       let e : ℕ = entry program (key_number k) in
       by_dues (λ choose.
       Counts (compared_on t (key_number k))
-      (choose (Reply table.Answer) (λ why. reply (answer.Refused why) t)
+      (choose (Reply table.Answer) (λ why. reply (Err why) t)
       (replied (layout_of program) t (list_call (layout_of program) (held program t) i e v))).answer)
       (settings_due program ∷ short_due program (length t) ∷ key_due program (key_number k) ∷ verb_due program v) (λ why. tt)
       (λ d. list_counts (layout_of program) (held program t) i e v)
@@ -104,8 +103,8 @@ module _ (t : List ℕ) where
   answer_printed : (k : Key) → k.low < 2 ^ 64 → (a : table.Answer) → Counts (compared_on t (key_number k)) a
       → answer_text k a ≡ printed t (key_number k) (plain a)
   unfolding answer_text
-  answer_printed k low (answer.Said label w m x) c = rw (c, key_number_lem k low)
-  answer_printed k low (answer.Refused why) c = refl
+  answer_printed k low (Ok said) c = rw (c, key_number_lem k low)
+  answer_printed k low (Err why) c = refl
 
   pub command_printed : program_bytes ≤ length t → (c : Command)
       → (command_reply t (some c)).answer
@@ -116,9 +115,9 @@ module _ (t : List ℕ) where
       v : Verb
       v = verb_of c.op c.label
 
-      go : (p : Parsed) → reading_of c.address ≡ p
+      go : (p : Result Key Refusal) → reading_of c.address ≡ p
           → (command_reply t (some c)).answer ≡ printed t (key_named (some c)) (plain (table_call program t (by_text v c.address)).answer)
-      go (parsed.Key k) e =
+      go (Ok k) e =
           rw (text_key t room v c.address k e, e)
           (answer_printed k (reading_fits c.address k e).low_below (key_call program t v k).answer (key_counts v k))
-      go (parsed.Refused why) e = rw (text_unread t room v c.address why e)
+      go (Err why) e = rw (text_unread t room v c.address why e)

@@ -1,5 +1,5 @@
 -- The program is the plain set, for every input.
-use Rattle.std.specs.Prelude.{◌≡◌, refl, true, false, not, ◌&&◌, List, [], ◌∷◌, ◌++◌, ℕ, ◌^◌, ◌≤◌, leb, ltb, length, replicate}
+use Rattle.std.specs.Prelude.{◌≡◌, refl, true, false, not, ◌&&◌, List, [], ◌∷◌, ◌++◌, ℕ, ◌^◌, ◌≤◌, leb, ltb, length, replicate, Err, Ok}
 use Rattle.std.proofs.Math.Path.{ap}
 use Rattle.std.proofs.Common.{ap₂, ◌∙◌, append-nil, arith}
 use Rattle.std.proofs.Math.Option.{Option, none, some}
@@ -20,8 +20,6 @@ use Rattle.table.specs.Calls.{Verb, find, enter, relabel, delete, verb_due}
 use Rattle.table.specs.theory.FormedCalls.{either}
 use Rattle.table.specs.theory.Formed.{All, all_nil, all_cons}
 use Rattle.text_read.specs.Answers.{reading_of}
-use Rattle.text_read.specs.declared.Parsed.{Parsed}
-use Rattle.text_read.specs.declared.Parsed.TheVariants as parsed
 use Rattle.text_calls.specs.theory.RoundTrip.{reading_fits}
 use Rattle.program_commands.specs.Command.{Command, command_of}
 use Rattle.program_answers.specs.Program.{program, program_bytes}
@@ -40,6 +38,9 @@ use Rattle.demand3.specs.Claim.{given}
 use Rattle.demand3.proofs.Lent.{lent_follows}
 use Rattle.program_set.specs.Claim.{call_of, command_step, line_step, key_named, printed, Behaves, set_lines, Line, says, refuses_text, refuses_label, refuses_block, refuses_line, refuses_known}
 use Rattle.program_set.proofs.Printed.{command_printed}
+use Rattle.std.specs.declared.result.Result.{Result}
+use Rattle.settings.specs.declared.refusal.Refusal.{Refusal}
+use Rattle.keys.specs.declared.Key.{Key}
 
 lawful : Legal program
 lawful = legal_means program program_legal
@@ -158,13 +159,13 @@ module _ (t : List ℕ) (ps : List Pair) (n : ℕ) where
   verb_prints (relabel l) k = either Prints (not (ltb l (2 ^ program.val))) (λ q. refuses_label) (λ q. relabel_prints k l (lookup k ps))
   verb_prints delete k = delete_prints k (lookup k ps)
 
-  text_prints : (v : Verb) (x : List ℕ) (p : Parsed) → reading_of x ≡ p → Prints (set_step program program_bytes ps (given (by_text v x)))
+  text_prints : (v : Verb) (x : List ℕ) (p : Result Key Refusal) → reading_of x ≡ p → Prints (set_step program program_bytes ps (given (by_text v x)))
   unfolding set_step program_bytes
-  text_prints v x (parsed.Key k) e =
+  text_prints v x (Ok k) e =
       let f = reading_fits x k e in
       let below = key_below k f.high_below f.low_below in
       rw (e, program_legal, whole_length, lt-ltb (key_number k) (2 ^ 128) below) (verb_prints v (key_number k))
-  text_prints v x (parsed.Refused why) e = rw (e, program_legal, whole_length) refuses_text
+  text_prints v x (Err why) e = rw (e, program_legal, whole_length) refuses_text
 
   command_prints : (o : Option Command) → Prints (command_step ps o)
   command_prints none = refuses_line

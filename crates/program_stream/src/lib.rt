@@ -1,10 +1,8 @@
 // From input bytes to output bytes: whole lines of a lent buffer are answered into a lent buffer.
 #![tactic(auto)]
 
-ghost use Rattle.std.specs.Prelude.{◌≡◌, List, ◌++◌, ℕ, ◌+◌, ◌-◌, ◌≤◌, length, take, drop};
-ghost use Rattle.text_read.specs.ReaderSteps.{Classes};
+ghost use Rattle.std.specs.Prelude.{◌≡◌, List, ◌++◌, ℕ, ◌+◌, ◌-◌, ◌≤◌, length, take, drop, Some, None};
 ghost use Rattle.program_lines.specs.Ends.{span_at};
-ghost use Rattle.program_lines.specs.declared.Span.TheVariants as span;
 ghost use Rattle.settings.specs.declared.refusal.Refusal.TheVariants as refusal;
 ghost use Rattle.program_answers.specs.Program.{program_bytes};
 ghost use Rattle.program_answers.specs.Answer.{answer_room, refused_text, line_reply};
@@ -12,8 +10,9 @@ ghost use Rattle.program_stream.specs.Steps.{Turned, Consumed, Finished};
 
 use program_answers::ANSWER_MAX;
 use program_commands::LINE_MAX;
-use program_lines::Span;
+use program_lines::Lines;
 use settings::Refusal;
+use text_read::ClassTable;
 
 // How far a turn has come in the input and in the output, whether the input begins inside a line that has
 // been answered, and whether there may be more lines.
@@ -27,7 +26,7 @@ pub struct Turn {
 
 // Answers the line input[at..e] into out from `made` on.
 fn answer_part(
-    classes: &[u8; 256],
+    classes: &ClassTable,
     input: &[u8],
     at: usize,
     e: usize,
@@ -36,7 +35,7 @@ fn answer_part(
     made: usize,
 ) -> usize
     requires at_le_e { (at ≤ e) × (e ≤ length input.now) }
-    requires classes { Classes classes.now × (program_bytes ≤ length t.old) × (made + answer_room ≤ length out.old) }
+    requires room { (program_bytes ≤ length t.old) × (made + answer_room ≤ length out.old) }
     ensures upper_bound { result ≤ made + answer_room }
     ensures t_after { t.new ≡ (line_reply t.old (take (e - at) (drop at input.now))).bytes }
     ensures out_after { take result out.new ≡ take made out.old ++ (line_reply t.old (take (e - at) (drop at input.now))).answer }
@@ -55,7 +54,7 @@ fn refuse_part(out: &mut [u8], made: usize) -> usize
 
 // The line that ends at e, unless it has been answered.
 fn line_turn(
-    classes: &[u8; 256],
+    classes: &ClassTable,
     input: &[u8],
     at: usize,
     e: usize,
@@ -64,8 +63,8 @@ fn line_turn(
     out: &mut [u8],
     made: usize,
 ) -> Turn
-    requires at_in_bounds { (at ≤ length input.now) × (span_at input.now at ≡ span.Line e) }
-    requires classes { Classes classes.now × (program_bytes ≤ length t.old) × (made + answer_room ≤ length out.old) }
+    requires at_in_bounds { (at ≤ length input.now) × (span_at input.now at ≡ Some e) }
+    requires room { (program_bytes ≤ length t.old) × (made + answer_room ≤ length out.old) }
     ensures { Turned input.now at skip t.old out.old made result t.new out.new }
 {
     if skip {
@@ -87,7 +86,7 @@ fn line_turn(
 
 // What no line feed ends yet: it waits for more, unless it is too long already, or has been answered.
 fn rest_turn(input: &[u8], at: usize, skip: bool, out: &mut [u8], made: usize) -> Turn
-    requires { (at ≤ length input.now) × (span_at input.now at ≡ span.Rest) × (made + answer_room ≤ length out.old) }
+    requires { (at ≤ length input.now) × (span_at input.now at ≡ None) × (made + answer_room ≤ length out.old) }
     ensures { (t : List ℕ) → Turned input.now at skip t out.old made result t out.new }
 {
     if skip {
@@ -115,23 +114,23 @@ fn rest_turn(input: &[u8], at: usize, skip: bool, out: &mut [u8], made: usize) -
     }
 }
 
-// One line, or the start of one that is too long: `span` is what the reader found.
+// One line, or the start of one that is too long: `end` is where the reader found the line's end.
 fn one_turn(
-    classes: &[u8; 256],
+    classes: &ClassTable,
     input: &[u8],
     at: usize,
-    span: Span,
+    end: Option<usize>,
     skip: bool,
     t: &mut [u8],
     out: &mut [u8],
     made: usize,
 ) -> Turn
-    requires { (at ≤ length input.now) × (span ≡ span_at input.now at) × Classes classes.now × (program_bytes ≤ length t.old) × (made + answer_room ≤ length out.old) }
+    requires { (at ≤ length input.now) × (end ≡ span_at input.now at) × (program_bytes ≤ length t.old) × (made + answer_room ≤ length out.old) }
     ensures { Turned input.now at skip t.old out.old made result t.new out.new }
 {
-    match span {
-        Span::Line(e) => line_turn(classes, input, at, e, skip, t, out, made),
-        Span::Rest => rest_turn(input, at, skip, out, made),
+    match end {
+        Some(e) => line_turn(classes, input, at, e, skip, t, out, made),
+        None => rest_turn(input, at, skip, out, made),
     }
 }
 
@@ -148,7 +147,7 @@ pub struct Step {
 // output is full (a line further at least, if there was room for an answer), the bytes of the output behind what was
 // made, which nobody reads, and the table's bytes: of these it is said what is due on them, whatever follows.
 pub fn consume(
-    classes: &[u8; 256],
+    classes: &ClassTable,
     input: &[u8],
     at: usize,
     skip: bool,
@@ -156,10 +155,10 @@ pub fn consume(
     out: &mut [u8],
 ) -> Step
     requires at_in_bounds { at ≤ length input.now }
-    requires classes { Classes classes.now × (program_bytes ≤ length t.old) }
+    requires room { program_bytes ≤ length t.old }
     ensures { Consumed input.now at skip t.old result t.new out.new }
 {
-    let mut l = program_lines::lines_at(input, at);
+    let mut l = Lines::new(input, at);
     let mut turn = Turn {
         at: at,
         made: 0,
@@ -167,9 +166,9 @@ pub fn consume(
         more: true,
     };
     while turn.more & (ANSWER_MAX <= out.len() - turn.made) {
-        let span = program_lines::next_line(l);
-        turn = one_turn(classes, l.src, l.at, span, turn.skip, t, out, turn.made);
-        l = program_lines::moved(l, turn.at);
+        let end = l.next_line();
+        turn = one_turn(classes, l.src, l.at, end, turn.skip, t, out, turn.made);
+        l = l.moved(turn.at);
     }
     Step {
         at: l.at,
@@ -182,8 +181,8 @@ pub fn consume(
 // The end of the input: a last line that lacks its line feed. Left free: the answer to an input with a line feed, which
 // `consume` never leaves, but that it fits; and, since the run ends here, the table and the bytes of the output behind
 // the answer, but for their lengths.
-pub fn finish(classes: &[u8; 256], input: &[u8], skip: bool, t: &mut [u8], out: &mut [u8]) -> usize
-    requires { Classes classes.now × (program_bytes ≤ length t.old) × (answer_room ≤ length out.old) }
+pub fn finish(classes: &ClassTable, input: &[u8], skip: bool, t: &mut [u8], out: &mut [u8]) -> usize
+    requires { (program_bytes ≤ length t.old) × (answer_room ≤ length out.old) }
     ensures { Finished input.now skip t.old out.new result }
 {
     if skip {

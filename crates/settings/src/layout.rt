@@ -5,7 +5,6 @@ ghost use Rattle.settings.specs.Legal.{Ranges};
 ghost use Rattle.settings.specs.Layout.{basic_blocks, overflow_blocks, layout_of};
 
 use crate::log::ceil_log2;
-use crate::refusal::Refusal;
 use crate::settings::{Settings, lists_of};
 
 // Blocks of one kind, one after the other: where block 0 begins, and the bits of a counter and of a
@@ -35,12 +34,6 @@ pub struct Layout {
     pub overflow: Blocks,
     pub bits: usize,
     pub bytes: usize,
-}
-
-#[derive(Clone, Copy)]
-pub enum Laid {
-    Layout(Layout),
-    Refused(Refusal),
 }
 
 fn wide(x: u32) -> usize
@@ -74,7 +67,7 @@ impl Blocks {
         let counter = ceil_log2(2 + s.sib);
         Blocks {
             start: ceil_log2(1 + s.nob),
-            counter: counter,
+            counter,
             bits: block_bits(counter, wide(s.sib), slot),
         }
     }
@@ -86,8 +79,8 @@ impl Blocks {
     {
         let counter = ceil_log2(1 + s.sio);
         Blocks {
-            start: start,
-            counter: counter,
+            start,
+            counter,
             bits: block_bits(counter + numbers, wide(s.sio), slot),
         }
     }
@@ -110,18 +103,18 @@ impl Layout {
         let overflow = Blocks::overflow(s, slot, link + wide(s.bii), behind);
         let bits = overflow.start + blocks_bits(nob, overflow.bits);
         Layout {
-            bie: bie,
-            val: val,
-            slot: slot,
+            bie,
+            val,
+            slot,
             sib: wide(s.sib),
-            nob: nob,
+            nob,
             sio: wide(s.sio),
             lists: lists as u32,
             owner: s.bii,
-            link: link,
-            basic: basic,
-            overflow: overflow,
-            bits: bits,
+            link,
+            basic,
+            overflow,
+            bits,
             bytes: (bits + 7) / 8,
         }
     }

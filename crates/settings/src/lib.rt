@@ -7,6 +7,6 @@ mod log;
 mod refusal;
 mod settings;
 
-pub use layout::{Blocks, Laid, Layout};
+pub use layout::{Blocks, Layout};
 pub use refusal::Refusal;
-pub use settings::{Made, Settings, Size};
+pub use settings::Settings;

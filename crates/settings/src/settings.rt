@@ -5,7 +5,7 @@ ghost use Rattle.settings.specs.Legal.{Ranges, in_ranges, fits, below_prime};
 ghost use Rattle.settings.specs.Layout.{layout_of};
 ghost use Rattle.settings.specs.Made.{made_of, size_of, laid_of};
 
-use crate::layout::{Laid, Layout};
+use crate::layout::Layout;
 use crate::refusal::Refusal;
 
 // The number of lists, 2^bii, and p, the smallest prime above it.
@@ -68,18 +68,6 @@ pub struct Settings {
     pub b: u32,
 }
 
-#[derive(Clone, Copy)]
-pub enum Made {
-    Settings(Settings),
-    Refused(Refusal),
-}
-
-#[derive(Clone, Copy)]
-pub enum Size {
-    Bytes(usize),
-    Refused(Refusal),
-}
-
 impl Settings {
     pub const W_MIN: u32 = 2;
 
@@ -102,50 +90,55 @@ impl Settings {
     pub const BYTES_MAX: usize = 16777216;
 
     // Settings, if they are legal.
-    pub fn new(w: u32, bii: u32, sib: u32, nob: u32, sio: u32, val: u32, a: u32, b: u32) -> Made
+    pub fn new(
+        w: u32,
+        bii: u32,
+        sib: u32,
+        nob: u32,
+        sio: u32,
+        val: u32,
+        a: u32,
+        b: u32,
+    ) -> Result<Settings, Refusal>
         ensures { result ≡ made_of (record { w = w; bii = bii; sib = sib; nob = nob; sio = sio; val = val; a = a; b = b }) }
     {
         let s = Settings {
-            w: w,
-            bii: bii,
-            sib: sib,
-            nob: nob,
-            sio: sio,
-            val: val,
-            a: a,
-            b: b,
+            w,
+            bii,
+            sib,
+            nob,
+            sio,
+            val,
+            a,
+            b,
         };
-        match s.layout() {
-            Laid::Layout(_) => Made::Settings(s),
-            Laid::Refused(why) => Made::Refused(why),
-        }
+        s.layout()?;
+        Ok(s)
     }
 
     // The bytes that the table needs.
-    pub fn size(self) -> Size
+    pub fn size(self) -> Result<usize, Refusal>
         ensures { result ≡ size_of self }
     {
-        match self.layout() {
-            Laid::Layout(g) => Size::Bytes(g.bytes),
-            Laid::Refused(why) => Size::Refused(why),
-        }
+        let g = self.layout()?;
+        Ok(g.bytes)
     }
 
     // The layout of the table's bits, if the settings are legal. Every call on a table starts with it.
-    pub fn layout(self) -> Laid
+    pub fn layout(self) -> Result<Layout, Refusal>
         ensures { result ≡ laid_of self }
     {
         if !self.in_ranges() {
-            return Laid::Refused(Refusal::Settings);
+            return Err(Refusal::Settings);
         }
         if !self.below_prime() {
-            return Laid::Refused(Refusal::Settings);
+            return Err(Refusal::Settings);
         }
         let g = Layout::of(self);
         if !self.keeps_rules(g) {
-            return Laid::Refused(Refusal::Settings);
+            return Err(Refusal::Settings);
         }
-        Laid::Layout(g)
+        Ok(g)
     }
 
     // The group at the end is for speed: with one comparison alone as its last part the whole would be compiled without

@@ -1,28 +1,15 @@
 -- Each call's answer as C's one struct, with the number and the values of each case. Code 0 is
 -- accepted.
-use Rattle.std.specs.Prelude.{ℕ}
+use Rattle.std.specs.Prelude.{ℕ, Bool, Err, None, Ok, false, true, ⊤}
 use Rattle.settings.specs.Refusal.{number_of}
 use Rattle.keys.specs.declared.Key.{Key}
 use Rattle.settings.specs.declared.refusal.Refusal.{Refusal}
-use Rattle.settings.specs.declared.settings.Size.{Size}
-use Rattle.settings.specs.declared.settings.Size.TheVariants as size
-use Rattle.table.specs.declared.answers.MakeAnswer.{MakeAnswer}
-use Rattle.table.specs.declared.answers.MakeAnswer.TheVariants as making
-use Rattle.table.specs.Answer.{word_number, no_key, values_of}
-use Rattle.table.specs.declared.answers.Answer as table
+use Rattle.table.specs.Answer.{word_number, no_key, values_of, RecordAnswer, recorded}
+use Rattle.table.specs.Answer as table
 use Rattle.table.specs.declared.answers.Word.TheVariants as word
-use Rattle.table.specs.declared.answers.RecordAnswer.{RecordAnswer}
-use Rattle.table.specs.declared.answers.RecordAnswer.TheVariants as recording
-use Rattle.table.specs.declared.answers.CheckAnswer.{CheckAnswer}
-use Rattle.table.specs.declared.answers.CheckAnswer.TheVariants as checking
-use Rattle.text_read.specs.declared.Parsed.{Parsed}
-use Rattle.text_read.specs.declared.Parsed.TheVariants as parsed
-use Rattle.text_write.specs.declared.Written.{Written}
-use Rattle.text_write.specs.declared.Written.TheVariants as out
 use Rattle.text_calls.specs.declared.calls.TextAnswer.{TextAnswer}
-use Rattle.text_sheet.specs.declared.PageAnswer.{PageAnswer}
-use Rattle.text_sheet.specs.declared.PageAnswer.TheVariants as paging
 use Rattle.shelfegret.specs.declared.Answer.{Answer}
+use Rattle.std.specs.declared.result.Result.{Result}
 
 -- clause 7.1: a refusal has its number, and 0 everywhere else
 abbrev pub refused_reply : Refusal → Answer
@@ -37,13 +24,13 @@ abbrev pub numbered : ℕ → Answer
 numbered n = record { code = 0; word = 0; key = no_key; label = 0; compared = 0; number = n }
 
 -- the table's bytes
-abbrev pub size_reply : Size → Answer
-size_reply (size.Bytes n) = numbered n
-size_reply (size.Refused why) = refused_reply why
+abbrev pub size_reply : Result ℕ Refusal → Answer
+size_reply (Ok n) = numbered n
+size_reply (Err why) = refused_reply why
 
-abbrev pub make_reply : MakeAnswer → Answer
-make_reply making.Made = numbered 0
-make_reply (making.Refused why) = refused_reply why
+abbrev pub make_reply : Result ⊤ Refusal → Answer
+make_reply (Ok done) = numbered 0
+make_reply (Err why) = refused_reply why
 
 -- find, enter, relabel and delete, for the key asked for; the number is that of the entry's slot
 abbrev pub answer_reply : Key → table.Answer → Answer
@@ -57,27 +44,27 @@ text_reply a = answer_reply a.key a.answer
 
 -- record and retrieve, clauses 6.9, 6.14, 6.18 and 6.19; the words 5 to 7 are theirs and check's
 abbrev pub record_reply : RecordAnswer → Answer
-record_reply (recording.Record key label) = saying 5 key label 0 0
-record_reply recording.None = saying (word_number word.None) no_key 0 0 0
-record_reply (recording.Refused why) = refused_reply why
+record_reply (Ok (Some r)) = saying 5 r.key r.label 0 0
+record_reply (Ok None) = saying (word_number word.None) no_key 0 0 0
+record_reply (Err why) = refused_reply why
 
 -- clause 6.10
-abbrev pub check_reply : CheckAnswer → Answer
-check_reply checking.Sound = saying 6 no_key 0 0 0
-check_reply checking.Unsound = saying 7 no_key 0 0 0
-check_reply (checking.Refused why) = refused_reply why
+abbrev pub check_reply : Result Bool Refusal → Answer
+check_reply (Ok true) = saying 6 no_key 0 0 0
+check_reply (Ok false) = saying 7 no_key 0 0 0
+check_reply (Err why) = refused_reply why
 
 -- the key read
-abbrev pub read_reply : Parsed → Answer
-read_reply (parsed.Key key) = saying 0 key 0 0 0
-read_reply (parsed.Refused why) = refused_reply why
+abbrev pub read_reply : Result Key Refusal → Answer
+read_reply (Ok key) = saying 0 key 0 0 0
+read_reply (Err why) = refused_reply why
 
 -- the text's length
-abbrev pub write_reply : Written → Answer
-write_reply (out.Length n) = numbered n
-write_reply (out.Refused why) = refused_reply why
+abbrev pub write_reply : Result ℕ Refusal → Answer
+write_reply (Ok n) = numbered n
+write_reply (Err why) = refused_reply why
 
 -- the bytes of a page
-abbrev pub page_reply : PageAnswer → Answer
-page_reply (paging.Bytes n) = numbered n
-page_reply (paging.Refused why) = refused_reply why
+abbrev pub page_reply : Result ℕ Refusal → Answer
+page_reply (Ok n) = numbered n
+page_reply (Err why) = refused_reply why

@@ -1,5 +1,5 @@
 -- The examples that are proved, in one list: section 11 of docs/SPECIFICATION.md, and others.
-use Rattle.std.specs.Prelude.{◌≡◌, refl, List, [], ◌∷◌, ◌++◌, ℕ, ◌+◌, ◌*◌, ◌%◌}
+use Rattle.std.specs.Prelude.{◌≡◌, refl, List, [], ◌∷◌, ◌++◌, ℕ, ◌+◌, ◌*◌, ◌%◌, Err, None, Ok}
 use Prim.Native.String.{String}
 use Rattle.settings.specs.Prime.{prime_above}
 use Rattle.keys.specs.Key.{hash}
@@ -10,14 +10,9 @@ use Rattle.settings.specs.declared.refusal.Refusal.TheVariants as refusal
 use Rattle.settings.specs.Reply.{reply}
 use Rattle.table.specs.Calls.{Verb, find, enter, relabel, delete, make_call, key_call, retrieve_call}
 use Rattle.table.specs.theory.Computing as tables
-use Rattle.table.specs.declared.answers.Answer.{Answer}
-use Rattle.table.specs.declared.answers.RecordAnswer.{RecordAnswer}
-use Rattle.table.specs.declared.answers.RecordAnswer.TheVariants as recording
-use Rattle.table.specs.Answer.{said}
-use Rattle.table.specs.declared.answers.Answer.TheVariants as answer
+use Rattle.table.specs.Answer.{said, RecordAnswer, recorded, Answer}
 use Rattle.table.specs.declared.answers.Word.TheVariants as word
 use Rattle.text_read.specs.Answers.{reading_of}
-use Rattle.text_read.specs.declared.Parsed.TheVariants as parsed
 use Rattle.text_write.specs.Ascii.{ascii}
 use Rattle.text_calls.specs.theory.Computing as texts
 
@@ -65,8 +60,8 @@ Holds (deletes t k u) = (key_call T t delete (key k)).bytes ≡ u
 Holds (retrieves t n r) = retrieve_call T t n ≡ r
 Holds (gives s t v k r u) = key_call s t v (key k) ≡ reply r u
 Holds (remainder_is s e r h) = ((s.a * e + s.b) % prime_above s.bii ≡ r) × (hash s e ≡ h)
-Holds (legal x k) = reading_of (ascii x) ≡ parsed.Key k
-Holds (not_legal x) = reading_of (ascii x) ≡ parsed.Refused refusal.Text
+Holds (legal x k) = reading_of (ascii x) ≡ Ok k
+Holds (not_legal x) = reading_of (ascii x) ≡ Err refusal.Text
 Holds (is_written x y) = texts.again (reading_of (ascii x)) ≡ ascii y
 
 abbrev pub All : List Claim → Type 0
@@ -111,34 +106,34 @@ of_tables =
     ∷ answers (enter_all new (1 ∷ 2 ∷ [])) (enter 0) 4 (said word.Added 0 2 4)
     ∷ enters three (5 ∷ []) four
     ∷ answers three (enter 0) 5 (said word.Added 0 3 5)
-    ∷ answers four (enter 0) 32 (answer.Refused refusal.NoBlock)
+    ∷ answers four (enter 0) 32 (Err refusal.NoBlock)
     ∷ answers four (enter 0) 0 (said word.Added 0 0 2)
     ∷ enters four (0 ∷ []) five
     ∷ deletes four 1 after_delete
     ∷ answers after_delete find 4 (said word.Held 0 3 4)
     ∷ answers after_delete find 5 (said word.Held 0 1 0)
     -- a key that is held: refusal 12 comes before 8, and before the free chain is looked at
-    ∷ answers four (enter 0) 4 (answer.Refused refusal.Known)
-    ∷ answers broken (enter 0) 4 (answer.Refused refusal.Known)
-    ∷ answers broken (enter 0) 5 (answer.Refused refusal.Damage)
+    ∷ answers four (enter 0) 4 (Err refusal.Known)
+    ∷ answers broken (enter 0) 4 (Err refusal.Known)
+    ∷ answers broken (enter 0) 5 (Err refusal.Damage)
     ∷ []
 
 -- slots 0 to 3 are those of the basic blocks, 4 and 5 those of the overflow blocks
 abbrev pub of_slots : List Claim
 of_slots =
-    retrieves five 0 (recording.Record (key 1) 0)
-    ∷ retrieves five 1 (recording.Record (key 2) 0)
-    ∷ retrieves five 2 (recording.Record (key 0) 0)
-    ∷ retrieves five 3 recording.None
-    ∷ retrieves five 4 (recording.Record (key 4) 0)
-    ∷ retrieves five 5 (recording.Record (key 5) 0)
-    ∷ retrieves five 6 (recording.Refused refusal.Slot)
+    retrieves five 0 (recorded (key 1) 0)
+    ∷ retrieves five 1 (recorded (key 2) 0)
+    ∷ retrieves five 2 (recorded (key 0) 0)
+    ∷ retrieves five 3 (Ok None)
+    ∷ retrieves five 4 (recorded (key 4) 0)
+    ∷ retrieves five 5 (recorded (key 5) 0)
+    ∷ retrieves five 6 (Err refusal.Slot)
     -- a block that is free
-    ∷ retrieves three 5 recording.None
+    ∷ retrieves three 5 (Ok None)
     -- a block with another list's number is damage where it is followed; the list that it names does not contain it
-    ∷ answers strange find 1 (answer.Refused refusal.Damage)
-    ∷ retrieves strange 4 (recording.Refused refusal.Damage)
-    ∷ retrieves strange 5 recording.None
+    ∷ answers strange find 1 (Err refusal.Damage)
+    ∷ retrieves strange 4 (Err refusal.Damage)
+    ∷ retrieves strange 5 (Ok None)
     ∷ []
 
 -- a link has three bits, and a slot an entry of two and a label of two: of the slot of a basic block that overflows, the entry and the label's first

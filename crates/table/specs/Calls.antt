@@ -1,6 +1,6 @@
 -- Sections 6 and 7 of docs/SPECIFICATION.md: what each call answers and leaves in the lent bytes, for any settings, key, label, number and bytes. A
 -- call's refusals stand in their order (clause 7.3).
-use Rattle.std.specs.Prelude.{ℕ, cond, not, List, [], ◌∷◌, length, leb, ltb}
+use Rattle.std.specs.Prelude.{ℕ, cond, not, List, [], ◌∷◌, length, leb, ltb, Bool, Err, Ok, false, true, ⊤}
 use Rattle.settings.specs.declared.settings.Settings.{Settings}
 use Rattle.settings.specs.declared.layout.Layout.{Layout}
 use Rattle.keys.specs.declared.Key.{Key}
@@ -21,14 +21,9 @@ use Rattle.table.specs.Record.{record_in}
 use Rattle.table.specs.Numbers.{capacity}
 use Rattle.table.specs.Retrieve.{retrieve_in}
 use Rattle.table.specs.Check.{table_sound, mark_bytes, marks_after}
-use Rattle.table.specs.declared.answers.Answer.{Answer}
-use Rattle.table.specs.declared.answers.Answer.TheVariants as answer
-use Rattle.table.specs.declared.answers.MakeAnswer.{MakeAnswer}
-use Rattle.table.specs.declared.answers.MakeAnswer.TheVariants as making
-use Rattle.table.specs.declared.answers.RecordAnswer.{RecordAnswer}
-use Rattle.table.specs.declared.answers.RecordAnswer.TheVariants as recording
-use Rattle.table.specs.declared.answers.CheckAnswer.{CheckAnswer}
-use Rattle.table.specs.declared.answers.CheckAnswer.TheVariants as checking
+use Rattle.std.specs.declared.result.Result.{Result}
+use Rattle.settings.specs.declared.refusal.Refusal.{Refusal}
+use Rattle.table.specs.Answer.{RecordAnswer, Answer}
 
 -- what is asked of a key; the number is a label
 pub data Verb : Type 0 where
@@ -56,27 +51,27 @@ module _ (s : Settings) (t : List ℕ) where
   abbrev pub held : State
   held = decode (layout_of s) t
 
-  unfoldable pub make_call : Reply MakeAnswer
-  make_call = called making.Refused t (settings_due s ∷ short_due s (length t) ∷ []) (reply making.Made (new_bytes (layout_of s) t))
+  unfoldable pub make_call : Reply (Result ⊤ Refusal)
+  make_call = called Err t (settings_due s ∷ short_due s (length t) ∷ []) (reply (Ok tt) (new_bytes (layout_of s) t))
 
   -- find, enter, relabel and delete with the key k
   unfoldable pub key_call : Verb → Key → Reply Answer
   key_call v k =
-      called answer.Refused t (settings_due s ∷ short_due s (length t) ∷ key_due s (key_number k) ∷ verb_due s v)
+      called Err t (settings_due s ∷ short_due s (length t) ∷ key_due s (key_number k) ∷ verb_due s v)
       (replied (layout_of s) t (list_call (layout_of s) held (list_number s (key_number k)) (entry s (key_number k)) v))
 
   unfoldable pub record_call : ℕ → RecordAnswer
-  record_call n = unless_due (settings_due s ∷ short_due s (length t) ∷ []) recording.Refused (record_in s held n)
+  record_call n = unless_due (settings_due s ∷ short_due s (length t) ∷ []) Err (record_in s held n)
 
   -- 14: a number that no slot has
   unfoldable pub retrieve_call : ℕ → RecordAnswer
   retrieve_call n =
       unless_due (settings_due s ∷ short_due s (length t) ∷ due (not (ltb n (capacity (layout_of s)))) refusal.Slot ∷ [])
-      recording.Refused (retrieve_in s held n)
+      Err (retrieve_in s held n)
 
   -- 10: too few marks. The lent bytes that are written are the marks (clause 6.11)
-  unfoldable pub check_call : List ℕ → Reply CheckAnswer
+  unfoldable pub check_call : List ℕ → Reply (Result Bool Refusal)
   check_call m =
-      called checking.Refused m
+      called Err m
       (settings_due s ∷ short_due s (length t) ∷ due (not (leb (mark_bytes (layout_of s)) (length m))) refusal.Marks ∷ [])
-      (reply (cond (table_sound (layout_of s) t) checking.Sound checking.Unsound) (marks_after (layout_of s) m))
+      (reply (cond (table_sound (layout_of s) t) (Ok true) (Ok false)) (marks_after (layout_of s) m))

@@ -1,5 +1,5 @@
 -- Clauses 6.7 and 6.8: delete.
-use Rattle.std.specs.Prelude.{ℕ, ◌-◌, Bool, false, cond, List, [], ◌∷◌, length, get_or, set, ltb}
+use Rattle.std.specs.Prelude.{ℕ, ◌-◌, Bool, false, cond, List, [], ◌∷◌, length, get_or, set, ltb, Err}
 use Rattle.std.proofs.Math.Option.{Option, none, some}
 use Rattle.settings.specs.declared.layout.Layout.{Layout}
 use Rattle.settings.specs.declared.refusal.Refusal.TheVariants as refusal
@@ -13,7 +13,6 @@ use Rattle.table.specs.Store.{store_at}
 use Rattle.table.specs.declared.step.Before.{Before}
 use Rattle.table.specs.declared.step.Before.TheVariants as prior
 use Rattle.table.specs.Answer.{said}
-use Rattle.table.specs.declared.answers.Answer.TheVariants as answer
 use Rattle.table.specs.declared.answers.Word.TheVariants as word
 
 -- the last slot of an overflow block off, and zeroed
@@ -58,7 +57,7 @@ module _ (g : Layout) where
       shrink (store_at g st i v.blocks p (get_or es (length es - 1) 0)) i v.blocks
 
   unfoldable pub delete_followed : State → ℕ → ℕ → Option Content → Answered
-  delete_followed st i e none = unchanged (answer.Refused refusal.Damage)
+  delete_followed st i e none = unchanged (Err refusal.Damage)
   delete_followed st i e (some v) =
       let es = v.slots in
       cond (is_held g e es) (answered (said word.Gone (label_at g e es) (compared_in g e es) 0) (take_out st i v (position g e es)))

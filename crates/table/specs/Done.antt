@@ -1,13 +1,12 @@
 -- How a change of the table ends, and what the call answers then.
-use Rattle.std.specs.Prelude.{List, ℕ}
+use Rattle.std.specs.Prelude.{List, ℕ, Err}
 use Rattle.std.proofs.Math.Option.{Option, none, some}
 use Rattle.settings.specs.declared.refusal.Refusal.TheVariants as refusal
 use Rattle.settings.specs.declared.layout.Layout.{Layout}
 use Rattle.settings.specs.Reply.{Reply, reply}
 use Rattle.table.specs.State.{State}
 use Rattle.table.specs.Decode.{written}
-use Rattle.table.specs.declared.answers.Answer.{Answer}
-use Rattle.table.specs.declared.answers.Answer.TheVariants as answer
+use Rattle.table.specs.Answer.{Answer}
 
 pub data Done : Type 0 where
   damage : Done
@@ -25,8 +24,8 @@ unchanged a = record { answer = a; after = none }
 
 -- the answer a to a change, if it was done
 abbrev pub answered : Answer → Done → Answered
-answered a damage = unchanged (answer.Refused refusal.Damage)
-answered a no_block = unchanged (answer.Refused refusal.NoBlock)
+answered a damage = unchanged (Err refusal.Damage)
+answered a no_block = unchanged (Err refusal.NoBlock)
 answered a (done st) = record { answer = a; after = some st }
 
 -- the bytes t with a state in them, if it is another

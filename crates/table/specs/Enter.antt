@@ -1,5 +1,5 @@
 -- Clauses 6.5 and 6.6: enter.
-use Rattle.std.specs.Prelude.{ℕ, suc, cond, List, [], ◌∷◌, ◌++◌, length, set, ltb}
+use Rattle.std.specs.Prelude.{ℕ, suc, cond, List, [], ◌∷◌, ◌++◌, length, set, ltb, Err}
 use Rattle.std.proofs.Math.Option.{Option, none, some}
 use Rattle.settings.specs.declared.layout.Layout.{Layout}
 use Rattle.settings.specs.declared.refusal.Refusal.TheVariants as refusal
@@ -11,7 +11,6 @@ use Rattle.table.specs.Find.{is_held, compared_in}
 use Rattle.table.specs.Done.{Done, done, Answered, unchanged, answered}
 use Rattle.table.specs.Take.{next_free, taking, taken}
 use Rattle.table.specs.Answer.{said}
-use Rattle.table.specs.declared.answers.Answer.TheVariants as answer
 use Rattle.table.specs.declared.answers.Word.TheVariants as word
 
 -- the slot x more in an overflow block: its counter is one less than its entries
@@ -47,9 +46,9 @@ module _ (g : Layout) where
 
   -- an entry that is held is refused before the free chain is looked at
   unfoldable pub enter_followed : State → ℕ → ℕ → ℕ → Option Content → Answered
-  enter_followed st i e label none = unchanged (answer.Refused refusal.Damage)
+  enter_followed st i e label none = unchanged (Err refusal.Damage)
   enter_followed st i e label (some v) =
-      cond (is_held g e v.slots) (unchanged (answer.Refused refusal.Known))
+      cond (is_held g e v.slots) (unchanged (Err refusal.Known))
       (answered (said word.Added label (compared_in g e v.slots) (end_number st i v)) (append st i v.blocks (slot_of g e label)))
 
   -- enter of the entry e with a label in list i

@@ -1,14 +1,12 @@
 -- Clauses 6.3 and 6.4: an entry in a list's slots, and find.
-use Rattle.std.specs.Prelude.{ℕ, suc, Bool, cond, List, [], ◌∷◌, length, get_or, eqb, ltb}
+use Rattle.std.specs.Prelude.{ℕ, suc, Bool, cond, List, [], ◌∷◌, length, get_or, eqb, ltb, Err}
 use Rattle.std.proofs.Math.Option.{Option, none, some}
 use Rattle.settings.specs.declared.layout.Layout.{Layout}
 use Rattle.settings.specs.declared.refusal.Refusal.TheVariants as refusal
 use Rattle.table.specs.State.{State, entry_of, label_of}
 use Rattle.table.specs.Follow.{Content, content}
 use Rattle.table.specs.Numbers.{slot_number}
-use Rattle.table.specs.declared.answers.Answer.{Answer}
-use Rattle.table.specs.Answer.{said}
-use Rattle.table.specs.declared.answers.Answer.TheVariants as answer
+use Rattle.table.specs.Answer.{said, Answer}
 use Rattle.table.specs.declared.answers.Word.TheVariants as word
 
 module _ (g : Layout) where
@@ -34,7 +32,7 @@ module _ (g : Layout) where
 
   -- clause 6.4
   unfoldable pub find_followed : ℕ → ℕ → Option Content → Answer
-  find_followed i e none = answer.Refused refusal.Damage
+  find_followed i e none = Err refusal.Damage
   find_followed i e (some v) =
       let es = v.slots in
       cond (is_held e es) (said word.Held (label_at e es) (compared_in e es) (number_at i e v)) (said word.None 0 (compared_in e es) 0)

@@ -13,3 +13,4 @@ pub mod Computing
 pub mod Ways
 pub mod Opened
 pub mod Positions
+pub mod Answers

@@ -1,12 +1,5 @@
-// What the calls on a table answer: a word with its values, or a refusal.
+// What the calls on a table answer, if they are not refused.
 use keys::Key;
-use settings::Refusal;
-
-#[derive(Clone, Copy)]
-pub enum MakeAnswer {
-    Made,
-    Refused(Refusal),
-}
 
 // The five words.
 #[derive(Clone, Copy)]
@@ -18,30 +11,19 @@ pub enum Word {
     Relabelled,
 }
 
-// What find, enter, relabel and delete answer; slot is the number of the entry's slot, 0 with "none" and "gone". The word stands
+// What find, enter, relabel and delete say; slot is the number of the entry's slot, 0 with "none" and "gone". The word stands
 // between two numbers, so that nobody copies both at once: such a load would wait until both have reached the cache.
 #[derive(Clone, Copy)]
-pub enum Answer {
-    Said {
-        label: u32,
-        word: Word,
-        compared: u32,
-        slot: u64,
-    },
-    Refused(Refusal),
+pub struct Said {
+    pub label: u32,
+    pub word: Word,
+    pub compared: u32,
+    pub slot: u64,
 }
 
-// What record and retrieve answer.
+// What record and retrieve find.
 #[derive(Clone, Copy)]
-pub enum RecordAnswer {
-    Record { key: Key, label: u32 },
-    None,
-    Refused(Refusal),
-}
-
-#[derive(Clone, Copy)]
-pub enum CheckAnswer {
-    Sound,
-    Unsound,
-    Refused(Refusal),
+pub struct Record {
+    pub key: Key,
+    pub label: u32,
 }

@@ -5,6 +5,6 @@ mod answers;
 mod damage;
 mod step;
 
-pub use answers::{Answer, CheckAnswer, MakeAnswer, RecordAnswer, Word};
+pub use answers::{Record, Said, Word};
 pub use damage::Damage;
 pub use step::{Before, Step};

@@ -1,7 +1,7 @@
 // Along a list: what an overflow block says of the way on, and what stands before the last.
 use keys::BlockNumber;
 
-// One step along a list.
+// One step along a list. Three cases, and no Option or Result has three: one in the other would be a tag inside a tag.
 #[derive(Clone, Copy)]
 pub enum Step {
     Last,

@@ -23,7 +23,7 @@ use Rattle.table.specs.Take.{occurs}
 use Rattle.table.specs.Check.{blocks_of, overflow_unused, no_entry_twice, list_sound}
 use Rattle.table_read.specs.Steps.{last_from}
 use Rattle.table_read.specs.theory.Walks.{damaged, owns}
-use Rattle.table_check.specs.Walk.{found, way_on, walk}
+use Rattle.table_check.specs.Walk.{found, list_step, walk}
 use Rattle.table_check.specs.Lists.{provided, and_then, short_sound, long_apart, list_walk, lists_walk}
 use Rattle.table_check.proofs.Marks.{Marks, marks_as, walk_passed, Some, Begins, trail_begins, walk_completes}
 use Rattle.table_check.proofs.Trails.{keep, kept, keeps, list_trail}
@@ -87,22 +87,22 @@ module _ (g : Layout) (os : List Overflow) (full : (b : ℕ) → b < g.nob → l
       record { sound = f.test; marks = rw f.same at (marks_as g.nob c (λ j. c j + occurs j []) m (λ j. omega arith) k) }))
       (λ p. cases (eqb b.counter (suc g.sib))
       (λ q. rw (p, q) (λ e.
-      let f = provided_some (long_apart g os i b) (walk g (way_on g os false i) g.nob b.head m) after e in
-      let w = walk_passed g (way_on g os false i) after g.nob b.head c m k f.same in
+      let f = provided_some (long_apart g os i b) (walk g (list_step g os i) g.nob b.head m) after e in
+      let w = walk_passed g (list_step g os i) after g.nob b.head c m k f.same in
       let t = kept (overflow_unused g os) w.blocks (own_blocks i os (follow g g.nob os b.head)) (sym (list_trail g os i full g.nob b.head) ∙ w.are) in
-      let r = over_passed b c after w.blocks f.test t.is (trail_begins g (way_on g os false i) g.nob b.head w.blocks w.are) t.pass w.marks in
+      let r = over_passed b c after w.blocks f.test t.is (trail_begins g (list_step g os i) g.nob b.head w.blocks w.are) t.pass w.marks in
       rw t.is r))
       (λ q. rw (p, q) (λ e. nothing e)))
 
   over_completes : (b : Basic) (c : ℕ → ℕ) (m : List ℕ) → Marks g.nob c m → (o : Option (List ℕ)) → own_blocks i os (follow g g.nob os b.head) ≡ o
       → ((j : ℕ) → j < g.nob → c j + occurs j (blocks_of (content_over g b os o)) ≤ 1) → list_sound g b os (content_over g b os o) ≡ true
-      → Some (provided (long_apart g os i b) (walk g (way_on g os false i) g.nob b.head m))
+      → Some (provided (long_apart g os i b) (walk g (list_step g os i) g.nob b.head m))
   over_completes b c m k none w few h = never h
   over_completes b c m k (some []) w few h = never h
   over_completes b c m k (some (x ∷ xs)) w few h =
       let s = both_true (every (overflow_unused g os) (x ∷ xs)) (no_entry_twice g (unpack g (overflow_at os (last_of x xs)).link b.rest ++ gather g os (x ∷ xs))) h in
       let t = list_trail g os i full g.nob b.head ∙ ap (keep (overflow_unused g os)) w ∙ keeps (overflow_unused g os) (x ∷ xs) s.0 in
-      let f = walk_completes g (way_on g os false i) g.nob b.head c m (x ∷ xs) k few t in
+      let f = walk_completes g (list_step g os i) g.nob b.head c m (x ∷ xs) k few t in
       record { value = f.value; is = rw (f.is, long_is b x xs w ∙ s.1) }
 
   list_completes : (b : Basic) (c : ℕ → ℕ) (m : List ℕ) → Marks g.nob c m
@@ -171,7 +171,7 @@ module _ (g : Layout) (os : List Overflow) (i : ℕ) where
   list_high b m h f = rw (le-ltb b.counter (suc g.sib) (omega arith), ne_eqb b.counter (suc g.sib) f)
 
   pub list_over : (b : Basic) (m : List ℕ) → b.counter ≡ suc g.sib
-      → list_walk g os i b m ≡ provided (long_apart g os i b) (walk g (way_on g os false i) g.nob b.head m)
+      → list_walk g os i b m ≡ provided (long_apart g os i b) (walk g (list_step g os i) g.nob b.head m)
   unfolding list_walk
   list_over b m e = rw (le-ltb b.counter (suc g.sib) (omega arith), eq-eqb b.counter (suc g.sib) e)
 

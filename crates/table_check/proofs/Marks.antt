@@ -40,10 +40,11 @@ module _ (g : Layout) (step : ℕ → Step) where
   walk_met zero b m h = refl
   walk_met (suc n) b m h = cases (ltb b g.nob) (λ p. rw (p, eq-eqb (field m b 1) 1 h)) (λ p. rw p)
 
-  pub walk_on : (n k b : ℕ) (m : List ℕ) (s : Step) → n ≡ suc k → b < g.nob → (field m b 1 ≡ 1 → ⊥) → step b ≡ s
-      → walk g step n b m ≡ go_on s (put_field m b 1 1) (λ c. walk g step k c (put_field m b 1 1))
+  -- a turn, which leaves k more: r is the mark that was read, u the marks with the new one, s what the block says
+  pub walk_on : (n k b : ℕ) (m u : List ℕ) (r : ℕ) (s : Step) → n ≡ suc k → b < g.nob → r ≡ field m b 1 → (r ≡ 1 → ⊥) → u ≡ put_field m b 1 1 → step b ≡ s
+      → walk g step n b m ≡ go_on s u (λ c. walk g step k c u)
   unfolding walk
-  walk_on n k b m s h l f e = rw h (rw (lt-ltb b g.nob l, ne_eqb (field m b 1) 1 f, e))
+  walk_on n k b m u r s h l e f w q = rw (h, w) (rw (lt-ltb b g.nob l, ne_eqb (field m b 1) 1 (λ p. f (e ∙ p)), q))
 
 -- ---- the blocks that a walk passes
 

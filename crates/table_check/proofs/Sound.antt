@@ -20,7 +20,7 @@ use Rattle.table.specs.Table.{Table}
 use Rattle.table.specs.Take.{occurs}
 use Rattle.table.specs.Check.{free_zero, free_chain, chain_from, chain_sound, lists_sound, occurs_in_lists, state_sound, fill_zero, table_sound}
 use Rattle.table_read.specs.theory.Reads.{sized}
-use Rattle.table_check.specs.Walk.{way_on}
+use Rattle.table_check.specs.Walk.{chain_step}
 use Rattle.table_check.specs.Lists.{and_then, lists_walk, chain_walk, all_marked, sound_walk}
 use Rattle.table_check.specs.Answers.{Clear}
 use Rattle.table_check.proofs.Marks.{Marks, marks_as, walk_passed, walk_completes, Some}
@@ -48,7 +48,7 @@ chain_passed g st c m after k =
       marks = rw q at (marks_as g.nob c (λ j. c j + occurs j []) m (λ j. omega arith) k);
     }))
     (λ p. rw p (λ e.
-    let w = walk_passed g (way_on g st.overflow true 0) after g.nob st.free c m k e in
+    let w = walk_passed g (chain_step g st.overflow) after g.nob st.free c m k e in
     let t = kept (free_zero g st.overflow) w.blocks (chain_from g g.nob st.overflow st.free) (sym (chain_trail g st.overflow g.nob st.free) ∙ w.are) in
     record { blocks = w.blocks; are = rw p t.is; pass = t.pass; marks = w.marks }))
 
@@ -59,7 +59,7 @@ chain_completes g st c m fs k few u =
     cases (eqb st.free g.nob)
     (λ p. rw p (λ e. record { value = m; is = refl }))
     (λ p. rw p (λ e.
-    walk_completes g (way_on g st.overflow true 0) g.nob st.free c m fs k few
+    walk_completes g (chain_step g st.overflow) g.nob st.free c m fs k few
     (chain_trail g st.overflow g.nob st.free ∙ ap (keep (free_zero g st.overflow)) e ∙ keeps (free_zero g st.overflow) fs u)))
 
 -- ---- both

@@ -15,7 +15,7 @@ use Rattle.settings.specs.declared.layout.Layout.{Layout}
 use Rattle.table.specs.State.{Overflow, overflow_at}
 use Rattle.table.specs.Follow.{cons?, follow, go_on, is_own, own_blocks, step_at}
 use Rattle.table.specs.Check.{overflow_unused, free_zero, chain_from}
-use Rattle.table_check.specs.Walk.{list_step, chain_step, tested, way_on}
+use Rattle.table_check.specs.Walk.{list_step, chain_step, tested}
 use Rattle.table_check.proofs.Marks.{trail, blocks_on}
 use Rattle.table.specs.theory.Ways.{Way, ends, goes, breaks, way}
 use Rattle.table.specs.declared.step.Step.{Step}
@@ -78,22 +78,22 @@ module _ (g : Layout) (os : List Overflow) where
     step_trail n b h trace ih Damage (breaks l) = cases (is_own i os b) (λ o. rw o) (λ o. rw o)
 
     own_trail : ((b : ℕ) → b < g.nob → length (overflow_at os b).slots ≡ g.sio) → (n b : ℕ)
-        → trail g (way_on g os false i) n b ≡ keep (overflow_unused g os) (keep (is_own i os) (follow g n os b))
-    unfolding trail way_on list_step
+        → trail g (list_step g os i) n b ≡ keep (overflow_unused g os) (keep (is_own i os) (follow g n os b))
+    unfolding trail list_step
     own_trail full zero b = refl
     own_trail full (suc n) b =
         cases (ltb b g.nob)
         (λ p. rw p
-        (step_trail n b (full b (ltb-true b g.nob p)) (trail g (way_on g os false i) n) (own_trail full n) (step_at g os b)
+        (step_trail n b (full b (ltb-true b g.nob p)) (trail g (list_step g os i) n) (own_trail full n) (step_at g os b)
         (way g.sio (overflow_at os b).counter (overflow_at os b).link)))
         (λ p. rw p)
 
     pub list_trail : ((b : ℕ) → b < g.nob → length (overflow_at os b).slots ≡ g.sio) → (n b : ℕ)
-        → trail g (way_on g os false i) n b ≡ keep (overflow_unused g os) (own_blocks i os (follow g n os b))
+        → trail g (list_step g os i) n b ≡ keep (overflow_unused g os) (own_blocks i os (follow g n os b))
     list_trail full n b = own_trail full n b ∙ ap (keep (overflow_unused g os)) (own_keep (follow g n os b))
 
-  pub chain_trail : (n b : ℕ) → trail g (way_on g os true 0) n b ≡ keep (free_zero g os) (chain_from g n os b)
-  unfolding trail way_on chain_step
+  pub chain_trail : (n b : ℕ) → trail g (chain_step g os) n b ≡ keep (free_zero g os) (chain_from g n os b)
+  unfolding trail chain_step
   chain_trail zero b = refl
   chain_trail (suc n) b =
       cases (ltb b g.nob)

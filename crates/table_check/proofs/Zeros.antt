@@ -9,7 +9,8 @@ use lib.ListN.{length, drop}
 use lib.Pow.{pow_pos}
 use lib.Dec.{eqb}
 use borrow.Author.Tests.{eq-eqb, ne_eqb}
-use Rattle.laws.specs.Folds.{all_zero}
+use Rattle.std.specs.List.{list_all, range_with_len}
+use Rattle.laws.specs.Folds.{all_zero, every_below}
 use Rattle.bits.specs.Field.{field}
 use Rattle.bits.specs.theory.Fields.{field_cat, sub_field}
 use Rattle.settings.specs.declared.layout.Layout.{Layout}
@@ -30,8 +31,8 @@ zero_part s off w a n b e z =
     ∙ ap (λ (x : ℕ). x % 2 ^ n) (zero-div (2 ^ b))
     ∙ zero-mod (2 ^ n)
 
-pub zero_more : (s : List ℕ) (off a n : ℕ) → field s off a ≡ 0 → field s (off + a) n ≡ 0 → field s off (a + n) ≡ 0
-zero_more s off a n p q = field_cat s off a n ∙ ap₂ (λ (x y : ℕ). x * 2 ^ n + y) p q ∙ omega arith
+pub zero_more : (s : List ℕ) (off a n b : ℕ) → b ≡ a + n → field s off a ≡ 0 → field s (off + a) n ≡ 0 → field s off b ≡ 0
+zero_more s off a n b e p q = rw (e, field_cat s off a n, p, q) (omega arith)
 
 -- ---- slots in a row
 
@@ -98,3 +99,12 @@ module _ (g : Layout) (t : List ℕ) (T : Table g t) where
   basic_zeros i c h =
       ap (λ (es : List ℕ). all_zero (drop c es)) (own_slots_lem i h)
       ∙ zero_from t g.slot g.sib (basic_slots g i) c
+
+-- ---- a test of each number in a range
+
+pub all_in_range : (f q : ℕ → Bool) (a n : ℕ) → ((i : ℕ) → f (a + i) ≡ q i) → list_all f (range_with_len a n) ≡ every_below n q
+all_in_range f q a zero h = refl
+all_in_range f q a (suc n) h =
+    let e : a ≡ a + 0 = omega arith in
+    ap₂ ◌&&◌ (ap f e ∙ h 0)
+    (all_in_range f (λ i. q (suc i)) (a + 1) n (λ i. let w : a + 1 + i ≡ a + suc i = omega arith in ap f w ∙ h (suc i)))

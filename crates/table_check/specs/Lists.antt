@@ -1,5 +1,5 @@
 -- The lists one by one, and the free chain, with the marks m before them: the marks afterwards, or none where the table is not sound.
-use Rattle.std.specs.Prelude.{ℕ, zero, suc, Bool, true, false, cond, ◌&&◌, List, [], ◌++◌, take, eqb, ltb}
+use Rattle.std.specs.Prelude.{ℕ, zero, suc, Bool, false, cond, ◌&&◌, List, [], ◌++◌, take, eqb, ltb}
 use Rattle.std.proofs.Math.Option.{Option, none, some}
 use Rattle.laws.specs.Folds.{every_below}
 use Rattle.bits.specs.Field.{field}
@@ -7,7 +7,7 @@ use Rattle.settings.specs.declared.layout.Layout.{Layout}
 use Rattle.table.specs.State.{Basic, Overflow, State, basic_at, overflow_at, unpack, own_slots}
 use Rattle.table.specs.Check.{basic_unused, no_entry_twice}
 use Rattle.table_read.specs.Steps.{last_from}
-use Rattle.table_check.specs.Walk.{found, way_on, walk}
+use Rattle.table_check.specs.Walk.{found, list_step, chain_step, walk}
 use Rattle.table_check.specs.Entries.{slots_from}
 
 -- the marks, if there are any and the test passes
@@ -37,7 +37,7 @@ module _ (g : Layout) where
   list_walk os i b m =
       cond (ltb b.counter (suc g.sib))
       (found (short_sound b) m)
-      (cond (eqb b.counter (suc g.sib)) (provided (long_apart os i b) (walk g (way_on g os false i) g.nob b.head m)) none)
+      (cond (eqb b.counter (suc g.sib)) (provided (long_apart os i b) (walk g (list_step g os i) g.nob b.head m)) none)
 
   -- the first n lists
   unfoldable pub lists_walk : State → ℕ → List ℕ → Option (List ℕ)
@@ -45,7 +45,7 @@ module _ (g : Layout) where
   lists_walk st (suc n) m = and_then (lists_walk st n m) (list_walk st.overflow n (basic_at st.basic n))
 
   unfoldable pub chain_walk : State → List ℕ → Option (List ℕ)
-  chain_walk st m = cond (eqb st.free g.nob) (some m) (walk g (way_on g st.overflow true 0) g.nob st.free m)
+  chain_walk st m = cond (eqb st.free g.nob) (some m) (walk g (chain_step g st.overflow) g.nob st.free m)
 
   -- every overflow block exactly once: every block has a mark
   abbrev pub all_marked : Option (List ℕ) → Bool

@@ -30,10 +30,6 @@ module _ (g : Layout) where
   unfoldable pub chain_step : List Overflow → ℕ → Step
   chain_step os b = cond (free_zero g os b) (cond (eqb (overflow_at os b).link b) Last (further (overflow_at os b).link)) Damage
 
-  -- in the free chain, or in list i
-  unfoldable pub way_on : List Overflow → Bool → ℕ → ℕ → Step
-  way_on os chain i b = cond chain (chain_step os b) (list_step os i b)
-
   -- the marks m once the blocks from b on are marked, at most n of them; none where a block is no block, is marked already or is damaged
   unfoldable pub walk : (ℕ → Step) → ℕ → ℕ → List ℕ → Option (List ℕ)
   walk step zero b m = none

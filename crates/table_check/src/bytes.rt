@@ -3,20 +3,16 @@ ghost use Rattle.std.specs.Prelude.{◌≡◌, ◌+◌, ◌-◌, ◌*◌, ◌^�
 ghost use Rattle.laws.specs.Folds.{every_below};
 ghost use Rattle.bits.specs.Field.{field};
 
-use table_read::slots::least;
-
 // Whether the n bits from bit at on are zero, 64 of them at a time.
 pub(crate) fn zeros(t: &[u8], at: usize, n: usize) -> bool
     requires { (at + n ≤ 8 * length t.now) × (at + n ≤ 2 ^ 28) }
     ensures { result ≡ eqb (field t.now at n) 0 }
 {
-    let mut done: usize = 0;
-    while done < n {
-        let m = least(n - done, 64);
-        if bits::get(t, at + done, m) != 0 {
+    for k in (0..n).step_by(64) {
+        let m = (n - k).min(64);
+        if bits::get(t, at + k, m) != 0 {
             return false;
         }
-        done += m;
     }
     true
 }
@@ -34,12 +30,5 @@ pub(crate) fn all_marked(s: &[u8], n: usize) -> bool
     requires { (n ≤ 8 * length s.now) × (n ≤ 2 ^ 28) }
     ensures { result ≡ every_below n (λ j. eqb (field s.now j 1) 1) }
 {
-    let mut j: usize = 0;
-    while j < n {
-        if bits::get(s, j, 1) != 1 {
-            return false;
-        }
-        j += 1;
-    }
-    true
+    (0..n).all(|j| bits::get(s, j, 1) == 1)
 }

@@ -17,7 +17,7 @@ use settings::Layout;
 use table::Step;
 use table_read::blocks::{overflow_front, step_of};
 use table_read::lists::overflow_run;
-use table_read::slots::{Slots, entry_at, least, scan, scan_displaced};
+use table_read::slots::{Slots, entry_at, scan, scan_displaced};
 
 // The same as `entry_at`, with a way of its own for entries behind the displaced bits, as most are. It serves one loop, and
 // is inlined there.
@@ -49,21 +49,10 @@ fn scan_run(t: &[u8], b: Slots, count: usize, slot: usize, bie: usize, entry: Ke
     if count == 0 {
         return SlotNumber(0);
     }
+    let first = Slots { count, ..b };
     if b.displaced == 0 {
-        let first = Slots {
-            start: b.start,
-            count,
-            displaced: 0,
-            value: 0,
-        };
         return scan(&t[..], first, count, slot, bie, entry);
     }
-    let first = Slots {
-        start: b.start,
-        count,
-        displaced: b.displaced,
-        value: b.value,
-    };
     scan_displaced(&t[..], first, slot, bie, entry.high, entry.low)
 }
 
@@ -72,7 +61,7 @@ fn run_of(g: Layout, b: BlockNumber, c: usize) -> Slots
     requires { Proper g × (b.0 < g.nob) }
     ensures { result ≡ run_of g b.0 c }
 {
-    overflow_run(g, b, least(c, g.sio))
+    overflow_run(g, b, c.min(g.sio))
 }
 
 // Whether the entry stands in the blocks from first on, of which at most `most` are followed.
@@ -81,8 +70,7 @@ fn held_from(t: &[u8], g: Layout, first: BlockNumber, most: usize, entry: Key) -
     ensures { result ≡ has_entry g (key_number entry) (slots_from g most (decode g t.now).overflow first.0) }
 {
     let mut b = first;
-    let mut left = most;
-    while left > 0 {
+    for _ in 0..most {
         if b.0 >= g.nob {
             return false;
         }
@@ -96,7 +84,6 @@ fn held_from(t: &[u8], g: Layout, first: BlockNumber, most: usize, entry: Key) -
             return false;
         };
         b = next;
-        left -= 1;
     }
     false
 }
@@ -118,18 +105,14 @@ pub(crate) fn slots_apart(t: &[u8], g: Layout, b: Slots, way: Step, most: usize)
     requires { Table g t.now × SlotsWithin g t.now b }
     ensures { result ≡ every_below b.count (alone g (slots_in g t.now b) (slots_after g most (decode g t.now).overflow way)) }
 {
-    let mut at = b.start;
-    let mut j: usize = 0;
-    while j < b.count {
-        let entry = next_entry(t, b, at, g.bie);
+    for j in 0..b.count {
+        let entry = next_entry(t, b, b.start + j * g.slot, g.bie);
         if scan_run(&t[..], b, j, g.slot, g.bie, entry).0 < j {
             return false;
         }
         if held_after(&t[..], g, way, most, entry) {
             return false;
         }
-        at += g.slot;
-        j += 1;
     }
     true
 }
@@ -140,12 +123,10 @@ pub(crate) fn blocks_apart(t: &[u8], g: Layout, first: BlockNumber) -> bool
     ensures { result ≡ no_entry_twice g (slots_from g g.nob (decode g t.now).overflow first.0) }
 {
     let mut b = first;
-    let mut left = g.nob;
-    while left > 0 {
+    for left in (0..g.nob).rev() {
         if b.0 >= g.nob {
             return true;
         }
-        left -= 1;
         let front = overflow_front(t, g, b);
         let way = step_of(front, g.sio);
         if !slots_apart(t, g, run_of(g, b, front.counter), way, left) {

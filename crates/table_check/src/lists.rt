@@ -8,12 +8,13 @@ ghost use Rattle.table_check.specs.Lists.{short_sound, long_apart, list_walk, li
 
 use crate::bytes::zeros_after;
 use crate::entries::{blocks_apart, slots_apart};
+use crate::steps::{InChain, InList};
 use crate::walk::mark_from;
 use keys::{BlockNumber, ListNumber};
 use settings::Layout;
 use table::Step;
 use table_read::blocks::{basic_counter, basic_head, free_start, overflow_link};
-use table_read::lists::{Last, basic_run, displaced_run, follow};
+use table_read::lists::{basic_run, displaced_run, follow};
 use table_read::places::basic_slots;
 
 // List i, whose n entries are all in its basic block: the other slots are zero, no entry stands twice.
@@ -33,7 +34,7 @@ fn long_apart(t: &[u8], g: Layout, i: ListNumber) -> bool
     ensures { result ≡ long_apart g (decode g t.now).overflow i.0 (basic_at (decode g t.now).basic i.0) }
 {
     let first = BlockNumber(basic_head(t, g, i));
-    let Last::Block(last) = follow(t, g, i, first) else {
+    let Ok(last) = follow(t, g, i, first) else {
         return false;
     };
     let run = displaced_run(g, i, overflow_link(t, g, last));
@@ -56,7 +57,7 @@ fn list_sound(t: &[u8], g: Layout, i: ListNumber, marks: &mut [u8]) -> bool
         return false;
     }
     let first = BlockNumber(basic_head(t, g, i));
-    if !mark_from(t, g, false, i, first, marks) {
+    if !mark_from(t, g, InList(i), first, marks) {
         return false;
     }
     long_apart(t, g, i)
@@ -66,12 +67,10 @@ pub(crate) fn lists_sound(t: &[u8], g: Layout, marks: &mut [u8]) -> bool
     requires { Table g t.now × (g.nob ≤ 8 * length marks.old) }
     ensures { lists_walk g (decode g t.now) g.lists marks.old ≡ found result marks.new }
 {
-    let mut i: usize = 0;
-    while i < g.lists as usize {
+    for i in 0..g.lists as usize {
         if !list_sound(t, g, ListNumber(i), marks) {
             return false;
         }
-        i += 1;
     }
     true
 }
@@ -86,5 +85,5 @@ pub(crate) fn chain_sound(t: &[u8], g: Layout, marks: &mut [u8]) -> bool
     if first.0 == none {
         return true;
     }
-    mark_from(t, g, true, ListNumber(0), BlockNumber(first.0), marks)
+    mark_from(t, g, InChain, BlockNumber(first.0), marks)
 }

@@ -1,8 +1,11 @@
-// What a block of a list, or of the free chain, says of the way on. Damage is all that a sound table has not.
-ghost use Rattle.std.specs.Prelude.{◌≡◌, ◌<◌};
+// What a block says of the way on: in a list, or in the free chain. Damage is all that a sound table has not.
+ghost use Rattle.std.specs.Prelude.{◌≡◌, ◌<◌, ℕ, List};
+ghost use Rattle.settings.specs.declared.layout.Layout.{Layout};
+ghost use Rattle.table.specs.declared.step.Step.{Step};
+ghost use Rattle.table.specs.State.{Overflow};
 ghost use Rattle.table.specs.Decode.{decode};
 ghost use Rattle.table.specs.Table.{Table};
-ghost use Rattle.table_check.specs.Walk.{list_step, chain_step, way_on};
+ghost use Rattle.table_check.specs.Walk.{list_step, chain_step};
 
 use crate::bytes::zeros_after;
 use keys::{BlockNumber, ListNumber};
@@ -11,55 +14,61 @@ use table::Step;
 use table_read::blocks::{owned_front, step_of};
 use table_read::places::overflow_slots;
 
-// Block b in list i.
-fn list_step(t: &[u8], g: Layout, i: ListNumber, b: BlockNumber) -> Step
-    requires { Table g t.now × (b.0 < g.nob) }
-    ensures { result ≡ list_step g (decode g t.now).overflow i.0 b.0 }
-{
-    let fields = owned_front(t, g, b);
-    if fields.owner.0 != i.0 {
-        return Step::Damage;
-    }
-    let used = fields.front.counter + 1;
-    let way = step_of(fields.front, g.sio);
-    let Step::Last = way else {
-        return way;
-    };
-    if zeros_after(t, overflow_slots(g, b), g.slot, used, g.sio) {
-        return Step::Last;
-    }
-    Step::Damage
+// A way along blocks: each says where it goes on.
+pub(crate) trait Way: Copy {
+    ghost step: { Self → Layout → List Overflow → ℕ → Step };
+
+    fn step(self, t: &[u8], g: Layout, b: BlockNumber) -> Step
+        requires { Table g t.now × (b.0 < g.nob) }
+        ensures { result ≡ step self g (decode g t.now).overflow b.0 };
 }
 
-// Block b in the free chain.
-fn chain_step(t: &[u8], g: Layout, b: BlockNumber) -> Step
-    requires { Table g t.now × (b.0 < g.nob) }
-    ensures { result ≡ chain_step g (decode g t.now).overflow b.0 }
-{
-    let fields = owned_front(t, g, b);
-    if fields.front.counter != 0 {
-        return Step::Damage;
+// The blocks of a list.
+#[derive(Clone, Copy)]
+pub(crate) struct InList(pub ListNumber);
+
+impl Way for InList {
+    ghost step = { λ way g os b. list_step g os way.0.0 b };
+
+    fn step(self, t: &[u8], g: Layout, b: BlockNumber) -> Step {
+        let fields = owned_front(t, g, b);
+        if fields.owner.0 != self.0.0 {
+            return Step::Damage;
+        }
+        let used = fields.front.counter + 1;
+        let way = step_of(fields.front, g.sio);
+        let Step::Last = way else {
+            return way;
+        };
+        if zeros_after(t, overflow_slots(g, b), g.slot, used, g.sio) {
+            return Step::Last;
+        }
+        Step::Damage
     }
-    if fields.owner.0 != 0 {
-        return Step::Damage;
-    }
-    if !zeros_after(t, overflow_slots(g, b), g.slot, 0, g.sio) {
-        return Step::Damage;
-    }
-    let next = fields.front.link;
-    if next == b.0 {
-        return Step::Last;
-    }
-    Step::Further(BlockNumber(next))
 }
 
-// In list i, or in the free chain.
-pub(crate) fn way_on(t: &[u8], g: Layout, chain: bool, i: ListNumber, b: BlockNumber) -> Step
-    requires { Table g t.now × (b.0 < g.nob) }
-    ensures { result ≡ way_on g (decode g t.now).overflow chain i.0 b.0 }
-{
-    if chain {
-        return chain_step(t, g, b);
+// The free blocks.
+#[derive(Clone, Copy)]
+pub(crate) struct InChain;
+
+impl Way for InChain {
+    ghost step = { λ _ g os b. chain_step g os b };
+
+    fn step(self, t: &[u8], g: Layout, b: BlockNumber) -> Step {
+        let fields = owned_front(t, g, b);
+        if fields.front.counter != 0 {
+            return Step::Damage;
+        }
+        if fields.owner.0 != 0 {
+            return Step::Damage;
+        }
+        if !zeros_after(t, overflow_slots(g, b), g.slot, 0, g.sio) {
+            return Step::Damage;
+        }
+        let next = fields.front.link;
+        if next == b.0 {
+            return Step::Last;
+        }
+        Step::Further(BlockNumber(next))
     }
-    list_step(t, g, i, b)
 }

@@ -18,7 +18,7 @@ use keys::{BlockNumber, Key, ListNumber, SlotNumber};
 use settings::Layout;
 use table::Step;
 use table_read::blocks::{basic_front, overflow_front, overflow_link, step_of};
-use table_read::lists::{Last, basic_run, displaced_run, follow, overflow_run};
+use table_read::lists::{basic_run, displaced_run, follow, overflow_run};
 use table_read::slots::{Slots, entry_in, label_in};
 
 // The next record, and the cursor behind it; there is none at the table's end.
@@ -204,7 +204,7 @@ fn enter_long(t: &[u8], g: Layout, i: ListNumber, first: BlockNumber) -> Cursor
     requires { Table g t.now × (i.0 < g.lists) × Overflows g (decode g t.now) i.0 first.0 × OwnFollowed g i.0 g.nob (decode g t.now).overflow first.0 }
     ensures { Begins g t.now i.0 (slots_of (content g (decode g t.now) i.0)) result }
 {
-    let Last::Block(last) = follow(t, g, i, first) else {
+    let Ok(last) = follow(t, g, i, first) else {
         return Cursor {
             list: i,
             passed: 0,

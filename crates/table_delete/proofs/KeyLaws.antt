@@ -1,4 +1,5 @@
 -- Delete of a key: what find answered decides what it comes to.
+use Rattle.std.specs.Prelude.{Err}
 use mathlib.Core.Path.{◌≡◌, refl, sym, ap, ap₂, subst, ◌∙◌}
 use mathlib.Core.Bool.{Bool, true, false, cond}
 use mathlib.Core.List.{List}
@@ -20,9 +21,7 @@ use Rattle.table.specs.Find.{position, find_in}
 use Rattle.table.specs.Done.{damage, done, unchanged, answered, replied}
 use Rattle.table.specs.Delete.{delete_followed, delete_in}
 use Rattle.table.specs.Calls.{list_call, delete, key_call}
-use Rattle.table.specs.declared.answers.Answer.{Answer}
-use Rattle.table.specs.Answer.{said}
-use Rattle.table.specs.declared.answers.Answer.TheVariants as answer
+use Rattle.table.specs.Answer.{said, Answer}
 use Rattle.table.specs.declared.answers.Word.TheVariants as word
 use Rattle.table_store.specs.Stores.{Stored}
 use Rattle.table_store.specs.Places.{Placed}
@@ -98,7 +97,7 @@ module _ {s : Settings} {t : List ℕ} {key : Key} {g : Layout} {v : Sought} (S 
     pub gone_gives : r ≡ true → Gives (key_call s t delete key) (said word.Gone l n 0) u
     gone_gives e = rw (ends true e) (record { answer = refl; bytes = stored_written S.table y (stored true e) })
 
-    pub damage_gives : r ≡ false → Gives (key_call s t delete key) (answer.Refused refusal.Damage) u
+    pub damage_gives : r ≡ false → Gives (key_call s t delete key) (Err refusal.Damage) u
     damage_gives e =
         rw (ends false e)
         (record {

@@ -1,4 +1,5 @@
 -- Appending, against its definition on the decoded state.
+use Rattle.std.specs.Prelude.{Err}
 use mathlib.Core.Path.{◌≡◌, refl, sym, ap, ◌∙◌}
 use mathlib.Core.Bool.{true, false, cond}
 use mathlib.Core.List.{List, [], ◌∷◌}
@@ -30,16 +31,13 @@ use Rattle.table_read.specs.BlockSlots.{has_block}
 use Rattle.table_read.specs.theory.Walks.{owns, followed, content_short, content_long}
 use Rattle.table.specs.theory.Formed.{basics, overflows}
 use Rattle.table_read.specs.theory.BlockSlots.{has_as}
-use Rattle.table.specs.declared.answers.Answer.{Answer}
-use Rattle.table.specs.Answer.{said}
-use Rattle.table.specs.declared.answers.Answer.TheVariants as answer
+use Rattle.table.specs.Answer.{said, Answer}
 use Rattle.table.specs.declared.answers.Word.TheVariants as word
 use Rattle.table_store.specs.Stores.{free_put, basic_counter_put, overflow_counter_put, slot_put, Stored}
 use Rattle.table_store.specs.theory.StoreLaws.{stored_then, stored_as, stored_written, basic_twice, overflow_twice, stored_free, stored_basic_counter, stored_overflow_counter, stored_basic_slot, stored_overflow_slot}
 use Rattle.table_enter.specs.Enters.{slot_for, free_of, append_to, number_for, appending, Appended, EndsIn}
 use Rattle.table_read.specs.Places.{basic_slot, overflow_slot}
 use Rattle.table_enter.specs.declared.append.Item.{Item}
-use Rattle.table_enter.specs.declared.append.Free.TheVariants as free
 use Rattle.table_enter.proofs.FreeLaws.{Takes, extended_to, no_take}
 use Rattle.table_enter.proofs.EndLaws.{behind_last, room_number, first_number, over_number}
 
@@ -84,7 +82,7 @@ module _ (g : Layout) (t : List ℕ) (T : Table g t) (y : Bytes t) (i : ℕ) (v 
   done_as : (u : List ℕ) (su : State) (r : Answer) → append_to g (decode g t) i v ≡ done su → Stored g t u su → r ≡ added → Appended g t u i v r
   done_as u su r e s er = record { answer = rw e er; bytes = rw e (stored_written T y s) }
 
-  refused_as : (why : Refusal) → appending g (decode g t) i v ≡ unchanged (answer.Refused why) → Appended g t t i v (answer.Refused why)
+  refused_as : (why : Refusal) → appending g (decode g t) i v ≡ unchanged (Err why) → Appended g t t i v (Err why)
   refused_as why e = rw e (record { answer = refl; bytes = refl })
 
   module _ (hi : i < g.lists) (hx : slot_for g v < 2 ^ g.slot) where
@@ -117,7 +115,7 @@ module _ (g : Layout) (t : List ℕ) (T : Table g t) (y : Bytes t) (i : ℕ) (v 
       unfolding append_to append
       full_is = rw (content_short g st i (omega arith), le-ltb b.counter g.sib (omega arith))
 
-      pub first_refused : (why : Refusal) → free_of g st ≡ free.Refused why → Appended g t t i v (answer.Refused why)
+      pub first_refused : (why : Refusal) → free_of g st ≡ Err why → Appended g t t i v (Err why)
       first_refused why e = refused_as why (ap told full_is ∙ no_take g st [] _ added why e)
 
       pub append_first : (f l next : ℕ) (k : Takes g st f next) → l ≡ b.head → (a u : List ℕ) (r : Answer)
@@ -191,10 +189,10 @@ module _ (g : Layout) (t : List ℕ) (T : Table g t) (y : Bytes t) (i : ℕ) (v 
         more_is : append_to g st i v ≡ longer followed_is.blocks
         more_is = over_is ∙ rw (le-ltb (suc o.counter) g.sio full)
 
-        pub more_refused : (why : Refusal) → free_of g st ≡ free.Refused why → Appended g t t i v (answer.Refused why)
+        pub more_refused : (why : Refusal) → free_of g st ≡ Err why → Appended g t t i v (Err why)
         more_refused why e = refused_as why (ap told more_is ∙ no_take g st followed_is.blocks _ added why e)
 
-        pub more_met : (f next : ℕ) → Takes g st f next → true ≡ has_block g g.nob st.overflow h f → Appended g t t i v (answer.Refused refusal.Damage)
+        pub more_met : (f next : ℕ) → Takes g st f next → true ≡ has_block g g.nob st.overflow h f → Appended g t t i v (Err refusal.Damage)
         more_met f next k m = refused_as refusal.Damage (ap told (more_is ∙ k.met followed_is.blocks _ (sym (m ∙ has_is f))))
 
         pub append_more : (f l next : ℕ) → Takes g st f next → false ≡ has_block g g.nob st.overflow h f → l ≡ o.link → (a u : List ℕ) (r : Answer)

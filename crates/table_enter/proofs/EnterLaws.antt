@@ -1,4 +1,5 @@
 -- Entering, by what find answers.
+use Rattle.std.specs.Prelude.{Err}
 use mathlib.Core.Path.{◌≡◌, refl, sym, ap, ◌∙◌}
 use mathlib.Core.List.{List}
 use mathlib.Core.Option.{Option, none, some}
@@ -22,28 +23,21 @@ use Rattle.table.specs.Find.{is_held, find_followed, find_in}
 use Rattle.table.specs.Enter.{append, end_number, enter_followed, enter_in}
 use Rattle.table.specs.Done.{unchanged, answered, replied}
 use Rattle.table.specs.Calls.{enter, list_call, key_call}
-use Rattle.table.specs.declared.answers.Answer.{Answer}
-use Rattle.table.specs.Answer.{said}
-use Rattle.table.specs.declared.answers.Answer.TheVariants as answer
+use Rattle.table.specs.Answer.{said, Answer}
 use Rattle.table.specs.declared.answers.Word.{Word}
 use Rattle.table.specs.declared.answers.Word.TheVariants as word
+use Rattle.table.specs.theory.Answers.{said_same}
 use Rattle.table_find.specs.declared.Sought.{Sought}
 use Rattle.table_find.specs.theory.SoughtLaws.{SoughtIn}
 use Rattle.table_enter.specs.Enters.{append_to, number_for, Appended, Readable}
 
 -- ---- on a list
 
-said_refused : {X : Type 0} (w : Word) (l n x : ℕ) (why : Refusal) → said w l n x ≡ answer.Refused why → X
+said_refused : {X : Type 0} (w : Word) (l n x : ℕ) (why : Refusal) → said w l n x ≡ Err why → X
 said_refused w l n x why e = absurd (let z : ◌≡◌ {A = ℕ} 0 1 = cc in omega arith)
 
 held_none : {X : Type 0} (k m y l n x : ℕ) → said word.Held k m y ≡ said word.None l n x → X
-held_none k m y l n x e = absurd (let w : word.Held ≡ word.None = cc in let z : ◌≡◌ {A = ℕ} 0 1 = cc in omega arith)
-
-same_word : (v w : Word) (k m y l n x : ℕ) → said v k m y ≡ said w l n x → v ≡ w
-same_word v w k m y l n x e = cc
-
-same_compared : (v w : Word) (k m y l n x : ℕ) → said v k m y ≡ said w l n x → m ≡ n
-same_compared v w k m y l n x e = cc
+held_none k m y l n x e = absurd (let w = (said_same e).word in let z : ◌≡◌ {A = ℕ} 0 1 = cc in omega arith)
 
 -- list i has n entries, and e is none of them
 pub record Missing (g : Layout) (st : State) (i e label n : ℕ) : Type 0 where
@@ -51,24 +45,24 @@ pub record Missing (g : Layout) (st : State) (i e label n : ℕ) : Type 0 where
   pub appends : enter_in g st i e label ≡ answered (said word.Added label n (number_for g st i)) (append g st i (blocks_of (content g st i)) (slot_of g e label))
 
 module _ (g : Layout) (st : State) (i e label : ℕ) where
-  refused_as : (why : Refusal) (o : Option Content) → find_followed g i e o ≡ answer.Refused why → enter_followed g st i e label o ≡ unchanged (answer.Refused why)
+  refused_as : (why : Refusal) (o : Option Content) → find_followed g i e o ≡ Err why → enter_followed g st i e label o ≡ unchanged (Err why)
   unfolding find_followed enter_followed
   refused_as why none = λ q. ap unchanged q
   refused_as why (some v) = cases (is_held g e v.slots) (λ p. rw p (said_refused _ _ _ _ why)) (λ p. rw p (said_refused _ _ _ _ why))
 
   -- a list that find refuses, enter refuses too
-  pub refused_too : (why : Refusal) → find_in g st i e ≡ answer.Refused why → enter_in g st i e label ≡ unchanged (answer.Refused why)
+  pub refused_too : (why : Refusal) → find_in g st i e ≡ Err why → enter_in g st i e label ≡ unchanged (Err why)
   unfolding find_in enter_in
   refused_too why q = refused_as why (content g st i) q
 
   known_as : (w : Word) (l n x : ℕ) → (w ≡ word.None → ⊥) → (o : Option Content) → find_followed g i e o ≡ said w l n x
-      → enter_followed g st i e label o ≡ unchanged (answer.Refused refusal.Known)
+      → enter_followed g st i e label o ≡ unchanged (Err refusal.Known)
   unfolding find_followed enter_followed
   known_as w l n x k none = λ q. said_refused w l n x _ (sym q)
-  known_as w l n x k (some v) = cases (is_held g e v.slots) (λ p. rw p (λ q. refl)) (λ p. rw p (λ q. absurd (k (sym (same_word _ w _ _ _ l n x q)))))
+  known_as w l n x k (some v) = cases (is_held g e v.slots) (λ p. rw p (λ q. refl)) (λ p. rw p (λ q. absurd (k (sym (said_same q).word))))
 
   -- a word of find's other than "none" means that the entry is held
-  pub known : (w : Word) (l n x : ℕ) → (w ≡ word.None → ⊥) → find_in g st i e ≡ said w l n x → enter_in g st i e label ≡ unchanged (answer.Refused refusal.Known)
+  pub known : (w : Word) (l n x : ℕ) → (w ≡ word.None → ⊥) → find_in g st i e ≡ said w l n x → enter_in g st i e label ≡ unchanged (Err refusal.Known)
   unfolding find_in enter_in
   known w l n x k q = known_as w l n x k (content g st i) q
 
@@ -79,7 +73,7 @@ module _ (g : Layout) (st : State) (i e label : ℕ) where
       cases (is_held g e v.slots)
       (λ p. rw p (held_none _ _ _ l n x))
       (λ p. rw p (λ q.
-      let long : length v.slots ≡ n = same_compared _ _ _ _ _ l n x q in
+      let long : length v.slots ≡ n = (said_same q).compared in
       record {
         readable = record { followed = v; is = w; long = sym long };
         appends = rw (w, p) (ap (λ (m : ℕ). answered (said word.Added label m (end_number g st i v)) (append g st i v.blocks (slot_of g e label))) long);
@@ -103,11 +97,11 @@ module _ {s : Settings} {t : List ℕ} {key : Key} {g : Layout} {v : Sought} (S 
   unfolding list_call
   enter_as = S.call_is (enter label) ∙ rw (lt-ltb label (2 ^ s.val) h) refl
 
-  pub refused_gives : (why : Refusal) → v.found ≡ answer.Refused why → Gives (key_call s t (enter label) key) v.found t
+  pub refused_gives : (why : Refusal) → v.found ≡ Err why → Gives (key_call s t (enter label) key) (Err why) t
   refused_gives why e =
-      rw (enter_as, refused_too g (decode g t) list sought label why (sym S.found_is ∙ e)) (record { answer = e; bytes = refl })
+      rw (enter_as, refused_too g (decode g t) list sought label why (sym S.found_is ∙ e)) (record { answer = refl; bytes = refl })
 
-  pub known_gives : (w : Word) (l n x : ℕ) → (w ≡ word.None → ⊥) → v.found ≡ said w l n x → Gives (key_call s t (enter label) key) (answer.Refused refusal.Known) t
+  pub known_gives : (w : Word) (l n x : ℕ) → (w ≡ word.None → ⊥) → v.found ≡ said w l n x → Gives (key_call s t (enter label) key) (Err refusal.Known) t
   known_gives w l n x k e =
       rw (enter_as, known g (decode g t) list sought label w l n x k (sym S.found_is ∙ e)) (record { answer = refl; bytes = refl })
 

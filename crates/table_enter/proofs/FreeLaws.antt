@@ -1,4 +1,5 @@
 -- The first free block, and a list that can be followed.
+use Rattle.std.specs.Prelude.{Ok, Err}
 use mathlib.Core.Path.{◌≡◌, refl, sym, ap, ap₂, ◌∙◌}
 use mathlib.Core.Bool.{true, false}
 use mathlib.Core.List.{List, [], ◌∷◌}
@@ -23,12 +24,10 @@ use Rattle.table_read.specs.theory.Walks.{last_low, content_short}
 use Rattle.table_read.specs.theory.BlockSlots.{Chained, gather_some, last_block_slot, long_full, long_ends, long_blocks, long_own, long_length}
 use Rattle.table_read.specs.theory.Reads.{unpack_length}
 use Rattle.table_read.specs.declared.lists.BlockSlot.{BlockSlot}
-use Rattle.table.specs.declared.answers.Answer.{Answer}
-use Rattle.table.specs.declared.answers.Answer.TheVariants as answer
-use Rattle.keys.specs.declared.BlockNumber.{BlockNumber}
-use Rattle.keys.specs.declared.FreeStart.{FreeStart}
+use Rattle.std.specs.declared.result.Result.{Result}
+use Rattle.table_enter.specs.declared.append.Free.{Free}
 use Rattle.table_enter.specs.Enters.{free_block, free_of, EndsIn, Readable}
-use Rattle.table_enter.specs.declared.append.Free.TheVariants as free
+use Rattle.table.specs.Answer.{Answer}
 
 -- ---- the first free block
 
@@ -50,11 +49,11 @@ module _ (g : Layout) (st : State) where
   abbrev link : ℕ
   link = (overflow_at st.overflow st.free).link
 
-  pub free_high : g.nob < st.free → free.Refused refusal.Damage ≡ free_of g st
+  pub free_high : g.nob < st.free → Err refusal.Damage ≡ free_of g st
   unfolding free_of
   free_high h = rw (lt-ltb g.nob st.free h)
 
-  pub free_none : st.free ≡ g.nob → free.Refused refusal.NoBlock ≡ free_of g st
+  pub free_none : st.free ≡ g.nob → Err refusal.NoBlock ≡ free_of g st
   unfolding free_of
   free_none h = rw (le-ltb g.nob st.free (omega arith), eq-eqb st.free g.nob h)
 
@@ -62,7 +61,7 @@ module _ (g : Layout) (st : State) where
     link_is : l ≡ link
     link_is = el ∙ ap (λ (n : ℕ). (overflow_at st.overflow n).link) ef
 
-    pub free_bad : g.nob ≤ l → free.Refused refusal.Damage ≡ free_of g st
+    pub free_bad : g.nob ≤ l → Err refusal.Damage ≡ free_of g st
     unfolding free_of
     free_bad h =
         rw (le-ltb g.nob st.free (omega arith), ne_eqb st.free g.nob (λ q. omega arith), le-ltb link g.nob (omega (arith, link_is)))
@@ -79,8 +78,8 @@ module _ (g : Layout) (st : State) where
         rw (le-ltb g.nob st.free (omega arith), ne_eqb st.free g.nob (λ q. omega arith), lt-ltb link g.nob (omega (arith, link_is)), ne_eqb link st.free (λ q. e (omega (arith, link_is))))
         (ap₂ free_block ef link_is)
 
-  not_block : {X : Type 0} (why : Refusal) (f : BlockNumber) (n : FreeStart) → free.Refused why ≡ free.Block f n → X
-  not_block why f n e = absurd (let z : ◌≡◌ {A = ℕ} 0 1 = cc in omega arith)
+  not_block : {X : Type 0} (why : Refusal) (x : Free) → Err why ≡ Ok x → X
+  not_block why x e = absurd (let z : ◌≡◌ {A = ℕ} 0 1 = cc in omega arith)
 
   next_le : ltb link g.nob ≡ true → next_free g st.overflow st.free ≤ g.nob
   next_le r =
@@ -88,11 +87,12 @@ module _ (g : Layout) (st : State) where
       (λ z. rw z (omega arith))
       (λ z. rw z (omega (arith, ltb-true link g.nob r)))
 
-  takes_when : (f : BlockNumber) (n : FreeStart) → ltb g.nob st.free ≡ false → eqb st.free g.nob ≡ false → ltb link g.nob ≡ true
-      → free_block st.free (next_free g st.overflow st.free) ≡ free.Block f n → Takes g st f.0 n.0
-  takes_when f n p q r e =
-      let a : f.0 ≡ st.free = ap (λ (x : BlockNumber). x.0) (let z : f ≡ record { 0 = st.free } = cc in z) in
-      let b : n.0 ≡ next_free g st.overflow st.free = ap (λ (x : FreeStart). x.0) (let z : n ≡ record { 0 = next_free g st.overflow st.free } = cc in z) in
+  takes_when : (x : Free) → ltb g.nob st.free ≡ false → eqb st.free g.nob ≡ false → ltb link g.nob ≡ true
+      → free_block st.free (next_free g st.overflow st.free) ≡ Ok x → Takes g st x.number.0 x.next.0
+  takes_when x p q r e =
+      let z : record { number = record { 0 = st.free }; next = record { 0 = next_free g st.overflow st.free } } ≡ x = cc in
+      let a : x.number.0 ≡ st.free = ap (λ (y : Free). y.number.0) (sym z) in
+      let b : x.next.0 ≡ next_free g st.overflow st.free = ap (λ (y : Free). y.next.0) (sym z) in
       let d : st.free ≡ g.nob → ⊥ = eqb-false st.free g.nob q in
       record {
         first = a;
@@ -103,32 +103,32 @@ module _ (g : Layout) (st : State) where
         met = λ bs y z. rw (p, q, ap (λ (x : ℕ). ltb 0 (occurs x bs)) (sym a) ∙ z);
       }
 
-  pub takes : (f : BlockNumber) (n : FreeStart) → free_of g st ≡ free.Block f n → Takes g st f.0 n.0
+  pub takes : (x : Free) → free_of g st ≡ Ok x → Takes g st x.number.0 x.next.0
   unfolding free_of
-  takes f n =
+  takes x =
       cases (ltb g.nob st.free)
-      (λ p. rw p (not_block refusal.Damage f n))
+      (λ p. rw p (not_block refusal.Damage x))
       (λ p. cases (eqb st.free g.nob)
-      (λ q. rw (p, q) (not_block refusal.NoBlock f n))
+      (λ q. rw (p, q) (not_block refusal.NoBlock x))
       (λ q. cases (ltb link g.nob)
-      (λ r. rw (p, q, r) (takes_when f n p q r))
-      (λ r. rw (p, q, r) (not_block refusal.Damage f n))))
+      (λ r. rw (p, q, r) (takes_when x p q r))
+      (λ r. rw (p, q, r) (not_block refusal.Damage x))))
 
-  same_why : (why was : Refusal) → free.Refused was ≡ free.Refused why → was ≡ why
+  same_why : (why was : Refusal) → ◌≡◌ {A = Result Free Refusal} (Err was) (Err why) → was ≡ why
   same_why why was e = cc
 
   -- where there is no free block, the answer is that refusal, whatever list asks
-  pub no_take : (bs : List ℕ) (y : Done) (a : Answer) (why : Refusal) → free_of g st ≡ free.Refused why
-      → answered a (taking g st bs y) ≡ unchanged (answer.Refused why)
+  pub no_take : (bs : List ℕ) (y : Done) (a : Answer) (why : Refusal) → free_of g st ≡ Err why
+      → answered a (taking g st bs y) ≡ unchanged (Err why)
   unfolding free_of
   no_take bs y a why =
-      let say : Refusal → Answered = λ w. unchanged (answer.Refused w) in
+      let say : Refusal → Answered = λ w. unchanged (Err w) in
       cases (ltb g.nob st.free)
       (λ p. rw p (λ e. ap say (same_why why refusal.Damage e)))
       (λ p. cases (eqb st.free g.nob)
       (λ q. rw (p, q) (λ e. ap say (same_why why refusal.NoBlock e)))
       (λ q. cases (ltb link g.nob)
-      (λ r. rw (p, q, r) (λ e. not_block why (record { 0 = st.free }) (record { 0 = next_free g st.overflow st.free }) (sym e)))
+      (λ r. rw (p, q, r) (λ e. not_block why _ (sym e)))
       (λ r. rw (p, q, r) (λ e. cases (ltb 0 (occurs st.free bs)) (λ z. rw z (ap say (same_why why refusal.Damage e))) (λ z. rw z (ap say (same_why why refusal.Damage e)))))))
 
 -- ---- a list that can be followed

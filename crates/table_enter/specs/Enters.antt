@@ -1,8 +1,10 @@
 -- What the functions below enter are asked and answer. Only their contracts cite these; the call's own does not.
-use Rattle.std.specs.Prelude.{ℕ, suc, ◌<◌, ◌≡◌, cond, List, length, eqb, ltb}
+use Rattle.std.specs.Prelude.{ℕ, suc, ◌<◌, ◌≡◌, cond, List, length, eqb, ltb, Ok, Err}
 use Rattle.std.proofs.Math.Option.{Option, none, some}
 use Rattle.keys.specs.Key.{key_number}
 use Rattle.settings.specs.declared.layout.Layout.{Layout}
+use Rattle.std.specs.declared.result.Result.{Result}
+use Rattle.settings.specs.declared.refusal.Refusal.{Refusal}
 use Rattle.settings.specs.declared.refusal.Refusal.TheVariants as refusal
 use Rattle.table.specs.State.{State, basic_at, overflow_at, slot_of}
 use Rattle.table.specs.Decode.{decode}
@@ -14,30 +16,28 @@ use Rattle.table_read.specs.Steps.{last_from}
 use Rattle.table.specs.Done.{Done, Answered, answered, replied}
 use Rattle.table.specs.Check.{blocks_of}
 use Rattle.settings.specs.Reply.{Gives}
-use Rattle.table.specs.declared.answers.Answer.{Answer}
-use Rattle.table.specs.Answer.{said}
+use Rattle.table.specs.Answer.{said, Answer}
 use Rattle.table.specs.declared.answers.Word.TheVariants as word
 use Rattle.table_store.specs.Stores.{Slotted}
 use Rattle.table_enter.specs.declared.append.Item.{Item}
 use Rattle.table_enter.specs.declared.append.Free.{Free}
-use Rattle.table_enter.specs.declared.append.Free.TheVariants as free
 
 abbrev pub slot_for : Layout → Item → ℕ
 slot_for g v = slot_of g (key_number v.entry) v.label
 
 -- block f is the first free one, and n is the free start once it is taken
-abbrev pub free_block : ℕ → ℕ → Free
-free_block f n = free.Block (record { 0 = f }) (record { 0 = n })
+abbrev pub free_block : ℕ → ℕ → Result Free Refusal
+free_block f n = Ok (record { number = record { 0 = f }; next = record { 0 = n } })
 
 module _ (g : Layout) where
   -- the first free block and the free start once it is taken, or why there is none
-  unfoldable pub free_of : State → Free
+  unfoldable pub free_of : State → Result Free Refusal
   free_of st =
-      cond (ltb g.nob st.free) (free.Refused refusal.Damage)
-      (cond (eqb st.free g.nob) (free.Refused refusal.NoBlock)
+      cond (ltb g.nob st.free) (Err refusal.Damage)
+      (cond (eqb st.free g.nob) (Err refusal.NoBlock)
       (cond (ltb (overflow_at st.overflow st.free).link g.nob)
       (free_block st.free (next_free g st.overflow st.free))
-      (free.Refused refusal.Damage)))
+      (Err refusal.Damage)))
 
   -- what appending v to list i comes to
   unfoldable pub append_to : State → ℕ → Item → Done

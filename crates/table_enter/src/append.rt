@@ -1,5 +1,5 @@
 // A slot at the end of a list: into a block that has room, or into a block from the free chain.
-ghost use Rattle.std.specs.Prelude.{◌≡◌, suc, ◌^◌, ◌≤◌, ◌<◌};
+ghost use Rattle.std.specs.Prelude.{◌≡◌, suc, ◌^◌, ◌≤◌, ◌<◌, Ok};
 ghost use Rattle.keys.specs.Key.{key_number};
 ghost use Rattle.table.specs.State.{basic_at, overflow_at};
 ghost use Rattle.table.specs.Decode.{decode};
@@ -12,7 +12,7 @@ ghost use Rattle.table_enter.specs.Enters.{slot_for, free_of, Appendable, Append
 
 use keys::{BlockNumber, FreeStart, Key, ListNumber, SlotNumber};
 use settings::{Layout, Refusal};
-use table::{Answer, Word};
+use table::{Said, Word};
 use table_read::blocks::{basic_head, free_start, overflow_link};
 use table_read::lists::{block_slot_of, list_has_block};
 use table_read::numbers::{basic_number, overflow_number};
@@ -32,70 +32,60 @@ pub struct Item {
 
 impl Item {
     // In the slot of that number.
-    fn added(self, slot: u64) -> Answer
-        ensures { result ≡ said word.Added self.label self.compared slot }
+    fn added(self, slot: u64) -> Said
+        ensures { Ok result ≡ said word.Added self.label self.compared slot }
     {
-        Answer::Said {
+        Said {
             word: Word::Added,
             label: self.label,
             compared: self.compared,
-            slot: slot,
+            slot,
         }
     }
 }
 
 // The first free block, and the free start once it is taken.
 #[derive(Clone, Copy)]
-pub enum Free {
-    Block {
-        number: BlockNumber,
-        next: FreeStart,
-    },
-    Refused(Refusal),
+pub struct Free {
+    pub number: BlockNumber,
+    pub next: FreeStart,
 }
 
 // The last free block links to itself, and behind it the free start is nob (clause 5.3).
-fn first_free(t: &[u8], g: Layout) -> Free
+fn first_free(t: &[u8], g: Layout) -> Result<Free, Refusal>
     requires { Table g t.now }
     ensures { result ≡ free_of g (decode g t.now) }
 {
     let f = free_start(t, g);
     if f.0 > g.nob {
-        return Free::Refused(Refusal::Damage);
+        return Err(Refusal::Damage);
     }
     if f.0 == g.nob {
-        return Free::Refused(Refusal::NoBlock);
+        return Err(Refusal::NoBlock);
     }
     let number = BlockNumber(f.0);
     let link = overflow_link(t, g, number);
     if link >= g.nob {
-        return Free::Refused(Refusal::Damage);
+        return Err(Refusal::Damage);
     }
     if link == f.0 {
-        return Free::Block {
+        return Ok(Free {
             number,
             next: FreeStart(g.nob),
-        };
+        });
     }
-    Free::Block {
+    Ok(Free {
         number,
         next: FreeStart(link),
-    }
+    })
 }
 
-// Block f becomes the last block of list i, with one slot. The displaced bits are its link.
-fn take(
-    t: &mut [u8],
-    g: Layout,
-    i: ListNumber,
-    f: BlockNumber,
-    displaced: usize,
-    next: FreeStart,
-    v: Item,
-)
-    requires { Table g t.old × (i.0 < g.lists) × (f.0 < g.nob) × (displaced < 2 ^ g.link) × (next.0 ≤ g.nob) × Slotted g (key_number v.entry) v.label }
-    ensures { Stored g t.old t.new (taken g i.0 f.0 next.0 displaced (slot_for g v) (decode g t.old)) }
+// The free block becomes the last block of list i, with one slot. The displaced bits are its link.
+fn take(t: &mut [u8], g: Layout, i: ListNumber, free: Free, displaced: usize, v: Item)
+    requires { Table g t.old × (i.0 < g.lists) × (free.number.0 < g.nob) × (displaced < 2 ^ g.link) × (free.next.0 ≤ g.nob) × Slotted g (key_number v.entry) v.label }
+    ensures { Stored g t.old t.new (taken g i.0 free.number.0 free.next.0 displaced (slot_for g v) (decode g t.old)) }
 {
+    let f = free.number;
     let entry = v.entry;
     empty_block(t, g, f, displaced, i);
     put_slot(
@@ -107,13 +97,13 @@ fn take(
         entry.low,
         v.label,
     );
-    put_free_start(t, g, next);
+    put_free_start(t, g, free.next);
 }
 
 // The basic block has room.
-fn append_room(t: &mut [u8], g: Layout, i: ListNumber, c: usize, v: Item) -> Answer
+fn append_room(t: &mut [u8], g: Layout, i: ListNumber, c: usize, v: Item) -> Said
     requires { Appendable g t.old i.0 v × (c < g.sib) × (c ≡ (basic_at (decode g t.old).basic i.0).counter) }
-    ensures { Appended g t.old t.new i.0 v result }
+    ensures { Appended g t.old t.new i.0 v (Ok result) }
 {
     let entry = v.entry;
     put_slot(
@@ -130,19 +120,15 @@ fn append_room(t: &mut [u8], g: Layout, i: ListNumber, c: usize, v: Item) -> Ans
 }
 
 // The basic block is full, and gets its first overflow block.
-fn append_first(t: &mut [u8], g: Layout, i: ListNumber, v: Item) -> Answer
+fn append_first(t: &mut [u8], g: Layout, i: ListNumber, v: Item) -> Result<Said, Refusal>
     requires { Appendable g t.old i.0 v × ((basic_at (decode g t.old).basic i.0).counter ≡ g.sib) }
     ensures { Appended g t.old t.new i.0 v result }
 {
-    match first_free(t, g) {
-        Free::Block { number, next } => {
-            let displaced = basic_head(t, g, i);
-            put_basic_front(t, g, i, g.sib + 1, number.0);
-            take(t, g, i, number, displaced, next, v);
-            v.added(overflow_number(g, number, SlotNumber(0)))
-        }
-        Free::Refused(why) => Answer::Refused(why),
-    }
+    let free = first_free(t, g)?;
+    let displaced = basic_head(t, g, i);
+    put_basic_front(t, g, i, g.sib + 1, free.number.0);
+    take(t, g, i, free, displaced, v);
+    Ok(v.added(overflow_number(g, free.number, SlotNumber(0))))
 }
 
 // The last block, j, is full, and a further one follows it.
@@ -153,22 +139,18 @@ fn append_more(
     h: BlockNumber,
     j: BlockNumber,
     v: Item,
-) -> Answer
+) -> Result<Said, Refusal>
     requires { Appendable g t.old i.0 v × EndsIn g (decode g t.old) i.0 h.0 j.0 × (g.sio ≤ suc (overflow_at (decode g t.old).overflow j.0).counter) }
     ensures { Appended g t.old t.new i.0 v result }
 {
-    match first_free(t, g) {
-        Free::Block { number, next } => {
-            if list_has_block(t, g, h, number) {
-                return Answer::Refused(Refusal::Damage);
-            }
-            let displaced = overflow_link(t, g, j);
-            put_overflow_front(t, g, j, g.sio, number.0);
-            take(t, g, i, number, displaced, next, v);
-            v.added(overflow_number(g, number, SlotNumber(0)))
-        }
-        Free::Refused(why) => Answer::Refused(why),
+    let free = first_free(t, g)?;
+    if list_has_block(t, g, h, free.number) {
+        return Err(Refusal::Damage);
     }
+    let displaced = overflow_link(t, g, j);
+    put_overflow_front(t, g, j, g.sio, free.number.0);
+    take(t, g, i, free, displaced, v);
+    Ok(v.added(overflow_number(g, free.number, SlotNumber(0))))
 }
 
 // The last block is j, with n entries: its counter is one less (clause 4.5).
@@ -180,7 +162,7 @@ fn append_overflow(
     j: BlockNumber,
     n: usize,
     v: Item,
-) -> Answer
+) -> Result<Said, Refusal>
     requires { Appendable g t.old i.0 v × EndsIn g (decode g t.old) i.0 h.0 j.0 × (n ≡ suc (overflow_at (decode g t.old).overflow j.0).counter) }
     ensures { Appended g t.old t.new i.0 v result }
 {
@@ -196,20 +178,20 @@ fn append_overflow(
             v.label,
         );
         put_overflow_counter(t, g, j, n);
-        return v.added(overflow_number(g, j, SlotNumber(n)));
+        return Ok(v.added(overflow_number(g, j, SlotNumber(n))));
     }
     append_more(t, g, i, h, j, v)
 }
 
 // At the end of list i, which can be followed there. All its entries were compared, so that their number says
 // whether it overflows, and where its last entry stands.
-pub(crate) fn append(t: &mut [u8], g: Layout, i: ListNumber, v: Item) -> Answer
+pub(crate) fn append(t: &mut [u8], g: Layout, i: ListNumber, v: Item) -> Result<Said, Refusal>
     requires { Appendable g t.old i.0 v × Readable g (decode g t.old) i.0 v.compared }
     ensures { Appended g t.old t.new i.0 v result }
 {
     let c = v.compared as usize;
     if c < g.sib {
-        return append_room(t, g, i, c, v);
+        return Ok(append_room(t, g, i, c, v));
     }
     if c == g.sib {
         return append_first(t, g, i, v);

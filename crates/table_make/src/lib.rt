@@ -10,26 +10,21 @@ ghost use Rattle.table.specs.Calls.{make_call};
 
 use bits::zero_bytes;
 use keys::BlockNumber;
-use settings::{Laid, Layout, Refusal, Settings};
-use table::MakeAnswer;
+use settings::{Layout, Refusal, Settings};
 use table_store::put_overflow_link;
 
 // The table in the lent bytes becomes a new one; bytes beyond its size stay.
-pub fn make(s: Settings, t: &mut [u8]) -> MakeAnswer
+pub fn make(s: Settings, t: &mut [u8]) -> Result<(), Refusal>
     ensures { Gives (make_call s t.old) result t.new }
 {
-    match s.layout() {
-        Laid::Layout(g) => {
-            if t.len() < g.bytes {
-                return MakeAnswer::Refused(Refusal::Short);
-            }
-            let n = g.bytes;
-            zero_bytes(&mut t[..n]);
-            link_free(t, g);
-            MakeAnswer::Made
-        }
-        Laid::Refused(why) => MakeAnswer::Refused(why),
+    let g = s.layout()?;
+    let n = g.bytes;
+    if t.len() < n {
+        return Err(Refusal::Short);
     }
+    zero_bytes(&mut t[..n]);
+    link_free(t, g);
+    Ok(())
 }
 
 // Every overflow block becomes a link of the free chain 0, 1, .. nob - 1.
@@ -37,11 +32,9 @@ fn link_free(t: &mut [u8], g: Layout)
     requires { Table g t.old }
     ensures { t.new ≡ linked g g.nob t.old }
 {
-    let mut j: usize = 0;
-    while j < g.nob {
+    for j in 0..g.nob {
         let link = free_link(g, BlockNumber(j));
         put_overflow_link(t, g, BlockNumber(j), link.0);
-        j += 1;
     }
 }
 

@@ -1,14 +1,14 @@
 -- Looking for a number among slots by a window of their bits: the slots that are passed, and the number's own window.
+use Rattle.std.specs.Prelude.{eqb, false}
 use mathlib.Core.Path.{◌≡◌, sym, ap, ◌∙◌}
 use mathlib.Core.List.{List}
 use Prim.Native.Nat.{ℕ, ◌+◌, ◌-◌, ◌*◌, ◌/◌, ◌%◌, ◌^◌, ◌≤◌, ◌<◌}
 use native.Mathlib.Omega.{arith}
 use native.Mathlib.Nat.{mod-eq_of_lt, mul-le-mul_right}
-use native.Mathlib.Decide.{dec_le}
 use lib.ListN.{length}
 use lib.Pow.{pow_mono, high, low, mod-mod-pow}
 use lib.Pow as P
-use borrow.Author.Count.{below_more}
+use borrow.Author.Tests.{eqb-false}
 use Rattle.bits.specs.Field.{field}
 use Rattle.bits.specs.Word.{swapped}
 use Rattle.bits.specs.theory.Fields.{sub_field}
@@ -16,75 +16,28 @@ use Rattle.bits.specs.theory.Numbers.{no_high}
 use Rattle.bits.specs.theory.Words.{swapped_twice}
 use Rattle.table_read.specs.Rows.{Row, Unlike}
 
--- ---- places of slots
-
--- one slot back
-pub record Back (at step j p : ℕ) : Type 0 where
-  pub fits : step ≤ p
-  pub is : p - step ≡ at + (j - 1) * step
-
-pub back : (at step j p : ℕ) → 0 < j → p ≡ at + j * step → Back at step j p
-back at step j p h e = from (j - 1) (omega arith)
-  where
-    from : (k : ℕ) → j ≡ k + 1 → Back at step j p
-    from k d =
-        let g : p ≡ at + (k + 1) * step = e ∙ ap (λ (x : ℕ). at + x * step) d in
-        let f : j - 1 ≡ k = omega arith in
-        record { fits = omega arith; is = rw f (omega arith) }
-
--- the same place in bits
-pub in_bits : (i step k p : ℕ) → p ≡ i + k * step → 8 * p ≡ 8 * i + k * (8 * step)
-in_bits i step k p e = omega arith
-
 -- ---- slots passed
 
-module _ (t : List ℕ) (at step m q n : ℕ) where
-  -- from the first on
-  pub unlike_none : Unlike t at step m q n 0
-  unlike_none = record { high = omega arith; before = λ k h. absurd (omega arith) }
-
-  pub unlike_more : (j p : ℕ) → j < n → p ≡ at + j * step → Unlike t at step m q n j → (field t p m ≡ q → ⊥) → Unlike t at step m q n (j + 1)
-  unlike_more j p h e u d =
-      record { high = omega arith; before = below_more _ _ u.before (λ f. d (ap (λ (x : ℕ). field t x m) e ∙ f)) }
-
-  -- from the last back to slot j: none from there up to r has the bits q
-  pub record Past (j r : ℕ) : Type 0 where
-    pub low : j ≤ r
-    pub high : r ≤ n
-    pub between : (k : ℕ) → j ≤ k → k < r → field t (at + k * step) m ≡ q → ⊥
-
-  pub past_here : (j : ℕ) → j ≤ n → Past j j
-  past_here j h = record { low = omega arith; high = h; between = λ k a b. absurd (omega arith) }
-
-  pub past_more : (j p r : ℕ) → p ≡ at + (j - 1) * step → Past j r → (field t p m ≡ q → ⊥) → Past (j - 1) r
-  past_more j p r e u d = record { low = omega (arith, u.low); high = u.high; between = λ k a b. pick k a b (dec_le j k) }
-    where
-      pick : (k : ℕ) → j - 1 ≤ k → k < r → Dec (j ≤ k) → field t (at + k * step) m ≡ q → ⊥
-      pick k a b (yes l) f = u.between k l b f
-      pick k a b (no l) f =
-          let z : k ≡ j - 1 = omega arith in
-          d (ap (λ (x : ℕ). field t x m) e ∙ ap (λ (x : ℕ). field t (at + x * step) m) (sym z) ∙ f)
-
-  pub past_all : (j r : ℕ) → j ≤ 0 → Past j r → Unlike t at step m q n r
-  past_all j r h u = record { high = u.high; before = λ k b. u.between k (omega arith) b }
-
 -- a slot that holds the number e has e's window, after the first o bits of the entry and with b behind it
-pub by_window : (t : List ℕ) (start slot bie e n r at step m q o b : ℕ) → at ≡ start + o → step ≡ slot → o + m + b ≡ bie → q ≡ e / 2 ^ b % 2 ^ m
-    → Unlike t at step m q n r → Unlike t start slot bie e n r
-by_window t start slot bie e n r at step m q o b ea es ew eq u =
+pub by_window : (t : List ℕ) (start slot bie e n r : ℕ) (place : ℕ → ℕ) (m q o b : ℕ) → ((k : ℕ) → place k ≡ start + k * slot + o) → o + m + b ≡ bie
+    → q ≡ e / 2 ^ b % 2 ^ m → r ≤ n → ((k : ℕ) → k < r → eqb (field t (place k) m) q ≡ false) → Unlike t start slot bie e n r
+by_window t start slot bie e n r place m q o b at ew eq h d =
     record {
-      high = u.high;
-      before = λ k h f. u.before k h (ap (λ (x : ℕ). field t x m) (place k) ∙ sym (sub_field t (start + k * slot) bie o m b ew) ∙ ap (λ (x : ℕ). x / 2 ^ b % 2 ^ m) f ∙ sym eq);
+      high = h;
+      before = λ k l f.
+          eqb-false _ _ (d k l)
+          (ap (λ (x : ℕ). field t x m) (at k) ∙ sym (sub_field t (start + k * slot) bie o m b ew) ∙ ap (λ (x : ℕ). x / 2 ^ b % 2 ^ m) f ∙ sym eq);
     }
-  where
-    place : (k : ℕ) → at + k * step ≡ start + k * slot + o
-    place k = rw (ea, es) (omega arith)
 
 -- ---- windows within a block
 
 module _ (t : List ℕ) (start slot bie n : ℕ) (R : Row t start slot bie n) where
   inside : (k : ℕ) → k < n → start + k * slot + slot ≤ start + n * slot
   inside k h = omega (arith, mul-le-mul_right slot h)
+
+  -- slot k from byte i on
+  pub word_at : (i s : ℕ) → start ≤ 8 * i → slot ≡ 8 * s → (k : ℕ) → 8 * (i + k * s) ≡ start + k * slot + (8 * i - start)
+  word_at i s a e k = let f : k * slot ≡ k * (8 * s) = ap (λ (x : ℕ). k * x) e in omega arith
 
   -- w bytes from byte i on, which is the first whole one of slot 0, and the same of the other slots
   pub words_within : (i w s : ℕ) → start ≤ 8 * i → 8 * i - start + 8 * w ≤ bie → slot ≡ 8 * s

@@ -1,5 +1,5 @@
 -- Rows of slots, and slots of a row that do not have certain bits. Only contracts of functions cite these.
-use Rattle.std.specs.Prelude.{◌≡◌, List, ℕ, ◌+◌, ◌*◌, ◌≤◌, ◌<◌, length}
+use Rattle.std.specs.Prelude.{◌≡◌, Bool, false, List, ℕ, ◌+◌, ◌*◌, ◌≤◌, ◌<◌, length}
 use Rattle.settings.specs.Legal.{most_bits}
 use Rattle.bits.specs.Field.{field}
 
@@ -19,3 +19,9 @@ module _ (t : List ℕ) (at step n q count : ℕ) where
   pub record Unlike (r : ℕ) : Type 0 where
     pub high : r ≤ count
     pub before : (k : ℕ) → k < r → field t (at + k * step) n ≡ q → ⊥
+
+-- of `count` slots, whose windows are at places `at`, `at + step` and so on: the test of a window can have answered false at each before that
+-- of slot r
+pub record Passed (answers : ℕ → Bool → Type 0) (at step count r : ℕ) : Type 0 where
+  pub high : r ≤ count
+  pub before : (k : ℕ) → k < r → answers (at + k * step) false

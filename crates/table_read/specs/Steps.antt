@@ -1,6 +1,8 @@
 -- What the functions below the calls are asked and answer. Only contracts of functions cite these; the calls' own do not.
-use Rattle.std.specs.Prelude.{◌≡◌, ℕ, suc, ◌+◌, ◌*◌, ◌^◌, ◌≤◌, ◌<◌, min, cond, List, [], ◌∷◌, ltb, length}
+use Rattle.std.specs.Prelude.{◌≡◌, ℕ, suc, ◌+◌, ◌*◌, ◌^◌, ◌≤◌, ◌<◌, min, cond, List, [], ◌∷◌, ltb, length, Ok, Err}
 use Rattle.std.proofs.Math.Option.{Option, none, some}
+use Rattle.std.specs.declared.result.Result.{Result}
+use Rattle.keys.specs.declared.BlockNumber.{BlockNumber}
 use Rattle.settings.specs.Legal.{most_bits}
 use Rattle.bits.specs.Field.{field}
 use Rattle.bits.specs.Put.{put_field}
@@ -11,10 +13,8 @@ use Rattle.table.specs.Decode.{basic_slots, overflow_slots}
 use Rattle.table.specs.Follow.{last_of, follow, gather, own_blocks}
 use Rattle.table.specs.Find.{position, is_held, label_at}
 use Rattle.table_read.specs.declared.slots.Slots.{Slots}
-use Rattle.table_read.specs.declared.lists.Last.{Last}
-use Rattle.table_read.specs.declared.lists.Last.TheVariants as last
-use Rattle.table.specs.declared.answers.Answer.{Answer}
-use Rattle.table.specs.Answer.{said}
+use Rattle.table.specs.declared.damage.Damage.{Damage}
+use Rattle.table.specs.Answer.{said, Answer}
 use Rattle.table.specs.declared.answers.Word.TheVariants as word
 
 -- the bytes in which the first bits of the slots b are what they count as
@@ -74,8 +74,8 @@ module _ (g : Layout) where
   last_from i n os b = last_in (own_blocks i os (follow g n os b))
 
   -- block b as a list's last; nob and above is no block
-  unfoldable pub last_as : ℕ → Last
-  last_as b = cond (ltb b g.nob) (last.Block (record { 0 = b })) last.Damage
+  unfoldable pub last_as : ℕ → Result BlockNumber Damage
+  last_as b = cond (ltb b g.nob) (Ok (record { 0 = b })) (Err (record {}))
 
   -- the list that goes on at block b has an end
   pub record Followed (n : ℕ) (os : List Overflow) (b : ℕ) : Type 0 where

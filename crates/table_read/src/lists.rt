@@ -8,42 +8,33 @@ ghost use Rattle.table_read.specs.Steps.{last_from, last_as, basic_run, displace
 
 use crate::blocks::{overflow_front, owned_front, step_of};
 use crate::places::{basic_slots, overflow_slots};
-use crate::slots::{Slots, least};
+use crate::slots::Slots;
 use keys::{BlockNumber, ListNumber, SlotNumber};
 use settings::Layout;
-use table::Step;
-
-// Where a list ends: in its last overflow block, or nowhere, if there is damage.
-#[derive(Clone, Copy)]
-pub enum Last {
-    Block(BlockNumber),
-    Damage,
-}
+use table::{Damage, Step};
 
 // The last block of list i, whose overflow blocks start at `first`; each must have the list's number. At most nob blocks are
 // followed, so that it ends on any bytes.
-pub fn follow(t: &[u8], g: Layout, i: ListNumber, first: BlockNumber) -> Last
+pub fn follow(t: &[u8], g: Layout, i: ListNumber, first: BlockNumber) -> Result<BlockNumber, Damage>
     requires { Table g t.now }
     ensures { result ≡ last_as g (last_from g i.0 g.nob (decode g t.now).overflow first.0) }
 {
     let mut b = first;
-    let mut k: usize = 0;
-    while k < g.nob {
+    for _ in 0..g.nob {
         if b.0 >= g.nob {
-            return Last::Damage;
+            return Err(Damage);
         }
         let fields = owned_front(t, g, b);
         if fields.owner.0 != i.0 {
-            return Last::Damage;
+            return Err(Damage);
         }
         match step_of(fields.front, g.sio) {
-            Step::Last => return Last::Block(b),
+            Step::Last => return Ok(b),
             Step::Further(next) => b = next,
-            Step::Damage => return Last::Damage,
+            Step::Damage => return Err(Damage),
         }
-        k += 1;
     }
-    Last::Damage
+    Err(Damage)
 }
 
 // The first n slots of basic block i, as they stand: those of a list that has no overflow blocks.
@@ -79,7 +70,7 @@ pub fn overflow_run(g: Layout, j: BlockNumber, c: usize) -> Slots
 {
     Slots {
         start: overflow_slots(g, j),
-        count: least(c + 1, g.sio),
+        count: (c + 1).min(g.sio),
         displaced: 0,
         value: 0,
     }
@@ -118,8 +109,7 @@ pub fn list_has_block(t: &[u8], g: Layout, first: BlockNumber, f: BlockNumber) -
     ensures { result ≡ has_block g g.nob (decode g t.now).overflow first.0 f.0 }
 {
     let mut b = first;
-    let mut q: usize = 0;
-    while q < g.nob {
+    for _ in 0..g.nob {
         if b.0 == f.0 {
             return true;
         }
@@ -127,7 +117,6 @@ pub fn list_has_block(t: &[u8], g: Layout, first: BlockNumber, f: BlockNumber) -
             return false;
         };
         b = next;
-        q += 1;
     }
     false
 }

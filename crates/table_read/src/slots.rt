@@ -1,5 +1,5 @@
 // Slots in a row, and what they hold.
-ghost use Rattle.std.specs.Prelude.{◌≡◌, ℕ, ◌+◌, ◌-◌, ◌*◌, ◌/◌, ◌%◌, ◌^◌, ◌≤◌, ◌<◌, min, length, get_or, eqb};
+ghost use Rattle.std.specs.Prelude.{◌≡◌, ℕ, ◌+◌, ◌-◌, ◌*◌, ◌/◌, ◌%◌, ◌^◌, ◌≤◌, ◌<◌, length, get_or, eqb};
 ghost use Rattle.settings.specs.Legal.{most_bits};
 ghost use Rattle.bits.specs.Field.{field};
 ghost use Rattle.settings.specs.Proper.{Proper};
@@ -24,18 +24,12 @@ pub struct Slots {
     pub value: u64,
 }
 
-pub fn least(a: usize, b: usize) -> usize
-    ensures { result ≡ min a b }
-{
-    if a < b { a } else { b }
-}
-
 // The n bits of x above its k low ones.
 fn bits_above(x: u64, k: usize, n: usize) -> u64
     requires { (k < 64) × (n < 64) }
     ensures { result ≡ x / 2 ^ k % 2 ^ n }
 {
-    x / pow(k) % pow(n)
+    (x >> k) % pow(n)
 }
 
 // The field of n bits from bit `at` on, where the first bits of the slots are what they count as.
@@ -85,6 +79,7 @@ fn holds(t: &[u8], at: usize, n: usize, high: u64, low: u64) -> bool
 }
 
 // The first slot from `from` on that holds the entry, slot by slot; their count if none does.
+#[tactic(auto, unfolding(keys::specs::Key::key_number))]
 fn scan_from(
     t: &[u8],
     b: Slots,
@@ -93,16 +88,14 @@ fn scan_from(
     bie: usize,
     entry: Key,
 ) -> SlotNumber
-    requires row { Row t.now b.start slot bie b.count × (key_number entry < 2 ^ bie) × (from.0 < 2 ^ 16) }
+    requires row { Row t.now b.start slot bie b.count × (key_number entry < 2 ^ bie) }
     requires by_index { (k : ℕ) → k < from.0 → k < b.count → field t.now (b.start + k * slot) bie ≡ key_number entry → ⊥ }
     ensures { First t.now b.start slot bie (key_number entry) b.count result.0 }
 {
-    let mut j = from.0;
-    while j < b.count {
+    for j in from.0..b.count {
         if holds(t, b.start + j * slot, bie, entry.high, entry.low) {
             return SlotNumber(j);
         }
-        j += 1;
     }
     SlotNumber(b.count)
 }
@@ -120,6 +113,7 @@ pub fn looked_at(count: usize, room: usize) -> usize
 
 // The first slot that holds the entry, where none before slot `from` does, and that slot most likely; their count if none
 // does.
+#[tactic(auto, unfolding(keys::specs::Key::key_number))]
 pub fn confirm(
     t: &[u8],
     b: Slots,
@@ -140,6 +134,7 @@ pub fn confirm(
 
 // The first of the slots, as they stand, that holds the entry; their count if none does. A window of each slot is looked
 // at first. The block has room for `room` slots.
+#[tactic(auto, unfolding(keys::specs::Key::key_number))]
 pub fn scan(t: &[u8], b: Slots, room: usize, slot: usize, bie: usize, entry: Key) -> SlotNumber
     requires { Row t.now b.start slot bie room × (b.count ≤ room) × (key_number entry < 2 ^ bie) }
     ensures { First t.now b.start slot bie (key_number entry) b.count result.0 }
@@ -157,16 +152,12 @@ fn scan_restored(t: &[u8], b: Slots, slot: usize, bie: usize, entry: Key) -> Slo
     requires { Row t.now b.start slot bie b.count × (b.start + b.displaced ≤ 8 * length t.now) × (b.displaced ≤ 16) × (b.value < 2 ^ b.displaced) × (key_number entry < 2 ^ bie) }
     ensures { First (restored_bytes t.now b) b.start slot bie (key_number entry) b.count result.0 }
 {
-    let mut at = b.start;
-    let mut j: usize = 0;
-    while j < b.count {
-        if same_entry(t, b, at, bie, entry) {
+    for j in 0..b.count {
+        if same_entry(t, b, b.start + j * slot, bie, entry) {
             return SlotNumber(j);
         }
-        at += slot;
-        j += 1;
     }
-    SlotNumber(j)
+    SlotNumber(b.count)
 }
 
 // Whether slot 0 holds the entry, where its first bits are what they count as. Its last bits, which are not displaced, are
@@ -175,7 +166,7 @@ fn first_holds(t: &[u8], b: Slots, bie: usize, entry: Key) -> bool
     requires { FieldWithin t.now b b.start bie × (bie ≤ 128) × (key_number entry < 2 ^ bie) × (b.displaced < bie) }
     ensures { result ≡ eqb (field (restored_bytes t.now b) b.start bie) (key_number entry) }
 {
-    let m = least(bie - b.displaced, 57);
+    let m = (bie - b.displaced).min(57);
     if bits::get_short(t, b.start + (bie - m), m) != entry.low % pow(m) {
         return false;
     }
@@ -185,6 +176,7 @@ fn first_holds(t: &[u8], b: Slots, bie: usize, entry: Key) -> bool
 // The same as `scan` of the slots of a basic block that overflows, where their first bits are what they count as. Unless
 // those reach past the entry of slot 0, the other slots are read as they stand. The entry comes in two numbers, since this
 // is called from two places and stays a function.
+#[tactic(auto, unfolding(keys::specs::Key::key_number))]
 pub fn scan_displaced(
     t: &[u8],
     b: Slots,

@@ -1,26 +1,21 @@
 // Looking for a number among slots by a window of their bits, which one load has whole. A slot with another window does
 // not hold the number; the first slot with the same window, and those behind it, are for the caller to compare whole.
 ghost use Rattle.std.specs.Prelude.{ℕ, ◌+◌, ◌*◌, ◌/◌, ◌%◌, ◌^◌, ◌≤◌, ◌<◌, length};
-ghost use Rattle.bits.specs.Word.{swapped};
-ghost use Rattle.table_read.specs.Rows.{Row, Unlike};
+ghost use Rattle.table_read.specs.Rows.{Row, Unlike, Passed};
 
 // Up to so many slots are looked at without a branch on the data.
 pub const FEW: usize = 10;
 
-// The first of n slots whose eight bytes are q with its bytes in the other order, where those of slot 0 begin at byte i;
-// n if none is. It goes from the last slot to the first and never leaves early, so that the choice of r is a conditional
-// move: with few slots no branch depends on the data.
-fn first_word(t: &[u8], i: usize, step: usize, n: usize, q: u64) -> usize
-    requires { ((k : ℕ) → k < n → i + k * step + 8 ≤ length t.now) × (i + n * step ≤ 2 ^ 28) }
-    ensures { Unlike t.now (8 * i) (8 * step) 64 (swapped q) n result }
+// The first of n slots whose window is the one that is sought, where that of slot k begins at place at + k * step; n if none
+// is. It goes from the last slot to the first and never leaves early, so that the choice of r is a conditional move: with few
+// slots no branch depends on the data.
+fn first<F: Fn(usize) -> bool>(at: usize, step: usize, n: usize, is_sought: F) -> usize
+    requires { ((k : ℕ) → k < n → F.pre is_sought (at + k * step)) × (at + n * step ≤ 2 ^ 28) }
+    ensures { Passed (F.post is_sought) at step n result }
 {
     let mut r = n;
-    let mut j = n;
-    let mut p = i + n * step;
-    while j > 0 {
-        j -= 1;
-        p -= step;
-        if bits::word_is(t, p, q) {
+    for j in (0..n).rev() {
+        if is_sought(at + j * step) {
             r = j;
         }
     }
@@ -28,95 +23,27 @@ fn first_word(t: &[u8], i: usize, step: usize, n: usize, q: u64) -> usize
 }
 
 // The same, for many slots: it stops at the first.
-fn next_word(t: &[u8], i: usize, step: usize, n: usize, q: u64) -> usize
-    requires { ((k : ℕ) → k < n → i + k * step + 8 ≤ length t.now) × (i + n * step ≤ 2 ^ 28) }
-    ensures { Unlike t.now (8 * i) (8 * step) 64 (swapped q) n result }
+fn next<F: Fn(usize) -> bool>(at: usize, step: usize, n: usize, is_sought: F) -> usize
+    requires { ((k : ℕ) → k < n → F.pre is_sought (at + k * step)) × (at + n * step ≤ 2 ^ 28) }
+    ensures { Passed (F.post is_sought) at step n result }
 {
-    let mut p = i;
-    let mut j: usize = 0;
-    while j < n {
-        if bits::word_is(t, p, q) {
+    for j in 0..n {
+        if is_sought(at + j * step) {
             return j;
         }
-        p += step;
-        j += 1;
     }
-    j
+    n
 }
 
-// The same of four bytes.
-fn next_four(t: &[u8], i: usize, step: usize, n: usize, q: u64) -> usize
-    requires { ((k : ℕ) → k < n → i + k * step + 4 ≤ length t.now) × (i + n * step ≤ 2 ^ 28) × (q < 2 ^ 32) }
-    ensures { Unlike t.now (8 * i) (8 * step) 32 (swapped (q * 2 ^ 32)) n result }
-{
-    let mut p = i;
-    let mut j: usize = 0;
-    while j < n {
-        if bits::four_is(t, p, q) {
-            return j;
-        }
-        p += step;
-        j += 1;
-    }
-    j
-}
-
-// The first of n slots whose m bits are q, where those of slot 0 begin at bit `at`; n if none is. From the last slot to
-// the first, as in `first_word`.
-fn first_tail(t: &[u8], at: usize, step: usize, n: usize, m: usize, q: u64) -> usize
-    requires { (0 < m) × (m ≤ 57) × ((k : ℕ) → k < n → (at + k * step) / 8 + 8 ≤ length t.now) × (at + n * step ≤ 2 ^ 28) }
-    ensures { Unlike t.now at step m q n result }
-{
-    let mut r = n;
-    let mut j = n;
-    let mut p = at + n * step;
-    while j > 0 {
-        j -= 1;
-        p -= step;
-        if bits::get_inner(t, p, m) == q {
-            r = j;
-        }
-    }
-    r
-}
-
-// The same, for many slots: it stops at the first.
-fn next_tail(t: &[u8], at: usize, step: usize, n: usize, m: usize, q: u64) -> usize
-    requires { (0 < m) × (m ≤ 57) × ((k : ℕ) → k < n → (at + k * step) / 8 + 8 ≤ length t.now) × (at + n * step ≤ 2 ^ 28) }
-    ensures { Unlike t.now at step m q n result }
-{
-    let mut p = at;
-    let mut j: usize = 0;
-    while j < n {
-        if bits::get_inner(t, p, m) == q {
-            return j;
-        }
-        p += step;
-        j += 1;
-    }
-    j
-}
-
-// The first slot with the eight bytes: of few slots without a branch on the data, of many by stopping there.
-fn candidate_words(t: &[u8], i: usize, step: usize, n: usize, q: u64) -> usize
-    requires { ((k : ℕ) → k < n → i + k * step + 8 ≤ length t.now) × (i + n * step ≤ 2 ^ 28) }
-    ensures { Unlike t.now (8 * i) (8 * step) 64 (swapped q) n result }
+// The first slot with the window: of few slots without a branch on the data, of many by stopping there.
+fn first_or_next<F: Fn(usize) -> bool>(at: usize, step: usize, n: usize, is_sought: F) -> usize
+    requires { ((k : ℕ) → k < n → F.pre is_sought (at + k * step)) × (at + n * step ≤ 2 ^ 28) }
+    ensures { Passed (F.post is_sought) at step n result }
 {
     if n <= FEW {
-        return first_word(t, i, step, n, q);
+        return first(at, step, n, is_sought);
     }
-    next_word(t, i, step, n, q)
-}
-
-// The same of m bits.
-fn candidate_tails(t: &[u8], at: usize, step: usize, n: usize, m: usize, q: u64) -> usize
-    requires { (0 < m) × (m ≤ 57) × ((k : ℕ) → k < n → (at + k * step) / 8 + 8 ≤ length t.now) × (at + n * step ≤ 2 ^ 28) }
-    ensures { Unlike t.now at step m q n result }
-{
-    if n <= FEW {
-        return first_tail(t, at, step, n, m, q);
-    }
-    next_tail(t, at, step, n, m, q)
+    next(at, step, n, is_sought)
 }
 
 // A slot before which none of the n slots holds the number high * 2^64 + low, so that the search goes on there. Where a
@@ -141,24 +68,25 @@ pub fn candidate(
         let i = (start + 7) / 8;
         let o = 8 * i - start;
         if o + 64 <= bie {
-            return candidate_words(
-                t,
-                i,
-                slot / 8,
-                n,
-                bits::swap_bytes(bits::part_of_two(high, low, bie - o - 64)),
-            );
+            let q = bits::swap_bytes(bits::part_of_two(high, low, bie - o - 64));
+            return first_or_next(i, slot / 8, n, |p| bits::word_is(t, p, q));
         }
         if o + 32 <= bie {
             let q = bits::swap_bytes(bits::part_of_two(high, low, bie - o - 32)) / 4294967296;
-            return next_four(t, i, slot / 8, n, q);
+            return next(i, slot / 8, n, |p| bits::four_is(t, p, q));
         }
     }
     if (start + n * slot) / 8 + 8 > t.len() {
         return 0;
     }
     if bie >= 57 {
-        return candidate_tails(t, start + (bie - 57), slot, n, 57, low % 144115188075855872);
+        let q = low % 144115188075855872;
+        return first_or_next(
+            start + (bie - 57),
+            slot,
+            n,
+            |at| bits::get_inner(t, at, 57) == q,
+        );
     }
-    candidate_tails(t, start, slot, n, bie, low)
+    first_or_next(start, slot, n, |at| bits::get_inner(t, at, bie) == low)
 }

@@ -22,7 +22,7 @@ use settings::{Laid, Layout, Refusal, Settings};
 pub use slot::retrieve;
 use table::{RecordAnswer, Step};
 use table_read::blocks::{basic_counter, basic_head, overflow_front, overflow_link, step_of};
-use table_read::lists::{Last, basic_run, displaced_run, follow, overflow_run};
+use table_read::lists::{basic_run, displaced_run, follow, overflow_run};
 use table_read::slots::{Slots, entry_in, label_in};
 
 // What stands at a number in a row of slots: an entry with its label, or nothing, with the number that
@@ -102,7 +102,7 @@ fn nth_long(t: &[u8], g: Layout, i: ListNumber, first: BlockNumber, n: u64) -> N
     requires { Table g t.now × (i.0 < g.lists) × Overflows g (decode g t.now) i.0 first.0 }
     ensures { (result ≡ nth_in g (content g (decode g t.now) i.0) n) × Bounded g result }
 {
-    let Last::Block(last) = follow(t, g, i, first) else {
+    let Ok(last) = follow(t, g, i, first) else {
         return Nth::Damage;
     };
     let sib = g.sib as u64;

@@ -17,7 +17,7 @@ use keys::{BlockNumber, Key, ListNumber, SlotNumber};
 use settings::{Laid, Layout, Refusal, Settings};
 use table::RecordAnswer;
 use table_read::blocks::{basic_counter, basic_front, basic_head, overflow_link, owned_front};
-use table_read::lists::{Last, displaced_run, follow, list_has_block};
+use table_read::lists::{displaced_run, follow, list_has_block};
 use table_read::numbers::basic_capacity;
 use table_read::places::{basic_slot, overflow_slot};
 use table_read::slots::{Slots, entry_in, label_in};
@@ -140,7 +140,7 @@ fn in_long(t: &[u8], g: Layout, i: ListNumber, p: SlotNumber, count: usize) -> S
     if count > g.sib + 1 {
         return Spot::Damage;
     }
-    let Last::Block(last) = follow(t, g, i, BlockNumber(basic_head(t, g, i))) else {
+    let Ok(last) = follow(t, g, i, BlockNumber(basic_head(t, g, i))) else {
         return Spot::Damage;
     };
     let at = basic_slot(g, i, p);
@@ -171,7 +171,7 @@ fn in_overflow(t: &[u8], g: Layout, j: BlockNumber, k: SlotNumber) -> Spot
         return Spot::Damage;
     }
     let first = BlockNumber(front.link);
-    let Last::Block(_) = follow(t, g, i, first) else {
+    let Ok(_) = follow(t, g, i, first) else {
         return Spot::Damage;
     };
     if !list_has_block(t, g, first, j) {

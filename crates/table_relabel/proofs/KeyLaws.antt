@@ -1,4 +1,5 @@
 -- Relabel of a key: what find answered decides what it comes to.
+use Rattle.std.specs.Prelude.{Ok, Err}
 use mathlib.Core.Path.{◌≡◌, refl, sym, ap, ap₂, subst, ◌∙◌}
 use mathlib.Core.List.{List}
 use Prim.Native.Nat.{ℕ, ◌-◌, ◌^◌, ◌<◌}
@@ -19,9 +20,8 @@ use Rattle.table.specs.Store.{store_at}
 use Rattle.table.specs.Relabel.{relabel_followed, relabel_in}
 use Rattle.table.specs.Calls.{list_call, relabel, key_call}
 use Rattle.table.specs.theory.Positions.{position_held}
-use Rattle.table.specs.declared.answers.Answer.{Answer}
-use Rattle.table.specs.Answer.{said}
-use Rattle.table.specs.declared.answers.Answer.TheVariants as answer
+use Rattle.table.specs.Answer.{said, Answer}
+use Rattle.table.specs.declared.answers.Word.{Word}
 use Rattle.table.specs.declared.answers.Word.TheVariants as word
 use Rattle.table_store.specs.Places.{Placed}
 use Rattle.table_store.specs.theory.StoreLaws.{stored_written}
@@ -38,13 +38,16 @@ pub data Told : Answer → Type 0 where
   held : (l n x : ℕ) → Told (said word.Held l n x)
   other : (a : Answer) → Other a → place_found a ≡ 0 → answer_to a ≡ a → Told a
 
+worded : (w : Word) (l n x : ℕ) → Told (said w l n x)
+worded word.Added l n x = other (said word.Added l n x) tt refl refl
+worded word.Held l n x = held l n x
+worded word.Gone l n x = other (said word.Gone l n x) tt refl refl
+worded word.None l n x = other (said word.None l n x) tt refl refl
+worded word.Relabelled l n x = other (said word.Relabelled l n x) tt refl refl
+
 pub told : (a : Answer) → Told a
-told (answer.Said l word.Added n x) = other (said word.Added l n x) tt refl refl
-told (answer.Said l word.Held n x) = held l n x
-told (answer.Said l word.Gone n x) = other (said word.Gone l n x) tt refl refl
-told (answer.Said l word.None n x) = other (said word.None l n x) tt refl refl
-told (answer.Said l word.Relabelled n x) = other (said word.Relabelled l n x) tt refl refl
-told (answer.Refused why) = other (answer.Refused why) tt refl refl
+told (Ok r) = worded r.word r.label r.compared r.slot
+told (Err why) = other (Err why) tt refl refl
 
 -- ---- on a list
 

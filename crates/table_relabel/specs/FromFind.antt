@@ -1,8 +1,6 @@
 -- What find answered, as relabel takes it. Only contracts of functions cite these; the call's own does not.
-use Rattle.std.specs.Prelude.{ℕ}
-use Rattle.table.specs.Answer.{said}
-use Rattle.table.specs.declared.answers.Answer.{Answer}
-use Rattle.table.specs.declared.answers.Answer.TheVariants as answer
+use Rattle.std.specs.Prelude.{ℕ, Ok, Err}
+use Rattle.table.specs.Answer.{said, Answer}
 use Rattle.table.specs.declared.answers.Word.{Word}
 use Rattle.table.specs.declared.answers.Word.TheVariants as word
 
@@ -16,8 +14,8 @@ if_held word.Relabelled n = 0
 
 -- the place of the entry that was found, from 1; 0 if it was not
 abbrev pub place_found : Answer → ℕ
-place_found (answer.Said l w n x) = if_held w n
-place_found (answer.Refused why) = 0
+place_found (Ok said) = if_held said.word said.compared
+place_found (Err why) = 0
 
 abbrev pub word_to : Word → Word
 word_to word.Added = word.Added
@@ -28,5 +26,5 @@ word_to word.Relabelled = word.Relabelled
 
 -- "relabelled" for "held", and all else as it is
 abbrev pub answer_to : Answer → Answer
-answer_to (answer.Said l w n x) = said (word_to w) l n x
-answer_to (answer.Refused why) = answer.Refused why
+answer_to (Ok r) = said (word_to r.word) r.label r.compared r.slot
+answer_to (Err why) = Err why

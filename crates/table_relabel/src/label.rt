@@ -9,7 +9,7 @@ ghost use Rattle.table_relabel.specs.Relabels.{Relabellable, Relabelled};
 use keys::{BlockNumber, Key, ListNumber, SlotNumber};
 use settings::Layout;
 use table_read::blocks::{basic_front, basic_head, overflow_link};
-use table_read::lists::{Last, block_slot_of, displaced_run, follow};
+use table_read::lists::{block_slot_of, displaced_run, follow};
 use table_read::places::{basic_slot, basic_slots, overflow_slot};
 use table_store::{Slot, put_overflow_link, store_over_displaced};
 
@@ -38,7 +38,7 @@ fn relabel_displaced(
     requires { Relabellable g t.old i.0 p label × (p < g.sib) × (at ≡ basic_slot g i.0 p + g.bie) × (g.sib < (basic_at (decode g t.old).basic i.0).counter) × (first.0 ≡ (basic_at (decode g t.old).basic i.0).head) }
     ensures { Relabelled g t.old t.new i.0 p label }
 {
-    let Last::Block(last) = follow(t, g, i, first) else {
+    let Ok(last) = follow(t, g, i, first) else {
         return;
     };
     let old = overflow_link(t, g, last);

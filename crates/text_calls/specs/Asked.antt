@@ -4,8 +4,8 @@ use Rattle.settings.specs.declared.settings.Settings.{Settings}
 use Rattle.settings.specs.Reply.{Reply, answering}
 use Rattle.keys.specs.declared.Key.{Key}
 use Rattle.table.specs.Calls.{Verb, key_call}
-use Rattle.table.specs.declared.answers.Answer.{Answer}
 use Rattle.text_calls.specs.TextCalls.{text_call}
+use Rattle.table.specs.Answer.{Answer}
 
 pub data Asked : Type 0 where
   by_key : Verb → Key → Asked

@@ -1,4 +1,5 @@
 -- Fields and the numerals in them: what a field gives where some of its digits are read already, by the class of the next byte.
+use Rattle.std.specs.Prelude.{Option as Found, Some, None}
 use Prim.Native.Nat.{ℕ, zero, suc, ◌+◌, ◌*◌, ◌≤◌, ◌<◌, ◌^◌}
 use native.Mathlib.Nat.{zero-add, add-zero, pow-le-pow_right, lt_of_lt_of_le}
 use native.Mathlib.Omega.{arith}
@@ -15,9 +16,9 @@ use Rattle.laws.specs.Cases.{cases, both_true, cond_same}
 use Rattle.laws.specs.Lists.{drop_next}
 use Rattle.text_read.specs.Class.{class_of, colon, dot, within as between}
 use Rattle.text_read.specs.Numerals.{digits, number, group, decimal, no_leading_zero}
-use Rattle.text_read.specs.ReaderSteps.{class_at, Five, by_length, until, numeral_of, group_in, decimal_in}
+use Rattle.text_read.specs.Classes.{class_at, Five}
+use Rattle.text_read.specs.ReaderSteps.{by_length, until, numeral_of, group_in, decimal_in}
 use Rattle.text_read.specs.declared.reader.Numeral.{Numeral}
-use Rattle.text_read.specs.declared.reader.Numeral.TheVariants as numeral
 
 -- The field by places ---------------------------------------------------------------------------------------------------
 
@@ -66,7 +67,7 @@ digit_most b n m v p h l = lt_of_lt_of_le h (pow-le-pow_right p l)
 group_from : ℕ → ℕ → List ℕ → Option ℕ
 group_from n v f = cond (digits 16 f && leb 1 (n + length f) && leb (n + length f) 4) (some (number 16 v f)) none
 
-group_rest : ℕ → ℕ → ℕ → List ℕ → Numeral
+group_rest : ℕ → ℕ → ℕ → List ℕ → Found Numeral
 group_rest n v i f = numeral_of (group_from n v f) (i + length f)
 
 group_step : (n v i x : ℕ) (f : List ℕ) → class_of x < 16 → group_rest n v i (x ∷ f) ≡ group_rest (n + 1) (v * 16 + class_of x) (i + 1) f
@@ -76,11 +77,11 @@ group_step n v i x f h =
     let b : i + suc (length f) ≡ i + 1 + length f = omega arith in
     simp (lt-ltb _ _ h, a, b)
 
-group_other : (n v i x : ℕ) (f : List ℕ) → 15 < class_of x → group_rest n v i (x ∷ f) ≡ numeral.Bad
+group_other : (n v i x : ℕ) (f : List ℕ) → 15 < class_of x → group_rest n v i (x ∷ f) ≡ None
 unfolding group_rest group_from digits
 group_other n v i x f h = simp (le-ltb _ _ h)
 
-group_many : (n v i x : ℕ) (f : List ℕ) → 3 < n → group_rest n v i (x ∷ f) ≡ numeral.Bad
+group_many : (n v i x : ℕ) (f : List ℕ) → 3 < n → group_rest n v i (x ∷ f) ≡ None
 unfolding group_rest group_from
 group_many n v i x f h =
     let a : 4 < n + suc (length f) = omega arith in
@@ -92,14 +93,14 @@ group_end n v i h = simp (add-zero, le-leb _ _ h, and-true)
 
 module _ (s : List ℕ) (i : ℕ) where
   -- the group in the field of which n digits with the value v stand before i
-  group_at : ℕ → ℕ → Numeral
+  group_at : ℕ → ℕ → Found Numeral
   group_at n v = group_rest n v i (until colon (drop i s))
 
   group_start : group_in (until colon (drop i s)) i ≡ group_at 0 0
   unfolding group_in group_at group_rest group_from group
   group_start = simp zero-add
 
-  group_bad : 15 < class_at colon s i → group_at 0 0 ≡ numeral.Bad
+  group_bad : 15 < class_at colon s i → group_at 0 0 ≡ None
   unfolding group_at
   group_bad h = cases (eqb (class_at colon s i) colon)
       (λ t. rw (field_stop colon s i (eqb-true (class_at colon s i) colon t)) (group_end 0 0 i (omega arith)))
@@ -109,7 +110,7 @@ module _ (s : List ℕ) (i : ℕ) where
   module _ (n v : ℕ) where
     -- nothing or no digit follows, or four digits are there: the group ends here, or there is none
     group_ended : 1 ≤ n → n ≤ 4 → (15 < class_at colon s i) ⊎ (3 < n)
-        → group_at n v ≡ cond (eqb (class_at colon s i) colon) (numeral.Value v i) numeral.Bad
+        → group_at n v ≡ cond (eqb (class_at colon s i) colon) (Some (record { value = v; next = i })) None
     unfolding group_at
     group_ended l m o = cases (eqb (class_at colon s i) colon)
         (λ t. rw (t, field_stop colon s i (eqb-true (class_at colon s i) colon t), group_end n v i m, le-leb 1 n l))
@@ -125,45 +126,45 @@ group_digit s i n v h =
     (group_step n v i (get_or s i 0) (until colon (drop (i + 1) s)) (rw (class_more colon s i d) h)
     ∙ rw (class_more colon s i d))
 
-group_on : (s : List ℕ) (f : Numeral) (i n v k j m w : ℕ) → f ≡ group_at s i n v → k ≡ class_at colon s i → k < 16
+group_on : (s : List ℕ) (f : Found Numeral) (i n v k j m w : ℕ) → f ≡ group_at s i n v → k ≡ class_at colon s i → k < 16
     → j ≡ i + 1 → m ≡ n + 1 → w ≡ v * 16 + k → f ≡ group_at s j m w
 group_on s f i n v k j m w h e l ej em ew = h ∙ group_digit s i n v (rw (sym e) l) ∙ rw (ej, em, ew, e)
 
-group_close : (s : List ℕ) (f : Numeral) (i n v k : ℕ) → f ≡ group_at s i n v → k ≡ class_at colon s i → 1 ≤ n → n ≤ 4 → (15 < k) ⊎ (3 < n)
-    → f ≡ cond (eqb k colon) (numeral.Value v i) numeral.Bad
+group_close : (s : List ℕ) (f : Found Numeral) (i n v k : ℕ) → f ≡ group_at s i n v → k ≡ class_at colon s i → 1 ≤ n → n ≤ 4 → (15 < k) ⊎ (3 < n)
+    → f ≡ cond (eqb k colon) (Some (record { value = v; next = i })) None
 group_close s f i n v k h e l m o = h ∙ group_ended s i n v l m (rw (sym e) o) ∙ rw e
 
 -- the group by the classes of the first five bytes
 module _ (s : List ℕ) (at a b c d e : ℕ) (f : Five s at a b c d e) where
-  abbrev Whole : Numeral
+  abbrev Whole : Found Numeral
   Whole = group_in (until colon (drop at s)) at
 
-  pub group_none : 15 < a → group_in (until colon (drop at s)) at ≡ numeral.Bad
+  pub group_none : 15 < a → group_in (until colon (drop at s)) at ≡ None
   group_none h = group_start s at ∙ group_bad s at (rw (sym f.one) h)
 
   module _ (la : a < 16) where
     one_digit : Whole ≡ group_at s (at + 1) 1 a
     one_digit = group_on s Whole at 0 0 a (at + 1) 1 a (group_start s at) f.one la refl refl (omega arith)
 
-    group_one : 15 < b → group_in (until colon (drop at s)) at ≡ cond (eqb b colon) (numeral.Value a (at + 1)) numeral.Bad
+    group_one : 15 < b → group_in (until colon (drop at s)) at ≡ cond (eqb b colon) (Some (record { value = a; next = (at + 1) })) None
     group_one h = group_close s Whole (at + 1) 1 a b one_digit f.two (omega arith) (omega arith) (inl h)
 
     module _ (lb : b < 16) where
       two_digits : Whole ≡ group_at s (at + 2) 2 (a * 16 + b)
       two_digits = group_on s Whole (at + 1) 1 a b (at + 2) 2 (a * 16 + b) one_digit f.two lb (omega arith) refl refl
 
-      group_two : 15 < c → group_in (until colon (drop at s)) at ≡ cond (eqb c colon) (numeral.Value (a * 16 + b) (at + 2)) numeral.Bad
+      group_two : 15 < c → group_in (until colon (drop at s)) at ≡ cond (eqb c colon) (Some (record { value = (a * 16 + b); next = (at + 2) })) None
       group_two h = group_close s Whole (at + 2) 2 (a * 16 + b) c two_digits f.three (omega arith) (omega arith) (inl h)
 
       module _ (lc : c < 16) where
         three_digits : Whole ≡ group_at s (at + 3) 3 ((a * 16 + b) * 16 + c)
         three_digits = group_on s Whole (at + 2) 2 (a * 16 + b) c (at + 3) 3 ((a * 16 + b) * 16 + c) two_digits f.three lc (omega arith) refl refl
 
-        group_three : 15 < d → group_in (until colon (drop at s)) at ≡ cond (eqb d colon) (numeral.Value ((a * 16 + b) * 16 + c) (at + 3)) numeral.Bad
+        group_three : 15 < d → group_in (until colon (drop at s)) at ≡ cond (eqb d colon) (Some (record { value = ((a * 16 + b) * 16 + c); next = (at + 3) })) None
         group_three h = group_close s Whole (at + 3) 3 ((a * 16 + b) * 16 + c) d three_digits f.four (omega arith) (omega arith) (inl h)
 
         pub group_four : d < 16
-            → group_in (until colon (drop at s)) at ≡ cond (eqb e colon) (numeral.Value (((a * 16 + b) * 16 + c) * 16 + d) (at + 4)) numeral.Bad
+            → group_in (until colon (drop at s)) at ≡ cond (eqb e colon) (Some (record { value = (((a * 16 + b) * 16 + c) * 16 + d); next = (at + 4) })) None
         group_four ld =
             group_close s Whole (at + 4) 4 (((a * 16 + b) * 16 + c) * 16 + d) e
             (group_on s Whole (at + 3) 3 ((a * 16 + b) * 16 + c) d (at + 4) 4 (((a * 16 + b) * 16 + c) * 16 + d) three_digits f.four ld (omega arith) refl refl)
@@ -191,7 +192,7 @@ three_most b c = cases (ltb 15 b)
 
 pub group_short : (s : List ℕ) (at a b c d e v n k : ℕ) → Five s at a b c d e → a < 16 → (b < 16 → c < 16 → 15 < d)
     → v ≡ by_length b c a (a * 16 + b) ((a * 16 + b) * 16 + c) → n ≡ by_length b c 1 2 3 → k ≡ by_length b c b c d
-    → group_in (until colon (drop at s)) at ≡ cond (eqb k colon) (numeral.Value v (at + n)) numeral.Bad
+    → group_in (until colon (drop at s)) at ≡ cond (eqb k colon) (Some (record { value = v; next = (at + n) })) None
 group_short s at a b c d e v n k f la ld ev en ek = cases (ltb 15 b)
     (λ t.
     let h : 15 < b = ltb-true 15 b t in
@@ -261,7 +262,7 @@ decimal_from : ℕ → ℕ → List ℕ → Option ℕ
 decimal_from n v f =
     cond (digits 10 f && leb 1 (n + length f) && leb (n + length f) 3 && no_zero_from n v f && leb (number 10 v f) 255) (some (number 10 v f)) none
 
-decimal_rest : ℕ → ℕ → ℕ → List ℕ → Numeral
+decimal_rest : ℕ → ℕ → ℕ → List ℕ → Found Numeral
 decimal_rest n v i f = numeral_of (decimal_from n v f) (i + length f)
 
 -- the first digit
@@ -292,17 +293,17 @@ decimal_step n v i x f h b p =
     let c : i + suc (length f) ≡ i + 1 + length f = omega arith in
     simp (lt-ltb _ _ h, a, c, zero_step n v x f b p)
 
-decimal_other : (n v i x : ℕ) (f : List ℕ) → 9 < class_of x → decimal_rest n v i (x ∷ f) ≡ numeral.Bad
+decimal_other : (n v i x : ℕ) (f : List ℕ) → 9 < class_of x → decimal_rest n v i (x ∷ f) ≡ None
 unfolding decimal_rest decimal_from digits
 decimal_other n v i x f h = simp (le-ltb _ _ h)
 
-decimal_many : (n v i x : ℕ) (f : List ℕ) → 2 < n → decimal_rest n v i (x ∷ f) ≡ numeral.Bad
+decimal_many : (n v i x : ℕ) (f : List ℕ) → 2 < n → decimal_rest n v i (x ∷ f) ≡ None
 unfolding decimal_rest decimal_from
 decimal_many n v i x f h =
     let a : 3 < n + suc (length f) = omega arith in
     simp (lt-leb _ _ a, and-false)
 
-decimal_second : (n v i x : ℕ) (f : List ℕ) → 0 < n → v ≡ 0 → decimal_rest n v i (x ∷ f) ≡ numeral.Bad
+decimal_second : (n v i x : ℕ) (f : List ℕ) → 0 < n → v ≡ 0 → decimal_rest n v i (x ∷ f) ≡ None
 unfolding decimal_rest decimal_from
 decimal_second n v i x f h e = simp (ne_eqb n 0 (λ z. omega arith), eq-eqb v 0 e, and-false)
 
@@ -312,14 +313,14 @@ decimal_end n v i h = simp (add-zero, le-leb _ _ h, and-true, cond_same)
 
 module _ (s : List ℕ) (i : ℕ) where
   -- the decimal in the field of which n digits with the value v stand before i
-  decimal_at : ℕ → ℕ → Numeral
+  decimal_at : ℕ → ℕ → Found Numeral
   decimal_at n v = decimal_rest n v i (until dot (drop i s))
 
   decimal_start : decimal_in (until dot (drop i s)) i ≡ decimal_at 0 0
   unfolding decimal_in decimal_at decimal_rest decimal_from decimal
   decimal_start = simp zero-add
 
-  decimal_bad : 9 < class_at dot s i → decimal_at 0 0 ≡ numeral.Bad
+  decimal_bad : 9 < class_at dot s i → decimal_at 0 0 ≡ None
   unfolding decimal_at
   decimal_bad h = cases (eqb (class_at dot s i) dot)
       (λ t. rw (field_stop dot s i (eqb-true (class_at dot s i) dot t)) (decimal_end 0 0 i (omega arith)))
@@ -329,7 +330,7 @@ module _ (s : List ℕ) (i : ℕ) where
   module _ (n v : ℕ) where
     -- nothing or no digit follows, or three digits are there: the decimal ends here, or there is none
     decimal_ended : 1 ≤ n → n ≤ 3 → v ≤ 255 → (9 < class_at dot s i) ⊎ (2 < n)
-        → decimal_at n v ≡ cond (eqb (class_at dot s i) dot) (numeral.Value v i) numeral.Bad
+        → decimal_at n v ≡ cond (eqb (class_at dot s i) dot) (Some (record { value = v; next = i })) None
     unfolding decimal_at
     decimal_ended l m b o = cases (eqb (class_at dot s i) dot)
         (λ t. rw (t, field_stop dot s i (eqb-true (class_at dot s i) dot t), decimal_end n v i m, le-leb 1 n l, le-leb v 255 b))
@@ -338,14 +339,14 @@ module _ (s : List ℕ) (i : ℕ) where
         (⊎_elim (λ h. decimal_other n v i (get_or s i 0) (until dot (drop (i + 1) s)) (rw (class_more dot s i d) h)) (λ h. decimal_many n v i (get_or s i 0) (until dot (drop (i + 1) s)) h) o))
 
     -- a digit after a leading zero
-    decimal_leading : 1 ≤ n → v ≡ 0 → class_at dot s i < 10 → decimal_at n v ≡ numeral.Bad
+    decimal_leading : 1 ≤ n → v ≡ 0 → class_at dot s i < 10 → decimal_at n v ≡ None
     unfolding decimal_at
     decimal_leading l e h =
         let d : class_at dot s i ≡ dot → ⊥ = λ z. omega arith in
         rw (field_more dot s i d) (decimal_second n v i (get_or s i 0) (until dot (drop (i + 1) s)) l e)
 
     -- three digits, and more than 255
-    decimal_large : n ≡ 3 → 255 < v → decimal_at n v ≡ numeral.Bad
+    decimal_large : n ≡ 3 → 255 < v → decimal_at n v ≡ None
     unfolding decimal_at
     decimal_large e h = cases (eqb (class_at dot s i) dot)
         (λ t. rw (field_stop dot s i (eqb-true (class_at dot s i) dot t), decimal_end n v i (omega arith), lt-leb v 255 h, and-false))
@@ -360,37 +361,37 @@ decimal_digit s i n v h b p =
     (decimal_step n v i (get_or s i 0) (until dot (drop (i + 1) s)) (rw (class_more dot s i d) h) b p
     ∙ rw (class_more dot s i d))
 
-decimal_on : (s : List ℕ) (f : Numeral) (i n v k j m w : ℕ) → f ≡ decimal_at s i n v → k ≡ class_at dot s i → k < 10 → v < 10 ^ n → (0 < n → v ≡ 0 → ⊥)
+decimal_on : (s : List ℕ) (f : Found Numeral) (i n v k j m w : ℕ) → f ≡ decimal_at s i n v → k ≡ class_at dot s i → k < 10 → v < 10 ^ n → (0 < n → v ≡ 0 → ⊥)
     → j ≡ i + 1 → m ≡ n + 1 → w ≡ v * 10 + k → f ≡ decimal_at s j m w
 decimal_on s f i n v k j m w h e l b z ej em ew = h ∙ decimal_digit s i n v (rw (sym e) l) b z ∙ rw (ej, em, ew, e)
 
-decimal_close : (s : List ℕ) (f : Numeral) (i n v k : ℕ) → f ≡ decimal_at s i n v → k ≡ class_at dot s i → 1 ≤ n → n ≤ 3 → v ≤ 255 → (9 < k) ⊎ (2 < n)
-    → f ≡ cond (eqb k dot) (numeral.Value v i) numeral.Bad
+decimal_close : (s : List ℕ) (f : Found Numeral) (i n v k : ℕ) → f ≡ decimal_at s i n v → k ≡ class_at dot s i → 1 ≤ n → n ≤ 3 → v ≤ 255 → (9 < k) ⊎ (2 < n)
+    → f ≡ cond (eqb k dot) (Some (record { value = v; next = i })) None
 decimal_close s f i n v k h e l m b o = h ∙ decimal_ended s i n v l m b (rw (sym e) o) ∙ rw e
 
 -- the decimal by the classes of the bytes, one after the other
 module _ (s : List ℕ) (at a : ℕ) (ea : a ≡ class_at dot s at) where
-  abbrev Number : Numeral
+  abbrev Number : Found Numeral
   Number = decimal_in (until dot (drop at s)) at
 
-  pub decimal_none : 9 < a → decimal_in (until dot (drop at s)) at ≡ numeral.Bad
+  pub decimal_none : 9 < a → decimal_in (until dot (drop at s)) at ≡ None
   decimal_none h = decimal_start s at ∙ decimal_bad s at (rw (sym ea) h)
 
   module _ (la : a < 10) (b : ℕ) (eb : b ≡ class_at dot s (at + 1)) where
     one_decimal : Number ≡ decimal_at s (at + 1) 1 a
     one_decimal = decimal_on s Number at 0 0 a (at + 1) 1 a (decimal_start s at) ea la (lit< tt) (λ p z. omega arith) refl refl (omega arith)
 
-    pub decimal_one : 9 < b → decimal_in (until dot (drop at s)) at ≡ cond (eqb b dot) (numeral.Value a (at + 1)) numeral.Bad
+    pub decimal_one : 9 < b → decimal_in (until dot (drop at s)) at ≡ cond (eqb b dot) (Some (record { value = a; next = (at + 1) })) None
     decimal_one h = decimal_close s Number (at + 1) 1 a b one_decimal eb (omega arith) (omega arith) (omega arith) (inl h)
 
-    pub decimal_zero : b < 10 → a ≡ 0 → decimal_in (until dot (drop at s)) at ≡ numeral.Bad
+    pub decimal_zero : b < 10 → a ≡ 0 → decimal_in (until dot (drop at s)) at ≡ None
     decimal_zero h e = one_decimal ∙ decimal_leading s (at + 1) 1 a (omega arith) e (rw (sym eb) h)
 
     module _ (lb : b < 10) (na : a ≡ 0 → ⊥) (c : ℕ) (ec : c ≡ class_at dot s (at + 2)) where
       two_decimals : Number ≡ decimal_at s (at + 2) 2 (a * 10 + b)
       two_decimals = decimal_on s Number (at + 1) 1 a b (at + 2) 2 (a * 10 + b) one_decimal eb lb la (λ p z. na z) (omega arith) refl refl
 
-      pub decimal_two : 9 < c → decimal_in (until dot (drop at s)) at ≡ cond (eqb c dot) (numeral.Value (a * 10 + b) (at + 2)) numeral.Bad
+      pub decimal_two : 9 < c → decimal_in (until dot (drop at s)) at ≡ cond (eqb c dot) (Some (record { value = (a * 10 + b); next = (at + 2) })) None
       decimal_two h = decimal_close s Number (at + 2) 2 (a * 10 + b) c two_decimals ec (omega arith) (omega arith) (omega arith) (inl h)
 
       module _ (lc : c < 10) where
@@ -399,9 +400,9 @@ module _ (s : List ℕ) (at a : ℕ) (ea : a ≡ class_at dot s at) where
             decimal_on s Number (at + 2) 2 (a * 10 + b) c (at + 3) 3 ((a * 10 + b) * 10 + c)
             two_decimals ec lc (omega arith) (λ p z. na (omega arith)) (omega arith) refl refl
 
-        pub decimal_over : 255 < (a * 10 + b) * 10 + c → decimal_in (until dot (drop at s)) at ≡ numeral.Bad
+        pub decimal_over : 255 < (a * 10 + b) * 10 + c → decimal_in (until dot (drop at s)) at ≡ None
         decimal_over h = three_decimals ∙ decimal_large s (at + 3) 3 ((a * 10 + b) * 10 + c) refl h
 
         pub decimal_three : (a * 10 + b) * 10 + c ≤ 255 → (d : ℕ) → d ≡ class_at dot s (at + 3)
-            → decimal_in (until dot (drop at s)) at ≡ cond (eqb d dot) (numeral.Value ((a * 10 + b) * 10 + c) (at + 3)) numeral.Bad
+            → decimal_in (until dot (drop at s)) at ≡ cond (eqb d dot) (Some (record { value = ((a * 10 + b) * 10 + c); next = (at + 3) })) None
         decimal_three h d ed = decimal_close s Number (at + 3) 3 ((a * 10 + b) * 10 + c) d three_decimals ed (omega arith) (omega arith) h (inr (omega arith))

@@ -1,7 +1,7 @@
 -- The two statements of the grammar agree: `Spells` relates a text to eight groups exactly if `groups_of` reads them from it.
 use Rattle.std.proofs.Math.Path.{◌≡◌, refl, ap}
 use Rattle.std.proofs.Common.{sym, ◌∙◌, arith, lt-ltb, ltb-true, eq-eqb, eqb-true}
-use Rattle.std.specs.Prelude.{Bool, cond, ℕ, ◌+◌, ◌-◌, ◌≤◌, ltb, eqb}
+use Rattle.std.specs.Prelude.{Bool, cond, ℕ, ◌+◌, ◌-◌, ◌≤◌, ltb, eqb, Ok}
 use Rattle.std.proofs.Math.Bool.{true, false}
 use mathlib.Core.List.{List, [], ◌∷◌, ◌++◌, append_assoc, append-nil}
 use Rattle.std.proofs.Math.Option.{Option, none, some}
@@ -13,7 +13,6 @@ use Rattle.text_read.specs.Numerals.{group}
 use Rattle.text_read.specs.Reading.{split, push, dotted, or_else, groups, part, Cut, whole, parted, behind, begins, cut, eight, filled, groups_of_cut, groups_of_colons, mapped, first_of, groups_of}
 use Rattle.text_read.specs.Grammar.{Dotted, four, Groups, one, two, more, Side, empty, full, Spells, plain, gap, bare}
 use Rattle.text_read.specs.Answers.{keyed, reading_of}
-use Rattle.text_read.specs.declared.Parsed.TheVariants as parsed
 use Rattle.text_read.specs.theory.Bytes.{a_colon}
 use Rattle.text_read.specs.theory.Options.{push_some}
 use Rattle.text_read.specs.theory.Numerals.{group_numeral, group_read, read_group}
@@ -182,10 +181,10 @@ pub record Legal (s : List ℕ) : Type 0 where
   pub read : List ℕ
   pub spells : Spells s read
 
-pub read_legal : (s : List ℕ) (k : Key) → reading_of s ≡ parsed.Key k → Legal s
+pub read_legal : (s : List ℕ) (k : Key) → reading_of s ≡ Ok k → Legal s
 unfolding reading_of
 read_legal s k e = go (groups_of s) refl e
   where
-    go : (o : Option (List ℕ)) → groups_of s ≡ o → keyed o ≡ parsed.Key k → Legal s
+    go : (o : Option (List ℕ)) → groups_of s ≡ o → keyed o ≡ Ok k → Legal s
     go none g e = unfold keyed in (let z : ◌≡◌ {A = ℕ} 0 1 = cc in absurd (omega arith))
     go (some l) g e = record { read = l; spells = read_spells s l g }

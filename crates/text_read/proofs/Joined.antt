@@ -1,4 +1,5 @@
 -- The number that groups stand for: its bound, its parts, and its two halves.
+use Rattle.std.specs.Prelude.{Ok, Err}
 use Prim.Native.Nat.{ℕ, zero, suc, ◌+◌, ◌-◌, ◌*◌, ◌/◌, ◌%◌, ◌^◌, ◌≤◌, ◌<◌}
 use native.Mathlib.Nat.{add-zero, zero-add, zero-mul, mul_assoc, mul_comm, mul_right_comm, add-mul, pow-suc, div-add-mod', div-lt_iff_lt-mul, mod-lt, lt_of_le_of_lt}
 use lib.Pow.{pow-add}
@@ -14,7 +15,6 @@ use borrow.Author.Tests.{ltb-true, leb-true, lt-ltb, le-ltb}
 use Rattle.laws.specs.Cases.{both_true}
 use Rattle.keys.specs.Key.{key_of}
 use Rattle.settings.specs.declared.refusal.Refusal.TheVariants as refusal
-use Rattle.text_read.specs.declared.Parsed.TheVariants as parsed
 use Rattle.text_read.specs.Class.{class_of}
 use Rattle.text_read.specs.Numerals.{digits, number, group}
 use Rattle.text_read.specs.Reading.{push, dotted, or_else, groups, filled, joined}
@@ -142,7 +142,7 @@ filled_key a (some b) = go (ltb (length a + length b) 8) refl
         ∙ ap (λ (v : ℕ). v + joined 0 b) (mul_assoc (joined 0 a) (65536 ^ (8 - (length a + length b))) (65536 ^ length b) ∙ rw (sym (pow-add 65536 (8 - (length a + length b)) (length b)), e))
 
     go : (t : Bool) → ltb (length a + length b) 8 ≡ t
-        → keyed (cond t (some (a ++ replicate (8 - (length a + length b)) 0 ++ b)) none) ≡ cond t (parsed.Key (key_of (joined 0 a * 65536 ^ (8 - length a) + joined 0 b))) (parsed.Refused refusal.Text)
+        → keyed (cond t (some (a ++ replicate (8 - (length a + length b)) 0 ++ b)) none) ≡ cond t (Ok (key_of (joined 0 a * 65536 ^ (8 - length a) + joined 0 b))) (Err refusal.Text)
     go true e = unfold keyed in rw (number_filled (ltb-true (length a + length b) 8 e))
     go false e = unfold keyed in refl
 
@@ -156,11 +156,11 @@ key_halves n h l b e =
     rw (p, q)
 
 filled_found : (v n w m h l : ℕ) → n + m < 8 → l < 2 ^ 64 → v * 65536 ^ (8 - n) + w ≡ h * 2 ^ 64 + l
-    → filled_with v n w m ≡ parsed.Key (record { high = h; low = l })
+    → filled_with v n w m ≡ Ok (record { high = h; low = l })
 unfolding filled_with
 filled_found v n w m h l lt b e = rw (lt-ltb (n + m) 8 lt, key_halves (v * 65536 ^ (8 - n) + w) h l b e)
 
-pub filled_none : (v n w m : ℕ) → 7 < n + m → filled_with v n w m ≡ parsed.Refused refusal.Text
+pub filled_none : (v n w m : ℕ) → 7 < n + m → filled_with v n w m ≡ Err refusal.Text
 unfolding filled_with
 filled_none v n w m h = rw (le-ltb (n + m) 8 h)
 
@@ -209,7 +209,7 @@ up (suc n) high low p w x f b h l e =
 -- at most four groups before the gap, moved up by p: the high half has room for them and for the tail's high half
 pub record Raised (head tail : Groups) (p : ℕ) : Type 0 where
   pub fits : head.low * p + tail.high < 2 ^ 64
-  pub answer : filled_with (number_of head) head.count (number_of tail) tail.count ≡ parsed.Key (record { high = head.low * p + tail.high; low = tail.low })
+  pub answer : filled_with (number_of head) head.count (number_of tail) tail.count ≡ Ok (record { high = head.low * p + tail.high; low = tail.low })
 
 pub raised : (head tail : Groups) (p : ℕ) → Sized head → Sized tail → head.count ≤ 4 → head.count + tail.count ≤ 7 → tail.high < 2 ^ 64
     → p ≡ 65536 ^ ((4 - head.count) % 4) → Raised head tail p
@@ -232,7 +232,7 @@ pub record Across (head tail : Groups) (q r : ℕ) : Type 0 where
   pub some : 0 < r
   pub high : head.high * q + head.low / r < 2 ^ 64
   pub low : head.low % r * q + tail.low < 2 ^ 64
-  pub answer : filled_with (number_of head) head.count (number_of tail) tail.count ≡ parsed.Key (record { high = head.high * q + head.low / r; low = head.low % r * q + tail.low })
+  pub answer : filled_with (number_of head) head.count (number_of tail) tail.count ≡ Ok (record { high = head.high * q + head.low / r; low = head.low % r * q + tail.low })
 
 pub moved : (head tail : Groups) (q r : ℕ) → Sized head → Sized tail → 4 < head.count → head.count + tail.count ≤ 7
     → q ≡ 65536 ^ (8 - head.count) → r ≡ 65536 ^ (head.count - 4) → Across head tail q r

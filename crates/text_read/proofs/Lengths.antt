@@ -1,10 +1,9 @@
 -- How long a legal text can be.
-use Rattle.std.specs.Prelude.{◌≡◌, Bool, true, false, List, ◌∷◌, ◌++◌, ℕ, ◌+◌, ◌*◌, ◌≤◌, length}
+use Rattle.std.specs.Prelude.{◌≡◌, Bool, true, false, List, ◌∷◌, ◌++◌, ℕ, ◌+◌, ◌*◌, ◌≤◌, length, Ok}
 use Rattle.std.proofs.Common.{arith, length-append}
 use Rattle.keys.specs.declared.Key.{Key}
 use Rattle.text_read.specs.Grammar.{Group, hex1, hex2, hex3, hex4, Decimal, dec1, dec2, dec3, Dotted, four, Groups, one, two, more, Side, empty, full, Spells, plain, gap, bare}
 use Rattle.text_read.specs.Answers.{reading_of}
-use Rattle.text_read.specs.declared.Parsed.TheVariants as parsed
 use Rattle.text_read.proofs.Grammar.{dotted_two, read_legal}
 
 group_length : {s : List ℕ} {g : ℕ} → Group s g → (1 ≤ length s) × (length s ≤ 4)
@@ -53,5 +52,5 @@ spells_length (gap {s = s} {t = t} p q h) =
 spells_length (bare r) = (omega (arith, dotted_length r), omega (arith, dotted_length r))
 
 -- a text that is read as a key has 2 to 45 bytes: "::" is as short, "1111:2222:3333:4444:5555:6666:111.111.111.111" as long
-pub read_length : (x : List ℕ) (k : Key) → reading_of x ≡ parsed.Key k → (2 ≤ length x) × (length x ≤ 45)
+pub read_length : (x : List ℕ) (k : Key) → reading_of x ≡ Ok k → (2 ≤ length x) × (length x ≤ 45)
 read_length x k e = spells_length (read_legal x k e).spells

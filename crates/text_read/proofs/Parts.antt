@@ -1,4 +1,7 @@
 -- Parts of an address: what is left to read of one where some of its groups are read already, and what the parts make together.
+use Rattle.std.specs.Prelude.{Result, Ok, Err, Option as Found, Some, None}
+use Rattle.keys.specs.declared.Key.{Key}
+use Rattle.settings.specs.declared.refusal.Refusal.{Refusal}
 use Prim.Native.Nat.{ℕ, suc, ◌+◌, ◌*◌, ◌/◌, ◌%◌, ◌^◌, ◌≤◌, ◌<◌}
 use native.Mathlib.Nat.{zero-add}
 use native.Mathlib.Omega.{arith}
@@ -26,8 +29,6 @@ use Rattle.text_read.specs.theory.Cuts.{behinds, behinds_nil, behind_behinds}
 use Rattle.text_read.specs.theory.Options.{push_none}
 use Rattle.text_read.specs.theory.Dotted.{dotted_none, read_dotted}
 use Rattle.text_read.proofs.Whole.{reading_bare, reading_colons, cut_undotted}
-use Rattle.text_read.specs.declared.Parsed.{Parsed}
-use Rattle.text_read.specs.declared.Parsed.TheVariants as parsed
 use Rattle.text_read.specs.declared.reader.Groups.{Groups}
 use Rattle.text_read.specs.declared.reader.Part.{Part}
 use Rattle.text_read.specs.declared.reader.Part.TheVariants as answer
@@ -172,21 +173,21 @@ unfolding to_gap push joined
 to_gap_push v n next g none = refl
 to_gap_push v n next g (some l) = let e : n + suc (length l) ≡ n + 1 + length l = omega arith in rw e
 
-to_end_over : (v n : ℕ) (o : Option (List ℕ)) → 8 < n → to_end v n o ≡ answer.Bad
+to_end_over : (v n : ℕ) (o : Option (List ℕ)) → 8 < n → to_end v n o ≡ None
 unfolding to_end
 to_end_over v n none h = refl
 to_end_over v n (some l) h = rw (lt-leb (n + length l) 8 (omega arith))
 
-to_gap_over : (v n next : ℕ) (o : Option (List ℕ)) → 8 < n → to_gap v n next o ≡ answer.Bad
+to_gap_over : (v n next : ℕ) (o : Option (List ℕ)) → 8 < n → to_gap v n next o ≡ None
 unfolding to_gap
 to_gap_over v n next none h = refl
 to_gap_over v n next (some l) h = rw (lt-leb (n + length l) 8 (omega arith))
 
-part_over : (v n : ℕ) (t : List ℕ) (at : ℕ) → 8 < n → part_from v n t at ≡ answer.Bad
+part_over : (v n : ℕ) (t : List ℕ) (at : ℕ) → 8 < n → part_from v n t at ≡ None
 unfolding part_from
 part_over v n t at h = go (cut t)
   where
-    go : (q : Cut) → part_of_cut v n t at q ≡ answer.Bad
+    go : (q : Cut) → part_of_cut v n t at q ≡ None
     go whole = unfold part_of_cut in to_end_over v n (groups true (split colon t)) h
     go (parted l r) = unfold part_of_cut in to_gap_over v n (at + length l + 2) (groups false (split colon l)) h
 
@@ -202,7 +203,7 @@ module _ (v n : ℕ) (t : List ℕ) (at : ℕ) where
       bad_more : (e : Bool) (t' : List ℕ) (c : ℕ) (r : List ℕ) → until colon t' ≡ until colon t → past colon t' ≡ c ∷ r → groups e (split colon t') ≡ none
       bad_more e t' c r u p = groups_more e t' c r p ∙ rw (u, g) (unfold push in refl)
 
-      by_cut : (c : ℕ) (r : List ℕ) → past colon t ≡ c ∷ r → (q : Cut) → part_of_cut v n t at (behinds (until colon t) (behind c q)) ≡ answer.Bad
+      by_cut : (c : ℕ) (r : List ℕ) → past colon t ≡ c ∷ r → (q : Cut) → part_of_cut v n t at (behinds (until colon t) (behind c q)) ≡ None
       by_cut c r p whole = unfold behind behinds part_of_cut to_end in rw (bad_more true t c r refl p)
       by_cut c r p (parted l r') =
           let k = followed colon c l t (past_class colon t c r p) in
@@ -213,12 +214,12 @@ module _ (v n : ℕ) (t : List ℕ) (at : ℕ) where
       by_past (c ∷ []) p = rw (dotted_colon t c [] p) (unfold cut_past part_of_cut to_end in rw (bad_more true t c [] refl p))
       by_past (c ∷ y ∷ r) p = rw (dotted_colon t c (y ∷ r) p) (unfold cut_past to_end in go (eqb (class_of y) colon))
         where
-          go : (b : Bool) → part_of_cut v n t at (cond b (parted (until colon t) r) (behinds (until colon t) (behind c (cut (y ∷ r))))) ≡ answer.Bad
+          go : (b : Bool) → part_of_cut v n t at (cond b (parted (until colon t) r) (behinds (until colon t) (behind c (cut (y ∷ r))))) ≡ None
           go true = unfold part_of_cut to_gap in rw bad_alone
           go false = by_cut c (y ∷ r) p (cut (y ∷ r))
 
   -- a colon at the end
-  part_short : (c : ℕ) → past colon t ≡ c ∷ [] → part_from v n t at ≡ answer.Bad
+  part_short : (c : ℕ) → past colon t ≡ c ∷ [] → part_from v n t at ≡ None
   unfolding part_from
   part_short c p = rw (cut_eq t, p) (unfold cut_past part_of_cut to_end in rw none_all)
     where
@@ -258,10 +259,10 @@ module _ (v n : ℕ) (t : List ℕ) (at : ℕ) where
                   groups_more false (until colon t ++ c ∷ l) c l k.1 ∙ rw (k.0, e)
 
     -- a ninth group
-    part_many : 7 < n → part_from v n t at ≡ answer.Bad
+    part_many : 7 < n → part_from v n t at ≡ None
     part_many h = by_past (past colon t) refl
       where
-        by_past : (p : List ℕ) → past colon t ≡ p → part_from v n t at ≡ answer.Bad
+        by_past : (p : List ℕ) → past colon t ≡ p → part_from v n t at ≡ None
         by_past [] p = part_last p ∙ (unfold to_end in rw (lt-leb (n + 1) 8 (omega arith)))
         by_past (c ∷ []) p = part_short c p
         by_past (c ∷ y ∷ r) p = cases (eqb (class_of y) colon)
@@ -315,17 +316,17 @@ module _ (v n : ℕ) (s : List ℕ) (i g end : ℕ) (e : group (until colon (dro
   colons : part_at v n (drop i s) i ≡ part_from v n (drop i s) i
   colons = part_colons v n (drop i s) i g e
 
-  pub turn_many : 7 < n → part_at v n (drop i s) i ≡ answer.Bad
+  pub turn_many : 7 < n → part_at v n (drop i s) i ≡ None
   turn_many h = colons ∙ part_many v n (drop i s) i g e h
 
-  pub turn_last : end ≡ length s → n ≤ 7 → part_at v n (drop i s) i ≡ answer.Whole (made (v * 65536 + g) (n + 1))
+  pub turn_last : end ≡ length s → n ≤ 7 → part_at v n (drop i s) i ≡ Some (answer.Whole (made (v * 65536 + g) (n + 1)))
   turn_last h l = colons ∙ part_last v n (drop i s) i g e (p.last h) ∙ (unfold to_end joined in rw (le-leb (n + 1) 8 (omega arith)))
 
-  pub turn_short : end + 1 ≡ length s → part_at v n (drop i s) i ≡ answer.Bad
+  pub turn_short : end + 1 ≡ length s → part_at v n (drop i s) i ≡ None
   turn_short h = colons ∙ part_short v n (drop i s) i (get_or s end 0) (p.short h)
 
   module _ (h : end + 1 < length s) where
-    pub turn_gap : class_of (get_or s (end + 1) 0) ≡ colon → n ≤ 7 → part_at v n (drop i s) i ≡ answer.Gap (made (v * 65536 + g) (n + 1)) (end + 1 + 1)
+    pub turn_gap : class_of (get_or s (end + 1) 0) ≡ colon → n ≤ 7 → part_at v n (drop i s) i ≡ Some (answer.Gap (made (v * 65536 + g) (n + 1)) (end + 1 + 1))
     turn_gap c l =
         colons
         ∙ part_gap v n (drop i s) i g e (get_or s end 0) (get_or s (end + 1) 0) (drop (end + 1 + 1) s) (p.two h) c
@@ -345,21 +346,21 @@ module _ (v n : ℕ) (s : List ℕ) (i g end : ℕ) (e : group (until colon (dro
 tail_halves : (v n : ℕ) (t : List ℕ) (o : Option ℕ) → dotted_from 0 0 t ≡ o → to_end v n (dotted t) ≡ to_end v n (halves o)
 tail_halves v n t o e = rw (dotted_halves t, e)
 
-pub tail_many : (v n : ℕ) (t : List ℕ) → 6 < n → to_end v n (dotted t) ≡ answer.Bad
+pub tail_many : (v n : ℕ) (t : List ℕ) → 6 < n → to_end v n (dotted t) ≡ None
 tail_many v n t h = rw (dotted_halves t) (go (dotted_from 0 0 t))
   where
-    go : (o : Option ℕ) → to_end v n (halves o) ≡ answer.Bad
+    go : (o : Option ℕ) → to_end v n (halves o) ≡ None
     go none = unfold to_end in refl
     go (some w) = unfold to_end in rw (lt-leb (n + 2) 8 (omega arith))
 
-pub tail_none : (v n : ℕ) (t : List ℕ) → dotted_from 0 0 t ≡ none → to_end v n (dotted t) ≡ answer.Bad
+pub tail_none : (v n : ℕ) (t : List ℕ) → dotted_from 0 0 t ≡ none → to_end v n (dotted t) ≡ None
 tail_none v n t e = tail_halves v n t none e ∙ (unfold to_end in refl)
 
 two_joined : (v w : ℕ) → (v * 65536 + w / 65536) * 65536 + w % 65536 ≡ v * 4294967296 + w
 two_joined v w = omega arith
 
 pub tail_some : (v n : ℕ) (t : List ℕ) (w : ℕ) → dotted_from 0 0 t ≡ some w → n ≤ 6
-    → to_end v n (dotted t) ≡ answer.Whole (made (v * 4294967296 + w) (n + 2))
+    → to_end v n (dotted t) ≡ Some (answer.Whole (made (v * 4294967296 + w) (n + 2)))
 tail_some v n t w e h = tail_halves v n t (some w) e ∙ (unfold to_end joined in rw (le-leb (n + 2) 8 (omega arith), two_joined v w))
 
 -- What a part is ----------------------------------------------------------------------------------------------------------
@@ -374,7 +375,7 @@ module _ (v n : ℕ) (h : v < 65536 ^ n) where
   end_fine last none k = tt
   end_fine last (some l) k = test (leb (n + length l) 8) refl
     where
-      test : (b : Bool) → leb (n + length l) 8 ≡ b → Fine last (cond b (answer.Whole (made (joined v l) (n + length l))) answer.Bad)
+      test : (b : Bool) → leb (n + length l) 8 ≡ b → Fine last (cond b (Some (answer.Whole (made (joined v l) (n + length l)))) None)
       test true e = unfold made in (made_fine l k, leb-true (n + length l) 8 e)
       test false e = tt
 
@@ -383,7 +384,7 @@ module _ (v n : ℕ) (h : v < 65536 ^ n) where
   gap_fine last next none k p q = tt
   gap_fine last next (some l) k p q = test (leb (n + length l) 8) refl
     where
-      test : (b : Bool) → leb (n + length l) 8 ≡ b → Fine last (cond b (answer.Gap (made (joined v l) (n + length l)) next) answer.Bad)
+      test : (b : Bool) → leb (n + length l) 8 ≡ b → Fine last (cond b (Some (answer.Gap (made (joined v l) (n + length l)) next)) None)
       test true e = unfold made in (made_fine l k, leb-true (n + length l) 8 e, p, q)
       test false e = tt
 
@@ -408,12 +409,12 @@ start_fine s = go (dotted s) (dotted_small s)
 -- What the parts make -----------------------------------------------------------------------------------------------------
 
 -- the address, where the part behind "::" is this
-abbrev pub tail_answer : ℕ → ℕ → Part → Parsed
-tail_answer v n answer.Bad = parsed.Refused refusal.Text
-tail_answer v n (answer.Gap g next) = parsed.Refused refusal.Text
-tail_answer v n (answer.Whole g) = filled_with v n (number_of g) g.count
+abbrev pub tail_answer : ℕ → ℕ → Found Part → Result Key Refusal
+tail_answer v n None = Err refusal.Text
+tail_answer v n (Some (answer.Gap g next)) = Err refusal.Text
+tail_answer v n (Some (answer.Whole g)) = filled_with v n (number_of g) g.count
 
-filled_many : (v n w m : ℕ) → 8 < m → filled_with v n w m ≡ parsed.Refused refusal.Text
+filled_many : (v n w m : ℕ) → 8 < m → filled_with v n w m ≡ Err refusal.Text
 unfolding filled_with
 filled_many v n w m h = rw (le-ltb (n + m) 8 (omega arith))
 
@@ -433,7 +434,7 @@ after_part v n x t at = go (cut (x ∷ t)) refl
         by (some l) = unfold filled_by to_end in test (leb (0 + length l) 8) refl
           where
             test : (b : Bool) → leb (0 + length l) 8 ≡ b
-                → filled_with v n (joined 0 l) (length l) ≡ tail_answer v n (cond b (answer.Whole (made (joined 0 l) (0 + length l))) answer.Bad)
+                → filled_with v n (joined 0 l) (length l) ≡ tail_answer v n (cond b (Some (answer.Whole (made (joined 0 l) (0 + length l)))) None)
             test true h = rw (made_number (joined 0 l) (0 + length l)) (unfold made in rw (zero-add (length l)))
             test false h = filled_many v n (joined 0 l) (length l) (omega (arith, leb-false (0 + length l) 8 h))
     go (parted a r) c = unfold part_of_cut in rw (gap_none true (x ∷ t) a r c) (by (groups false (split colon a)))
@@ -442,11 +443,11 @@ after_part v n x t at = go (cut (x ∷ t)) refl
         by none = unfold filled_by to_gap in refl
         by (some l) = unfold filled_by to_gap in test (leb (0 + length l) 8)
           where
-            test : (b : Bool) → parsed.Refused refusal.Text ≡ tail_answer v n (cond b (answer.Gap (made (joined 0 l) (0 + length l)) (at + length a + 2)) answer.Bad)
+            test : (b : Bool) → Err refusal.Text ≡ tail_answer v n (cond b (Some (answer.Gap (made (joined 0 l) (0 + length l)) (at + length a + 2))) None)
             test true = refl
             test false = refl
 
-keyed_if : (b : Bool) (l : List ℕ) → keyed (cond b (some l) none) ≡ cond b (parsed.Key (key_of (joined 0 l))) (parsed.Refused refusal.Text)
+keyed_if : (b : Bool) (l : List ℕ) → keyed (cond b (some l) none) ≡ cond b (Ok (key_of (joined 0 l))) (Err refusal.Text)
 unfolding keyed
 keyed_if true l = refl
 keyed_if false l = refl
@@ -457,11 +458,11 @@ head_whole s none = unfold keyed in refl
 head_whole s (some l) = keyed_if (eqb (length l) 8) l ∙ test (leb (0 + length l) 8) refl
   where
     test : (b : Bool) → leb (0 + length l) 8 ≡ b
-        → cond (eqb (length l) 8) (parsed.Key (key_of (joined 0 l))) (parsed.Refused refusal.Text) ≡ head_answer s (cond b (answer.Whole (made (joined 0 l) (0 + length l))) answer.Bad)
+        → cond (eqb (length l) 8) (Ok (key_of (joined 0 l))) (Err refusal.Text) ≡ head_answer s (cond b (Some (answer.Whole (made (joined 0 l) (0 + length l)))) None)
     test true h = rw (made_number (joined 0 l) (0 + length l)) (unfold made in rw (zero-add (length l)))
     test false h = rw (ne_eqb (length l) 8 (λ e. omega (arith, leb-false (0 + length l) 8 h)))
 
-filled_over : (v n : ℕ) (o : Option (List ℕ)) → 8 < n → filled_by v n o ≡ parsed.Refused refusal.Text
+filled_over : (v n : ℕ) (o : Option (List ℕ)) → 8 < n → filled_by v n o ≡ Err refusal.Text
 unfolding filled_by filled_with
 filled_over v n none h = refl
 filled_over v n (some l) h = rw (le-ltb (n + length l) 8 (omega arith))
@@ -472,7 +473,7 @@ head_gap s l r c none = unfold filled keyed in refl
 head_gap s l r c (some a) = filled_key a (part true r) ∙ test (leb (0 + length a) 8) refl
   where
     test : (b : Bool) → leb (0 + length a) 8 ≡ b
-        → filled_by (joined 0 a) (length a) (part true r) ≡ head_answer s (cond b (answer.Gap (made (joined 0 a) (0 + length a)) (0 + length l + 2)) answer.Bad)
+        → filled_by (joined 0 a) (length a) (part true r) ≡ head_answer s (cond b (Some (answer.Gap (made (joined 0 a) (0 + length a)) (0 + length l + 2))) None)
     test true h = rw (made_number (joined 0 a) (0 + length a), zero-add (length l), (cut_drop s l r c).0) (unfold made after_gap in rw (zero-add (length a)))
     test false h = filled_over (joined 0 a) (length a) (part true r) (omega (arith, leb-false (0 + length a) 8 h))
 

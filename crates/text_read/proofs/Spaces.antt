@@ -1,12 +1,11 @@
 -- Every byte of a legal text is a hexadecimal digit, a colon or a dot: so none is a space.
-use Rattle.std.specs.Prelude.{◌≡◌, Bool, false, List, ◌∷◌, ◌++◌, ℕ, ◌+◌, ◌<◌, eqb}
+use Rattle.std.specs.Prelude.{◌≡◌, Bool, false, List, ◌∷◌, ◌++◌, ℕ, ◌+◌, ◌<◌, eqb, Ok}
 use Rattle.std.proofs.Math.Path.{refl}
 use Rattle.std.proofs.Common.{arith, ne_eqb}
 use Rattle.keys.specs.declared.Key.{Key}
 use Rattle.text_read.specs.Class.{class_of, other}
 use Rattle.text_read.specs.Grammar.{HexDigit, decimal_digit, Group, hex1, hex2, hex3, hex4, Decimal, dec1, dec2, dec3, Dotted, four, Groups, one, two, more, Side, empty, full, Spells, plain, gap, bare}
 use Rattle.text_read.specs.Answers.{reading_of}
-use Rattle.text_read.specs.declared.Parsed.TheVariants as parsed
 use Rattle.text_read.specs.theory.Bytes.{Separator, a_colon, a_dot, digit_class, digit_below}
 use Rattle.text_read.specs.theory.Splits.{Without, without_append}
 use Rattle.text_read.proofs.Grammar.{read_legal}
@@ -57,5 +56,5 @@ spells_known (gap {s = s} {t = t} p q h) = between a_colon s (58 ∷ t) (side_kn
 spells_known (bare r) = dotted_known r
 
 -- a text that is read as a key has no byte but these
-pub read_classes : (x : List ℕ) (k : Key) → reading_of x ≡ parsed.Key k → Without other x
+pub read_classes : (x : List ℕ) (k : Key) → reading_of x ≡ Ok k → Without other x
 read_classes x k e = spells_known (read_legal x k e).spells

@@ -1,4 +1,5 @@
 -- Splitting at separators: the first field, and what stands past it.
+use Rattle.std.specs.Prelude.{Some, None}
 use Prim.Native.Nat.{ℕ, suc, ◌+◌, ◌*◌, ◌/◌, ◌%◌, ◌≤◌, ◌<◌}
 use native.Mathlib.Nat.{zero-add, add-zero}
 use native.Mathlib.Omega.{arith}
@@ -16,9 +17,9 @@ use Rattle.laws.specs.Options.{when_some}
 use Rattle.text_read.specs.Class.{class_of, colon, dot}
 use Rattle.text_read.specs.Numerals.{digits, number, no_leading_zero, group, decimal}
 use Rattle.text_read.specs.Reading.{on_first, split, push, decimals, two_groups, dotted}
+use Rattle.text_read.specs.declared.reader.Numeral.{Numeral}
 use Rattle.text_read.specs.ReaderSteps.{until, numeral_of, group_in, decimal_in, bytes, four, dotted_from}
 use Rattle.text_read.specs.theory.Options.{push_none}
-use Rattle.text_read.specs.declared.reader.Numeral.TheVariants as numeral
 
 -- The first field -------------------------------------------------------------------------------------------------------
 
@@ -107,18 +108,18 @@ followed k c l (x ∷ t) z = go (eqb (class_of x) k) refl (followed k c l t z)
 
 -- The numeral in the first field ----------------------------------------------------------------------------------------
 
-numeral_value : (o : Option ℕ) (e v end : ℕ) → numeral_of o e ≡ numeral.Value v end → (o ≡ some v) × (e ≡ end)
-numeral_value none e v end h = let z : ◌≡◌ {A = ℕ} 0 1 = cc in absurd (omega arith)
-numeral_value (some w) e v end h = (cc, cc)
+-- a numeral that is read, and where it ends
+pub numeral_some : (o : Option ℕ) (e : ℕ) (p : Numeral) → numeral_of o e ≡ Some p → (o ≡ some p.value) × (e ≡ p.next)
+numeral_some none e p h = let z : ◌≡◌ {A = ℕ} 0 1 = cc in absurd (omega arith)
+numeral_some (some w) e p h =
+    let q : (let n : Numeral = record { value = w; next = e } in n) ≡ p = cc in
+    (ap (λ (n : Numeral). some n.value) q, ap (λ (n : Numeral). n.next) q)
 
-pub numeral_bad : (o : Option ℕ) (e : ℕ) → numeral_of o e ≡ numeral.Bad → o ≡ none
+pub numeral_bad : (o : Option ℕ) (e : ℕ) → numeral_of o e ≡ None → o ≡ none
 numeral_bad none e h = refl
 numeral_bad (some w) e h = let z : ◌≡◌ {A = ℕ} 0 1 = cc in absurd (omega arith)
 
-pub numeral_some : (o : Option ℕ) (e v end : ℕ) → numeral_of o e ≡ numeral.Value v end → o ≡ some v
-numeral_some o e v end h = (numeral_value o e v end h).0
-
-pub numeral_if : (b : Bool) (v end : ℕ) → numeral_of (cond b (some v) none) end ≡ cond b (numeral.Value v end) numeral.Bad
+pub numeral_if : (b : Bool) (v end : ℕ) → numeral_of (cond b (some v) none) end ≡ cond b (Some (record { value = v; next = end })) None
 numeral_if true v end = refl
 numeral_if false v end = refl
 
@@ -144,26 +145,26 @@ past_of k s i end h e = record {
 }
 
 module _ (s : List ℕ) (i : ℕ) where
-  pub no_group : group_in (until colon (drop i s)) i ≡ numeral.Bad → group (until colon (drop i s)) ≡ none
+  pub no_group : group_in (until colon (drop i s)) i ≡ None → group (until colon (drop i s)) ≡ none
   unfolding group_in
   no_group h = numeral_bad (group (until colon (drop i s))) (i + length (until colon (drop i s))) h
 
-  pub no_decimal : decimal_in (until dot (drop i s)) i ≡ numeral.Bad → decimal (until dot (drop i s)) ≡ none
+  pub no_decimal : decimal_in (until dot (drop i s)) i ≡ None → decimal (until dot (drop i s)) ≡ none
   unfolding decimal_in
   no_decimal h = numeral_bad (decimal (until dot (drop i s))) (i + length (until dot (drop i s))) h
 
-  module _ (l : i ≤ length s) (v end : ℕ) where
-    pub one_group : group_in (until colon (drop i s)) i ≡ numeral.Value v end → (group (until colon (drop i s)) ≡ some v) × Past colon s i end
+  module _ (l : i ≤ length s) (n : Numeral) where
+    pub one_group : group_in (until colon (drop i s)) i ≡ Some n → (group (until colon (drop i s)) ≡ some n.value) × Past colon s i n.next
     unfolding group_in
     one_group h =
-        let p = numeral_value (group (until colon (drop i s))) (i + length (until colon (drop i s))) v end h in
-        (p.0, past_of colon s i end l p.1)
+        let p = numeral_some (group (until colon (drop i s))) (i + length (until colon (drop i s))) n h in
+        (p.0, past_of colon s i n.next l p.1)
 
-    pub one_decimal : decimal_in (until dot (drop i s)) i ≡ numeral.Value v end → (decimal (until dot (drop i s)) ≡ some v) × Past dot s i end
+    pub one_decimal : decimal_in (until dot (drop i s)) i ≡ Some n → (decimal (until dot (drop i s)) ≡ some n.value) × Past dot s i n.next
     unfolding decimal_in
     one_decimal h =
-        let p = numeral_value (decimal (until dot (drop i s))) (i + length (until dot (drop i s))) v end h in
-        (p.0, past_of dot s i end l p.1)
+        let p = numeral_some (decimal (until dot (drop i s))) (i + length (until dot (drop i s))) n h in
+        (p.0, past_of dot s i n.next l p.1)
 
 -- The dotted tail -------------------------------------------------------------------------------------------------------
 

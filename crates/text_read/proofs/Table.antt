@@ -7,7 +7,7 @@ use lib.Dec.{T, eqb, eqb→eq}
 use lib.ListN.{length, get_or}
 use Rattle.laws.specs.Tables.{every_from, at}
 use Rattle.text_read.specs.Class.{class_of}
-use Rattle.text_read.specs.ReaderSteps.{Classes}
+use Rattle.text_read.specs.Classes.{Classes}
 
 unfoldable pub right : ℕ → ℕ → Bool
 right b k = eqb k (class_of b)

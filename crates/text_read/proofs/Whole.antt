@@ -1,4 +1,5 @@
 -- A text as a whole: if it is dotted it is the mapped address that ends in it, and else it is read by its colons.
+use Rattle.std.specs.Prelude.{Ok}
 use Prim.Native.Nat.{ℕ, ◌+◌, ◌*◌}
 use native.Mathlib.Omega.{arith}
 use mathlib.Core.Path.{◌≡◌, refl, sym, ap, ◌∙◌}
@@ -12,14 +13,13 @@ use Rattle.text_read.specs.ReaderSteps.{made, to_end, head_answer}
 use Rattle.text_read.proofs.Grammar.{spells_read, dotted_whole}
 use Rattle.text_read.specs.theory.Dotted.{read_dotted}
 use Rattle.text_read.proofs.Joined.{made_number}
-use Rattle.text_read.specs.declared.Parsed.TheVariants as parsed
 
 -- a dotted text: its two groups, behind six with the number ffff
 pub reading_bare : {s l : List ℕ} → Dotted s l → reading_of s ≡ head_answer s (to_end 65535 6 (some l))
 unfolding reading_of keyed to_end joined
 reading_bare (four {a = a} {b = b} {c = c} {d = d} p q r w) =
     let n : ℕ = (65535 * 65536 + (a * 256 + b)) * 65536 + (c * 256 + d) in
-    rw (spells_read (bare (four p q r w)), made_number n 8) (unfold made in ap (λ (m : ℕ). parsed.Key (key_of m)) (omega arith))
+    rw (spells_read (bare (four p q r w)), made_number n 8) (unfold made in ap (λ (m : ℕ). Ok (key_of m)) (omega arith))
 
 first_none : (o : Option (List ℕ)) → first_of o (mapped none) ≡ o
 unfolding first_of mapped

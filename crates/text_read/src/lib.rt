@@ -4,14 +4,5 @@
 mod class;
 mod reader;
 
-pub use class::classes;
-use keys::Key;
+pub use class::{ClassTable, classes};
 pub use reader::{read, read_by};
-use settings::Refusal;
-
-// What reading a text finds.
-#[derive(Clone, Copy)]
-pub enum Parsed {
-    Key(Key),
-    Refused(Refusal),
-}

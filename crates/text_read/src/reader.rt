@@ -1,24 +1,22 @@
 // Reads an address in one pass. The groups go into two halves of 64 bits as they come; none is stored.
-ghost use Rattle.std.specs.Prelude.{◌≡◌, ◌+◌, ◌*◌, ◌^◌, ◌≤◌, ◌<◌, cond, ◌&&◌, length, drop, eqb};
+ghost use Rattle.std.specs.Prelude.{◌≡◌, ◌+◌, ◌*◌, ◌^◌, ◌≤◌, ◌<◌, cond, ◌&&◌, length, drop, eqb, Some, None, Ok, Err};
 ghost use Rattle.keys.specs.Key.{key_of};
 ghost use Rattle.settings.specs.declared.refusal.Refusal.TheVariants as refusal;
 ghost use Rattle.text_read.specs.Class.{colon, dot};
 ghost use Rattle.text_read.specs.Reading.{begins, tail, dotted as dottedGroups};
 ghost use Rattle.text_read.specs.Answers.{reading_of};
-ghost use Rattle.text_read.specs.ReaderSteps.{Classes, Five, Sized, Fine, head_answer, by_length, until, numeral_of, group_in, decimal_in, dotted_from, number_of, made, to_end, part_at, filled_with, after_gap};
-ghost use Rattle.text_read.specs.declared.Parsed.TheVariants as parsed;
-ghost use Rattle.text_read.specs.declared.reader.Numeral.TheVariants as numeral;
+ghost use Rattle.text_read.specs.Classes.{Five};
+ghost use Rattle.text_read.specs.ReaderSteps.{Sized, Fine, head_answer, by_length, until, numeral_of, group_in, decimal_in, dotted_from, number_of, made, to_end, part_at, filled_with, after_gap};
 
-use crate::Parsed;
-use crate::class::{CLASSES, COLON, DOT, class, class_at};
+use crate::class::{CLASSES, COLON, ClassTable, DOT};
 use keys::Key;
 use settings::Refusal;
 
 // A number in a field, and where the field ends.
 #[derive(Clone, Copy)]
-enum Numeral {
-    Value { value: u64, next: usize },
-    Bad,
+struct Numeral {
+    value: u64,
+    next: usize,
 }
 
 // Groups that are read: the number high * 2^64 + low that they stand for, and how many they are.
@@ -50,17 +48,16 @@ enum Part {
     Whole(Groups),
     // "::" follows them, and ends before `next`.
     Gap { groups: Groups, next: usize },
-    Bad,
 }
 
 // The numeral that ends before `next`, if its field ends there too: by the class of the byte at `next`.
-fn ended(value: u64, next: usize, class: u64, end: u64) -> Numeral
-    ensures { result ≡ cond (eqb class end) (numeral.Value value next) numeral.Bad }
+fn ended(value: u64, next: usize, class: u64, end: u64) -> Option<Numeral>
+    ensures { result ≡ cond (eqb class end) (Some (record { value = value; next = next })) None }
 {
     if class == end {
-        return Numeral::Value { value, next };
+        return Some(Numeral { value, next });
     }
-    Numeral::Bad
+    None
 }
 
 // x if the second byte of a field is no digit, else y if the third is none, else z. All three are computed already, so that
@@ -78,7 +75,7 @@ fn by_length(b: u64, c: u64, x: u64, y: u64, z: u64) -> u64
 }
 
 // The group in the field from `at` on, by the classes of the five bytes from there: none is looked up twice.
-fn group_of(text: &[u8], at: usize, a: u64, b: u64, c: u64, d: u64, e: u64) -> Numeral
+fn group_of(text: &[u8], at: usize, a: u64, b: u64, c: u64, d: u64, e: u64) -> Option<Numeral>
     requires { Five text.now at a b c d e × (at ≤ length text.now) }
     ensures { result ≡ group_in (until colon (drop at text.now)) at }
 {
@@ -86,7 +83,7 @@ fn group_of(text: &[u8], at: usize, a: u64, b: u64, c: u64, d: u64, e: u64) -> N
         return ended(((a * 16 + b) * 16 + c) * 16 + d, at + 4, e, COLON);
     }
     if 15 < a {
-        return Numeral::Bad;
+        return None;
     }
     let value = by_length(b, c, a, a * 16 + b, (a * 16 + b) * 16 + c);
     let count = by_length(b, c, 1, 2, 3);
@@ -95,88 +92,82 @@ fn group_of(text: &[u8], at: usize, a: u64, b: u64, c: u64, d: u64, e: u64) -> N
 }
 
 // The group in the field from `at` on. Only near the end of the text is each place tested.
-fn group(table: &[u8; 256], text: &[u8], at: usize) -> Numeral
-    requires { Classes table.now × (at ≤ length text.now) }
+fn group(table: &ClassTable, text: &[u8], at: usize) -> Option<Numeral>
+    requires { at ≤ length text.now }
     ensures { result ≡ group_in (until colon (drop at text.now)) at }
 {
     if at + 4 < text.len() {
-        let a = class(table, text[at]);
-        let b = class(table, text[at + 1]);
-        let c = class(table, text[at + 2]);
-        let d = class(table, text[at + 3]);
-        let e = class(table, text[at + 4]);
+        let a = table.class(text[at]);
+        let b = table.class(text[at + 1]);
+        let c = table.class(text[at + 2]);
+        let d = table.class(text[at + 3]);
+        let e = table.class(text[at + 4]);
         return group_of(text, at, a, b, c, d, e);
     }
-    let a = class_at(table, text, at, COLON);
-    let b = class_at(table, text, at + 1, COLON);
-    let c = class_at(table, text, at + 2, COLON);
-    let d = class_at(table, text, at + 3, COLON);
-    let e = class_at(table, text, at + 4, COLON);
+    let a = table.class_at(text, at, COLON);
+    let b = table.class_at(text, at + 1, COLON);
+    let c = table.class_at(text, at + 2, COLON);
+    let d = table.class_at(text, at + 3, COLON);
+    let e = table.class_at(text, at + 4, COLON);
     group_of(text, at, a, b, c, d, e)
 }
 
 // The decimal 0 to 255 in the field from `at` on, which goes to a dot or the end.
-fn decimal(table: &[u8; 256], text: &[u8], at: usize) -> Numeral
-    requires { Classes table.now × (at ≤ length text.now) }
+fn decimal(table: &ClassTable, text: &[u8], at: usize) -> Option<Numeral>
+    requires { at ≤ length text.now }
     ensures { result ≡ decimal_in (until dot (drop at text.now)) at }
 {
-    let a = class_at(table, text, at, DOT);
+    let a = table.class_at(text, at, DOT);
     if 9 < a {
-        return Numeral::Bad;
+        return None;
     }
-    let b = class_at(table, text, at + 1, DOT);
+    let b = table.class_at(text, at + 1, DOT);
     if 9 < b {
         return ended(a, at + 1, b, DOT);
     }
     if a == 0 {
-        return Numeral::Bad;
+        return None;
     }
-    let c = class_at(table, text, at + 2, DOT);
+    let c = table.class_at(text, at + 2, DOT);
     if 9 < c {
         return ended(a * 10 + b, at + 2, c, DOT);
     }
     let value = (a * 10 + b) * 10 + c;
     if 255 < value {
-        return Numeral::Bad;
+        return None;
     }
-    ended(value, at + 3, class_at(table, text, at + 3, DOT), DOT)
+    ended(value, at + 3, table.class_at(text, at + 3, DOT), DOT)
 }
 
 // The number of n decimals that end the text at `next`: there must be four.
-fn four(value: u64, n: usize, next: usize) -> Numeral
-    ensures { result ≡ cond (eqb n 4) (numeral.Value value next) numeral.Bad }
+fn four(value: u64, n: usize, next: usize) -> Option<Numeral>
+    ensures { result ≡ cond (eqb n 4) (Some (record { value = value; next = next })) None }
 {
     if n == 4 {
-        return Numeral::Value { value, next };
+        return Some(Numeral { value, next });
     }
-    Numeral::Bad
+    None
 }
 
 // The number below 2^32 that four decimals with dots stand for, from `from` to the end of the text.
-fn dotted(table: &[u8; 256], text: &[u8], from: usize) -> Numeral
-    requires { Classes table.now × (from ≤ length text.now) }
+fn dotted(table: &ClassTable, text: &[u8], from: usize) -> Option<Numeral>
+    requires { from ≤ length text.now }
     ensures { result ≡ numeral_of (dotted_from 0 0 (drop from text.now)) (length text.now) }
 {
     let mut value: u64 = 0;
     let mut count: usize = 0;
     let mut at = from;
     loop {
-        match decimal(table, text, at) {
-            Numeral::Bad => {
-                return Numeral::Bad;
-            }
-            Numeral::Value { value: byte, next } => {
-                if count == 4 {
-                    return Numeral::Bad;
-                }
-                value = value * 256 + byte;
-                count += 1;
-                if next == text.len() {
-                    return four(value, count, next);
-                }
-                at = next + 1;
-            }
+        let byte = decimal(table, text, at)?;
+        if count == 4 {
+            return None;
         }
+        value = value * 256 + byte.value;
+        count += 1;
+        if byte.next == text.len() {
+            return four(value, count, byte.next);
+        }
+        at = byte.next + 1;
     }
 }
 
@@ -203,17 +194,15 @@ fn pushed(groups: Groups, n: usize, x: u64) -> Groups
 }
 
 // The groups and the two of the dotted tail from `at` on: a field that is no group can only be that.
-fn with_tail(table: &[u8; 256], text: &[u8], at: usize, groups: Groups) -> Part
-    requires { Classes table.now × (at ≤ length text.now) × Sized groups × (groups.count ≤ 8) }
+fn with_tail(table: &ClassTable, text: &[u8], at: usize, groups: Groups) -> Option<Part>
+    requires { (at ≤ length text.now) × Sized groups × (groups.count ≤ 8) }
     ensures { result ≡ to_end (number_of groups) groups.count (dottedGroups (drop at text.now)) }
 {
     if 6 < groups.count {
-        return Part::Bad;
+        return None;
     }
-    match dotted(table, text, at) {
-        Numeral::Bad => Part::Bad,
-        Numeral::Value { value, next } => Part::Whole(pushed(groups, 2, value)),
-    }
+    let tail = dotted(table, text, at)?;
+    Some(Part::Whole(pushed(groups, 2, tail.value)))
 }
 
 // The groups that stand before a dotted tail at `at`. Where the text begins with it, it stands alone, and is read as the
@@ -228,58 +217,54 @@ fn before_tail(at: usize, groups: Groups) -> Groups
 }
 
 // The groups from `from` on, up to "::" or the end of the text.
-fn read_part(table: &[u8; 256], text: &[u8], from: usize) -> Part
-    requires { Classes table.now × (from ≤ length text.now) }
+fn read_part(table: &ClassTable, text: &[u8], from: usize) -> Option<Part>
+    requires { from ≤ length text.now }
     ensures { result ≡ part_at 0 0 (drop from text.now) from }
 {
     let mut groups = NO_GROUPS;
     let mut at = from;
     loop {
-        match group(table, text, at) {
-            Numeral::Bad => {
-                return with_tail(table, text, at, before_tail(at, groups));
-            }
-            Numeral::Value { value, next } => {
-                if 7 < groups.count {
-                    return Part::Bad;
-                }
-                groups = pushed(groups, 1, value);
-                if next == text.len() {
-                    return Part::Whole(groups);
-                }
-                at = next + 1;
-                if at == text.len() {
-                    return Part::Bad;
-                }
-                if class(table, text[at]) == COLON {
-                    return Part::Gap {
-                        groups,
-                        next: at + 1,
-                    };
-                }
-            }
+        let Some(Numeral { value, next }) = group(table, text, at) else {
+            return with_tail(table, text, at, before_tail(at, groups));
+        };
+        if 7 < groups.count {
+            return None;
+        }
+        groups = pushed(groups, 1, value);
+        if next == text.len() {
+            return Some(Part::Whole(groups));
+        }
+        at = next + 1;
+        if at == text.len() {
+            return None;
+        }
+        if table.class(text[at]) == COLON {
+            return Some(Part::Gap {
+                groups,
+                next: at + 1,
+            });
         }
     }
 }
 
 // No legal address.
-fn refused() -> Parsed
-    ensures { result ≡ parsed.Refused refusal.Text }
+fn refused() -> Result<Key, Refusal>
+    ensures { result ≡ Err refusal.Text }
 {
-    Parsed::Refused(Refusal::Text)
+    Err(Refusal::Text)
 }
 
 // The key of these halves.
-fn found(high: u64, low: u64) -> Parsed
-    ensures { result ≡ parsed.Key (record { high = high; low = low }) }
+fn found(high: u64, low: u64) -> Result<Key, Refusal>
+    ensures { result ≡ Ok (record { high = high; low = low }) }
 {
-    Parsed::Key(Key { high, low })
+    Ok(Key { high, low })
 }
 
 // Eight groups, without "::".
-fn eight(groups: Groups) -> Parsed
+fn eight(groups: Groups) -> Result<Key, Refusal>
     requires { Sized groups }
-    ensures { result ≡ cond (eqb groups.count 8) (parsed.Key (key_of (number_of groups))) (parsed.Refused refusal.Text) }
+    ensures { result ≡ cond (eqb groups.count 8) (Ok (key_of (number_of groups))) (Err refusal.Text) }
 {
     if groups.count == 8 {
         return found(groups.high, groups.low);
@@ -288,7 +273,7 @@ fn eight(groups: Groups) -> Parsed
 }
 
 // At most four groups before "::": the high half takes them all. If there are none, zero moves by nothing.
-fn raised(head: Groups, tail: Groups) -> Parsed
+fn raised(head: Groups, tail: Groups) -> Result<Key, Refusal>
     requires { Sized head × Sized tail × (head.count ≤ 4) × (head.count + tail.count ≤ 7) }
     ensures { result ≡ filled_with (number_of head) head.count (number_of tail) tail.count }
 {
@@ -297,7 +282,7 @@ fn raised(head: Groups, tail: Groups) -> Parsed
 }
 
 // Five to seven groups before "::": they go across both halves, and the low half has room for the tail.
-fn across(head: Groups, tail: Groups) -> Parsed
+fn across(head: Groups, tail: Groups) -> Result<Key, Refusal>
     requires { Sized head × Sized tail × (4 < head.count) × (head.count + tail.count ≤ 7) }
     ensures { result ≡ filled_with (number_of head) head.count (number_of tail) tail.count }
 {
@@ -311,7 +296,7 @@ fn across(head: Groups, tail: Groups) -> Parsed
 
 // The head's groups first, the tail's last, and zero groups between, so that there are eight. The shifts are by a variable
 // amount: an arm for each count would be a jump that is badly predicted where texts differ.
-fn filled(head: Groups, tail: Groups) -> Parsed
+fn filled(head: Groups, tail: Groups) -> Result<Key, Refusal>
     requires { Sized head × Sized tail × (head.count ≤ 8) × (tail.count ≤ 8) }
     ensures { result ≡ filled_with (number_of head) head.count (number_of tail) tail.count }
 {
@@ -326,61 +311,57 @@ fn filled(head: Groups, tail: Groups) -> Parsed
 
 // The address whose groups before "::" are read. One part follows, or nothing: a second "::" is not legal. Here and in
 // `first_part` the slice is taken anew for the part, so that it stays in registers.
-fn after_gap(table: &[u8; 256], text: &[u8], at: usize, head: Groups) -> Parsed
-    requires { Classes table.now × (0 < at) × (at ≤ length text.now) × Sized head × (head.count ≤ 8) }
+fn after_gap(table: &ClassTable, text: &[u8], at: usize, head: Groups) -> Result<Key, Refusal>
+    requires { (0 < at) × (at ≤ length text.now) × Sized head × (head.count ≤ 8) }
     ensures { result ≡ after_gap (number_of head) head.count (drop at text.now) }
 {
     if at == text.len() {
         return filled(head, NO_GROUPS);
     }
-    let Part::Whole(tail) = read_part(table, &text[..], at) else {
+    let Some(Part::Whole(tail)) = read_part(table, &text[..], at) else {
         return refused();
     };
     filled(head, tail)
 }
 
 // The text begins with "::".
-fn opens(table: &[u8; 256], text: &[u8]) -> bool
-    requires { Classes table.now }
+fn opens(table: &ClassTable, text: &[u8]) -> bool
     ensures { result ≡ (begins text.now && begins (tail text.now)) }
 {
     if text.len() < 2 {
         return false;
     }
-    if class(table, text[0]) != COLON {
+    if table.class(text[0]) != COLON {
         return false;
     }
-    class(table, text[1]) == COLON
+    table.class(text[1]) == COLON
 }
 
 // The part before "::", which may be empty, or the whole text.
-fn first_part(table: &[u8; 256], text: &[u8]) -> Part
-    requires { Classes table.now }
+fn first_part(table: &ClassTable, text: &[u8]) -> Option<Part>
     ensures { (reading_of text.now ≡ head_answer text.now result) × Fine (length text.now) result }
 {
     if opens(table, text) {
-        return Part::Gap {
+        return Some(Part::Gap {
             groups: NO_GROUPS,
             next: 2,
-        };
+        });
     }
     read_part(table, &text[..], 0)
 }
 
 // Reads an address by the class table, which is lent once a call.
-pub fn read_by(table: &[u8; 256], text: &[u8]) -> Parsed
-    requires { Classes table.now }
+pub fn read_by(table: &ClassTable, text: &[u8]) -> Result<Key, Refusal>
     ensures { result ≡ reading_of text.now }
 {
-    match first_part(table, text) {
-        Part::Bad => refused(),
+    match first_part(table, text).ok_or(Refusal::Text)? {
         Part::Gap { groups, next } => after_gap(table, text, next, groups),
         Part::Whole(groups) => eight(groups),
     }
 }
 
 // Reads an address.
-pub fn read(text: &[u8]) -> Parsed
+pub fn read(text: &[u8]) -> Result<Key, Refusal>
     ensures { result ≡ reading_of text.now }
 {
     read_by(&CLASSES, text)

@@ -1,41 +1,34 @@
 -- Where the run ends, seen from a place within it; and the bytes that are looked at.
-use mathlib.Core.Path.{◌≡◌, sym, ◌∙◌}
-use mathlib.Core.Bool.{Bool, not}
+use Rattle.std.specs.Prelude.{Result}
+use Rattle.keys.specs.declared.Key.{Key}
+use Rattle.settings.specs.declared.refusal.Refusal.{Refusal}
+use mathlib.Core.Path.{◌≡◌, refl, sym, ap, ◌∙◌}
 use mathlib.Core.List.{List, [], ◌∷◌}
-use Prim.Native.Nat.{ℕ, ◌+◌, ◌≤◌, ◌<◌, min}
+use Prim.Native.Nat.{ℕ, suc, ◌+◌, ◌≤◌, min}
 use native.Mathlib.Omega.{arith}
 use native.Mathlib.Nat.{min-eq_left, min-eq_right, le_of_lt}
-use lib.ListN.{length, get_or, take, drop_of_length-le}
+use lib.ListN.{length, take, drop}
 use lib.Dec.{eqb, leb, lit≤}
-use lib.Seq.{drop-cons, take_all, take-length}
-use borrow.Author.Tests.{eq-eqb, ne_eqb, eqb-false, not-true, leb-true, leb-false}
+use lib.Seq.{take_all, take-length}
+use borrow.Author.Tests.{leb-true, leb-false}
 use Rattle.laws.specs.Cases.{cases}
-use Rattle.laws.specs.Lists.{drop_next}
-use Rattle.laws.specs.Passes.{Passes}
+use Rattle.byte_search.specs.First.{before, first_from}
 use Rattle.text_read.specs.Class.{class_of, other}
 use Rattle.text_read.specs.Answers.{reading_of}
-use Rattle.text_read.specs.declared.Parsed.{Parsed}
 use Rattle.text_run.specs.Run.{run}
 use Rattle.text_run.specs.Answers.{taking, taken_of}
 use Rattle.text_run.specs.Steps.{run_end}
 use Rattle.text_run.specs.theory.Run.{run_take}
 
-module _ (s : List ℕ) (i : ℕ) where
-  pub run_hit : i < length s → class_of (get_or s i 0) ≡ other → run_end s i ≡ i
-  unfolding run run_end
-  run_hit h e = rw (drop-cons s i 0 h) (simp (eq-eqb (class_of (get_or s i 0)) other e) (omega arith))
+-- the search for the first byte that the run does not have finds its end
+before_run : (s : List ℕ) → before (λ x. eqb (class_of x) other) s ≡ length (run s)
+unfolding before run
+before_run [] = refl
+before_run (x ∷ s) = cases (eqb (class_of x) other) (λ t. rw t refl) (λ t. rw t (ap suc (before_run s)))
 
-  pub run_miss : i < length s → (class_of (get_or s i 0) ≡ other → ⊥) → run_end s i ≡ run_end s (i + 1)
-  unfolding run run_end
-  run_miss h n = rw (drop_next s i 0 h) (simp (ne_eqb (class_of (get_or s i 0)) other n) (omega arith))
-
-  -- a byte that is tested can be passed
-  pub passes_one : (t : Bool) → i < length s → t ≡ not (eqb (class_of (get_or s i 0)) other) → Passes (run_end s) 1 i t
-  passes_one t h e p = run_miss h (eqb-false _ _ (not-true _ (sym e ∙ p)))
-
-  pub run_over : length s ≤ i → run_end s i ≡ i
-  unfolding run run_end
-  run_over h = rw (drop_of_length-le s h) (omega arith)
+pub first_run : (s : List ℕ) (i : ℕ) → first_from (λ x. eqb (class_of x) other) s i ≡ run_end s i
+unfolding first_from run_end
+first_run s i = ap (λ (n : ℕ). i + n) (before_run (drop i s))
 
 pub run_start : (s : List ℕ) → run_end s 0 ≡ length (run s)
 unfolding run_end
@@ -54,6 +47,6 @@ front_take s n e =
     (λ t. rw (e, min-eq_left (le_of_lt (leb-false (length s) 46 t))))
 
 -- what is read of the bytes before the run's end is the answer
-pub taken_is : (s : List ℕ) (n : ℕ) (p : Parsed) → n ≡ length (run s) → p ≡ reading_of (take n s) → taking n p ≡ taken_of s
+pub taken_is : (s : List ℕ) (n : ℕ) (p : Result Key Refusal) → n ≡ length (run s) → p ≡ reading_of (take n s) → taking n p ≡ taken_of s
 unfolding taken_of
 taken_is s n p e r = rw (r, e, run_take s)

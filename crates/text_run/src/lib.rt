@@ -5,11 +5,10 @@ mod run;
 
 use keys::Key;
 pub use run::read;
-use settings::Refusal;
 
 // What reading the run that a text begins with finds: the key, and how many bytes were taken.
 #[derive(Clone, Copy)]
-pub enum Taken {
-    Key { key: Key, bytes: usize },
-    Refused(Refusal),
+pub struct Taken {
+    pub key: Key,
+    pub bytes: usize,
 }

@@ -16,14 +16,11 @@ fn put_spaces(line: &mut [u8], from: usize, to: usize)
     requires { (from ≤ to) × (to ≤ length line.old) }
     ensures { line.new ≡ take from line.old ++ (replicate (to - from) 32 ++ drop to line.old) }
 {
-    let mut i = from;
-    while i < to {
-        line[i] = b' ';
-        i += 1;
-    }
+    line[from..to].fill(b' ');
 }
 
-// A number in decimal that ends before `end`, the last digit first.
+// A number in decimal that ends before `end`, the last digit first. How many there are is known only at the end, so that
+// no `for` over places is plainer.
 fn put_right(line: &mut [u8], end: usize, n: u32)
     requires { (length (decimal_text n) ≤ end) × (end ≤ length line.old) }
     ensures { line.new ≡ take (end - length (decimal_text n)) line.old ++ (decimal_text n ++ drop end line.old) }
@@ -54,10 +51,5 @@ pub(crate) fn put_heading(line: &mut [u8])
     requires { 51 ≤ length line.old }
     ensures { line.new ≡ heading ++ drop 51 line.old }
 {
-    let text = *b"ADDRESS                                      LABEL\n";
-    let mut i: usize = 0;
-    while i < ROW_BYTES {
-        line[i] = text[i];
-        i += 1;
-    }
+    line[..ROW_BYTES].copy_from_slice(b"ADDRESS                                      LABEL\n");
 }

@@ -1,18 +1,18 @@
 -- The decimal digits of a byte: how many they are, and three of them, of which the last count.
 use mathlib.Core.Path.{◌≡◌}
-use mathlib.Core.Bool.{cond}
 use mathlib.Core.List.{List, ◌∷◌, ◌++◌}
 use Prim.Native.Nat.{ℕ, ◌+◌, ◌-◌, ◌/◌, ◌%◌, ◌≤◌, ◌<◌}
 use native.Mathlib.Omega.{arith}
 use lib.ListN.{length, drop}
 use lib.Dec.{ltb}
 use borrow.Author.Tests.{lt-ltb, le-ltb}
+use Rattle.std.specs.Int.{from_bool}
 use Rattle.text_write.specs.Decimal.{decimal_text}
 use Rattle.text_write.specs.theory.Decimal.{by_count, decimal_one, decimal_two, decimal_three}
 
 module _ (n : ℕ) (h : n < 256) where
   -- one digit, and one more from 10 and from 100 on
-  pub count_is : 1 + cond (ltb 9 n) 1 0 + cond (ltb 99 n) 1 0 ≡ length (decimal_text n)
+  pub count_is : 1 + from_bool (ltb 9 n) + from_bool (ltb 99 n) ≡ length (decimal_text n)
   count_is =
       by_count n (λ l. rw (decimal_one n l, le-ltb 9 n (omega arith), le-ltb 99 n (omega arith)))
       (λ k l. rw (decimal_two n k l, lt-ltb 9 n k, le-ltb 99 n (omega arith)))

@@ -12,6 +12,7 @@ use lib.Count.{count_trailing_zeros}
 use lib.Dec.{leb, eqb}
 use lib.ListN.{length, drop, get_or}
 use borrow.Author.Tests.{le-leb, lt-leb, leb-true, leb-false, eqb-true}
+use Rattle.std.specs.Int.{from_bool}
 use Rattle.laws.specs.Cases.{cases}
 use Rattle.laws.specs.Lists.{drop_next}
 use Rattle.text_write.specs.Writing.{zeros, longest}
@@ -126,7 +127,7 @@ marks_found (suc k) n (g ∷ l) h o e p =
 
 -- one place more in front
 pub marks_step : (g : List ℕ) (i j : ℕ) → j ≡ i + 1 → i < length g
-    → run_marks 1 (drop i g) ≡ run_marks 1 (drop j g) * 2 + cond (eqb (get_or g i 0) 0) 1 0
+    → run_marks 1 (drop i g) ≡ run_marks 1 (drop j g) * 2 + from_bool (eqb (get_or g i 0) 0)
 marks_step g i j e h =
     let d : drop i g ≡ get_or g i 0 ∷ drop j g = drop_next g i 0 h ∙ rw e in
     rw (d, marks_cons 1 (get_or g i 0) (drop j g))

@@ -1,8 +1,9 @@
 -- Words that only the contracts of the functions behind `write` use.
-use Rattle.std.specs.Prelude.{◌≡◌, ℕ, ◌+◌, ◌-◌, ◌*◌, ◌/◌, ◌%◌, ◌^◌, ◌≤◌, ◌<◌, cond, List, [], ◌∷◌, ◌++◌, length, take, drop, leb}
+use Rattle.std.specs.Prelude.{◌≡◌, ℕ, ◌+◌, ◌-◌, ◌*◌, ◌/◌, ◌%◌, ◌^◌, ◌≤◌, cond, List, [], ◌∷◌, ◌++◌, length, take, drop, leb}
 use Rattle.keys.specs.declared.Key.{Key}
 use Rattle.text_write.specs.Decimal.{decimal_text}
 use Rattle.text_write.specs.declared.mapped.Ends.{Ends}
+use Rattle.text_write.specs.declared.writer.Run.{Run}
 use Rattle.text_write.specs.Writing.{group_text, four_groups, zeros, longest}
 
 -- the eight groups of a key
@@ -27,10 +28,12 @@ unfoldable pub run_marks : ℕ → List ℕ → ℕ
 run_marks n [] = 0
 run_marks n (g ∷ l) = run_marks n l * 2 + cond (leb n (zeros (g ∷ l))) 1 0
 
--- the run that "::" stands for: fewer than two groups if none does
-pub record Gap (l : List ℕ) (start count : ℕ) : Type 0 where
-  pub none : count < 2 → (longest l).1 < 2
-  pub some : 2 ≤ count → (start ≡ (longest l).0) × (count ≡ (longest l).1)
+-- the run of the eight groups that "::" stands for: the longest, of two groups or more
+pub record Gap (l : List ℕ) (run : Run) : Type 0 where
+  pub two : 2 ≤ run.count
+  pub start : run.start ≡ (longest l).0
+  pub count : run.count ≡ (longest l).1
+  pub within : run.start + run.count ≤ 8
 
 -- the text stands before place r, and from place `most` on nothing has changed; the bytes between are free
 pub record Puts (text : List ℕ) (most : ℕ) (before after : List ℕ) (r : ℕ) : Type 0 where

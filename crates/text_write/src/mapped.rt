@@ -1,7 +1,7 @@
 // The text of an address under ::ffff:0:0/96, which ends in four decimals. It is put where it stays, from its end to its
 // start, and every store lies within it: of each decimal three digits are stored, and what comes to the left of it is
 // stored over its leading zeros.
-ghost use Rattle.std.specs.Prelude.{◌+◌, ◌/◌, ◌%◌, ◌<◌, ◌≤◌, cond, [], ◌∷◌, ◌++◌, ◌≡◌, length};
+ghost use Rattle.std.specs.Prelude.{◌+◌, ◌/◌, ◌%◌, ◌<◌, ◌≤◌, [], ◌∷◌, ◌++◌, ◌≡◌, length};
 ghost use Rattle.text_write.specs.Ascii.{ascii};
 ghost use Rattle.text_write.specs.Decimal.{decimal_text};
 ghost use Rattle.text_write.specs.Writing.{is_mapped, mapped_text};
@@ -29,22 +29,13 @@ pub(crate) struct Ends {
     pub(crate) last: usize,
 }
 
-// 1 if it is true. A sum with it has no jump: one on the number of digits is badly predicted.
-fn one_if(b: bool) -> usize
-    ensures { (result ≡ cond b 1 0) × (result ≤ 1) }
-{
-    if b {
-        return 1;
-    }
-    0
-}
-
 // Where a decimal ends that stands behind the byte at `at`: one digit, one more from 10 on, and one more from 100 on.
+// The sum has no jump: one on the number of digits is badly predicted.
 fn decimal_end(at: usize, byte: u32) -> usize
     requires { (at < 20) × (byte < 256) }
     ensures { result ≡ at + 1 + length (decimal_text byte) }
 {
-    at + 2 + one_if(9 < byte) + one_if(99 < byte)
+    at + 2 + usize::from(9 < byte) + usize::from(99 < byte)
 }
 
 // The places, one from the other, and only once: so each is there when its decimal is put.

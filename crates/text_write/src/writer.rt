@@ -1,13 +1,12 @@
 // Writing: the text of a key in hexadecimal groups is put together in a local array, and copied once
 // its length is known, so that a refusal touches nothing. What stands in the array behind the text is
 // of no account, so four digits are stored where fewer count.
-ghost use Rattle.std.specs.Prelude.{◌≡◌, ◌+◌, ◌-◌, ◌*◌, ◌/◌, ◌%◌, ◌<◌, ◌≤◌, [], ◌∷◌, ◌++◌, true, false, cond, length, take, drop, get_or, eqb};
-ghost use Rattle.text_write.specs.Writing.{hex_digit, group_text, part_text, text_of, is_mapped, written};
+ghost use Rattle.std.specs.Prelude.{◌≡◌, ◌+◌, ◌-◌, ◌*◌, ◌/◌, ◌%◌, ◌<◌, ◌≤◌, [], ◌∷◌, ◌++◌, true, false, length, take, drop, get_or, IfNone, IfSome};
+ghost use Rattle.text_write.specs.Writing.{hex_digit, group_text, part_text, longest, text_of, is_mapped, written};
 ghost use Rattle.text_write.specs.WriterSteps.{Gap, Puts, key_groups, packed, closed_text, run_marks};
 ghost use Rattle.settings.specs.Reply.{Gives};
 ghost use Rattle.text_write.specs.Answers.{write_call};
 
-use crate::Written;
 use crate::four::put_four;
 use crate::mapped::{decimal_ends, is_mapped, put_mapped};
 use keys::Key;
@@ -18,12 +17,6 @@ use settings::Refusal;
 struct Run {
     start: usize,
     count: usize,
-}
-
-fn wide(x: u32) -> usize
-    ensures { result ≡ x }
-{
-    x as usize
 }
 
 // The group at a place of the eight.
@@ -80,10 +73,8 @@ fn put_groups(text: &mut [u8], at: usize, key: Key, from: usize, to: usize) -> u
     ensures { Puts (take at text.old ++ closed_text (drop from (take to (key_groups key)))) (at + 5 * (to - from)) text.old text.new result }
 {
     let mut end = at;
-    let mut i = from;
-    while i < to {
+    for i in from..to {
         end = put_group(text, end, group_at(key, i));
-        i += 1;
     }
     end
 }
@@ -111,37 +102,27 @@ fn put_back(text: &mut [u8], at: usize, key: Key, from: usize) -> usize
     put_groups(text, at, key, from, 8) - 1
 }
 
-fn zero_bit(group: u32) -> u32
-    ensures { (result ≡ cond (eqb group 0) 1 0) × (result ≤ 1) }
-{
-    if group == 0 {
-        return 1;
-    }
-    0
-}
-
 // A bit for each group, the first in the lowest: 1 for a zero group.
 fn zero_groups(key: Key) -> u32
     ensures { result ≡ run_marks 1 (key_groups key) }
 {
     let mut marks: u32 = 0;
-    let mut i: usize = 8;
-    while 0 < i {
-        i -= 1;
-        marks = marks * 2 + zero_bit(group_at(key, i));
+    for i in (0..8).rev() {
+        marks = marks * 2 + u32::from(group_at(key, i) == 0);
     }
     marks
 }
 
 // The longest run of two or more zero groups, the first of equals. `marks` has a bit for each place
 // where a run of `count` begins; a longer run begins where the next place has one too.
-fn longest_run(key: Key) -> Run
-    ensures { Gap (key_groups key) result.start result.count }
+fn longest_run(key: Key) -> Option<Run>
+    ensures none { IfNone result ((longest (key_groups key)).1 < 2) }
+    ensures some { IfSome result (Gap (key_groups key)) }
 {
     let single = zero_groups(key);
     let mut marks = single & (single / 2);
     if marks == 0 {
-        return Run { start: 8, count: 0 };
+        return None;
     }
     let mut count: usize = 2;
     let mut longer = marks & (marks / 2);
@@ -150,11 +131,8 @@ fn longest_run(key: Key) -> Run
         count += 1;
         longer = marks & (marks / 2);
     }
-    let start = u32::trailing_zeros(marks);
-    Run {
-        start: wide(start),
-        count: count,
-    }
+    let start = u32::trailing_zeros(marks) as usize;
+    Some(Run { start, count })
 }
 
 // The text of a key in hexadecimal groups, and its length.
@@ -162,12 +140,9 @@ fn put_hexadecimal(text: &mut [u8], key: Key) -> usize
     requires { 40 ≤ length text.old }
     ensures { Puts (text_of (key_groups key)) 40 text.old text.new result }
 {
-    let run = longest_run(key);
-    let start = run.start;
-    let count = run.count;
-    if count < 2 {
+    let Some(Run { start, count }) = longest_run(key) else {
         return put_back(text, 0, key, 0);
-    }
+    };
     let end = put_front(text, key, start);
     text[end] = b':';
     put_back(text, end + 1, key, start + count)
@@ -191,27 +166,23 @@ fn copy(text: &[u8], n: usize, out: &mut [u8])
     requires { (n ≤ length text.now) × (n ≤ length out.old) }
     ensures { out.new ≡ take n text.now ++ drop n out.old }
 {
-    let mut i: usize = 0;
-    while i < n {
-        out[i] = text[i];
-        i += 1;
-    }
+    out[..n].copy_from_slice(&text[..n]);
 }
 
 // Writes the text of a mapped address, if it fits.
-fn write_mapped(key: Key, out: &mut [u8]) -> Written
+fn write_mapped(key: Key, out: &mut [u8]) -> Result<usize, Refusal>
     requires { is_mapped key.high key.low ≡ true }
     ensures { Gives (write_call key out.old) result out.new }
 {
     let ends = decimal_ends(key.low);
     if out.len() < ends.last {
-        return Written::Refused(Refusal::Output);
+        return Err(Refusal::Output);
     }
-    Written::Length(put_mapped(out, key.low, ends))
+    Ok(put_mapped(out, key.low, ends))
 }
 
 // Writes the text of any other address, if it fits.
-fn write_hexadecimal(key: Key, out: &mut [u8]) -> Written
+fn write_hexadecimal(key: Key, out: &mut [u8]) -> Result<usize, Refusal>
     requires { is_mapped key.high key.low ≡ false }
     ensures { Gives (write_call key out.old) result out.new }
 {
@@ -219,14 +190,14 @@ fn write_hexadecimal(key: Key, out: &mut [u8]) -> Written
     let mut text = [0u8; 40];
     let n = put_hexadecimal(&mut text, key);
     if out.len() < n {
-        return Written::Refused(Refusal::Output);
+        return Err(Refusal::Output);
     }
     copy(&text, n, out);
-    Written::Length(n)
+    Ok(n)
 }
 
 // Writes the text of a key, if it fits.
-pub fn write(key: Key, out: &mut [u8]) -> Written
+pub fn write(key: Key, out: &mut [u8]) -> Result<usize, Refusal>
     ensures { Gives (write_call key out.old) result out.new }
 {
     if is_mapped(key) {

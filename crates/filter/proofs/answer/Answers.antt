@@ -13,12 +13,12 @@ slice_bounds-consume-end-2 c = simp length-take (omega (arith, (goal.at.slice_bo
 
 pub consume-r-requires : goal.consume-r-requires
 consume-r-requires c =
-    record { at_in_bounds = omega (arith, c.requires.1, length-take-le c.args.s.end c.args.buf.now c.requires.1.within); classes = (c.requires.0, c.requires.2) }
+    record { at_in_bounds = omega (arith, c.requires.0, length-take-le c.args.s.end c.args.buf.now c.requires.0.within); room = c.requires.1 }
 
 pub returns-then-r : goal.returns-then-r
 returns-then-r c =
     let a = c.args in
-    let p = c.requires.1 in
+    let p = c.requires.0 in
     let e = c.consume-r.ensures in
     record {
       says = answers_of a.buf.now a.t.now a.s.at a.s.end a.s.skip c.consume-r.result _ _ p.order p.within e;
@@ -33,13 +33,13 @@ returns-then-r c =
 pub keep-have-requires : goal.keep-have-requires
 keep-have-requires c =
     let a = c.args in
-    let p = c.requires.1 in
+    let p = c.requires.0 in
     (come a.buf.now a.t.now a.s.at a.s.end a.s.skip c.consume-r.result _ _ p.order p.within c.consume-r.ensures, p.within)
 
 pub returns : goal.returns
 returns c =
     let a = c.args in
-    let p = c.requires.1 in
+    let p = c.requires.0 in
     let e = c.consume-r.ensures in
     let m = c.keep-have.ensures in
     record {

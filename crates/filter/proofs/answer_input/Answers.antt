@@ -28,7 +28,7 @@ loop-s-init c =
       out = [];
       given = given_none;
       taken = taken_none;
-      sofar = starts c.requires.4;
+      sofar = starts c.requires.3;
       waits = λ f. let z : ◌≡◌ {A = ℕ} 0 1 = cc in absurd (omega arith);
       stops = λ f. let z : ◌≡◌ {A = ℕ} 0 1 = cc in absurd (omega arith);
       placed = record { order = omega arith; within = omega arith };

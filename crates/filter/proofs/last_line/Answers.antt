@@ -14,4 +14,4 @@ slice_bounds-wrote-end-2 c =
 
 pub returns : goal.returns
 returns c =
-    subst (λ (w : List ℕ). Wrote w c.wrote.result) (c.finish-n.ensures.says c.requires.2.none) c.wrote.ensures
+    subst (λ (w : List ℕ). Wrote w c.wrote.result) (c.finish-n.ensures.says c.requires.1.none) c.wrote.ensures

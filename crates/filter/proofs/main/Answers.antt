@@ -1,4 +1,5 @@
 -- The arrays have the lengths that `run` asks, and the table is new.
+use Rattle.std.specs.Prelude.{Ok}
 use mathlib.Core.Path.{◌≡◌, sym, ◌∙◌}
 use mathlib.Core.List.{List}
 use Prim.Native.Nat.{ℕ, ◌≤◌}
@@ -6,7 +7,6 @@ use native.Mathlib.Omega.{arith}
 use lib.ListN.{length, replicate, length-replicate}
 use lib.Dec.{lit≤}
 use Rattle.settings.specs.declared.settings.Settings.{Settings}
-use Rattle.settings.specs.declared.settings.Made.TheVariants as made
 use Rattle.table.specs.Calls.{make_call}
 use Rattle.program_answers.specs.Program.{program, program_bytes}
 use Rattle.program_answers.specs.theory.Program.{program_bytes_lem}
@@ -26,7 +26,7 @@ module _ (n : ℕ) (e : n ≡ program_bytes) where
   long t l = omega (arith, length-replicate {A = ℕ} n 0)
 
   -- made by the program's settings
-  new : (s : Settings) → made.Settings s ≡ made.Settings program → (make_call s (replicate n 0)).bytes ≡ new_table
+  new : (s : Settings) → Ok s ≡ Ok program → (make_call s (replicate n 0)).bytes ≡ new_table
   unfolding new_table
   new s p =
       let same : s ≡ program = cc in
@@ -34,7 +34,6 @@ module _ (n : ℕ) (e : n ≡ program_bytes) where
 
 pub run-requires : goal.run-requires
 run-requires c = (
-  c.classes-classes.ensures,
   room buffer _ (lit≤ tt),
   long _ (sym program_bytes_lem) c.make.new.t c.make.auto.t,
   room buffer _ (lit≤ tt),

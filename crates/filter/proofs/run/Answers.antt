@@ -6,7 +6,7 @@ use Rattle.filter.proofs.run.Goals as goal
 pub last_line-requires : goal.last_line-requires
 last_line-requires c =
     let f = ends_stands c.answer_input-s.ensures c.if-s.true in
-    (c.requires.0, f.placed, f.waits c.if-s.true, omega (arith, c.requires.2, c.answer_input-s.auto.t), omega (arith, c.requires.3, c.answer_input-s.auto.out))
+    (f.placed, f.waits c.if-s.true, omega (arith, c.requires.1, c.answer_input-s.auto.t), omega (arith, c.requires.2, c.answer_input-s.auto.out))
 
 pub returns-then-s : goal.returns-then-s
 returns-then-s c =

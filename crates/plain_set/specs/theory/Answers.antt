@@ -1,6 +1,6 @@
 -- What the answers of make and check tell of settings and bytes.
 use Rattle.std.proofs.Math.Path.{◌≡◌}
-use Rattle.std.specs.Prelude.{true, cond, not, ℕ, ◌≤◌, length, leb}
+use Rattle.std.specs.Prelude.{true, cond, not, ℕ, ◌≤◌, length, leb, Bool, Err, Ok, false, ⊤}
 use mathlib.Core.List.{List, [], ◌∷◌}
 use Rattle.std.proofs.Common.{arith, leb-true}
 use Rattle.laws.specs.Cases.{cases}
@@ -16,10 +16,8 @@ use Rattle.settings.specs.theory.Legal.{legal_means}
 use Rattle.table.specs.New.{new_bytes}
 use Rattle.table.specs.Calls.{make_call, check_call}
 use Rattle.table.specs.Check.{table_sound, mark_bytes, marks_after}
-use Rattle.table.specs.declared.answers.MakeAnswer.{MakeAnswer}
-use Rattle.table.specs.declared.answers.MakeAnswer.TheVariants as making
-use Rattle.table.specs.declared.answers.CheckAnswer.{CheckAnswer}
-use Rattle.table.specs.declared.answers.CheckAnswer.TheVariants as checking
+use Rattle.std.specs.declared.result.Result.{Result}
+use Rattle.settings.specs.declared.refusal.Refusal.{Refusal}
 
 module _ (s : Settings) (t : List ℕ) where
   -- refusals 1 and 2 are not due
@@ -30,22 +28,22 @@ module _ (s : Settings) (t : List ℕ) where
   opened : (ds : List Due) → NoneDue (settings_due s ∷ short_due s (length t) ∷ ds) → Opened
   opened ds d = record { right = legal_means s (passed d.0); room = leb-true (table_bytes s) (length t) (passed d.1.0) }
 
-  pub made_opened : (make_call s t).answer ≡ making.Made → Opened
+  pub made_opened : (make_call s t).answer ≡ (Ok tt) → Opened
   unfolding make_call
   made_opened =
       by_dues (λ choose.
-      (choose (Reply MakeAnswer) (λ why. reply (making.Refused why) t) (reply making.Made (new_bytes (layout_of s) t))).answer ≡ making.Made → Opened)
+      (choose (Reply (Result ⊤ Refusal)) (λ why. reply (Err why) t) (reply (Ok tt) (new_bytes (layout_of s) t))).answer ≡ (Ok tt) → Opened)
       (settings_due s ∷ short_due s (length t) ∷ [])
       (λ why e. absurd (let z : ◌≡◌ {A = ℕ} 0 1 = cc in omega arith))
       (λ d e. opened [] d)
 
-  pub sound_opened : (m : List ℕ) → (check_call s t m).answer ≡ checking.Sound → Opened × (table_sound (layout_of s) t ≡ true)
+  pub sound_opened : (m : List ℕ) → (check_call s t m).answer ≡ (Ok true) → Opened × (table_sound (layout_of s) t ≡ true)
   unfolding check_call
   sound_opened m =
       let marks : Due = due (not (leb (mark_bytes (layout_of s)) (length m))) refusal.Marks in
-      let on : Reply CheckAnswer = reply (cond (table_sound (layout_of s) t) checking.Sound checking.Unsound) (marks_after (layout_of s) m) in
+      let on : Reply (Result Bool Refusal) = reply (cond (table_sound (layout_of s) t) (Ok true) (Ok false)) (marks_after (layout_of s) m) in
       by_dues (λ choose.
-      (choose (Reply CheckAnswer) (λ why. reply (checking.Refused why) m) on).answer ≡ checking.Sound
+      (choose (Reply (Result Bool Refusal)) (λ why. reply (Err why) m) on).answer ≡ (Ok true)
       → Opened × (table_sound (layout_of s) t ≡ true))
       (settings_due s ∷ short_due s (length t) ∷ marks ∷ [])
       (λ why e. absurd (let z : ◌≡◌ {A = ℕ} 0 1 = cc in omega arith))

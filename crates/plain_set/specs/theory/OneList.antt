@@ -1,6 +1,6 @@
 -- One list alone: what a call with a key of that list is told of the list's slots, and the slots after it. `full` says that a block is needed and
 -- none is free; nothing else of the table matters.
-use Rattle.std.specs.Prelude.{Bool, cond, List, [], ◌∷◌, ◌++◌, ℕ, set}
+use Rattle.std.specs.Prelude.{Bool, cond, List, [], ◌∷◌, ◌++◌, ℕ, set, Ok, Err}
 use Rattle.settings.specs.declared.settings.Settings.{Settings}
 use Rattle.settings.specs.declared.refusal.Refusal.TheVariants as refusal
 use Rattle.settings.specs.Layout.{layout_of}
@@ -8,8 +8,7 @@ use Rattle.keys.specs.Key.{entry}
 use Rattle.table.specs.State.{slot_of}
 use Rattle.table.specs.Find.{position, is_held, label_at, compared_in}
 use Rattle.table.specs.Calls.{Verb, find, enter, relabel, delete}
-use Rattle.table.specs.declared.answers.Answer as table
-use Rattle.table.specs.declared.answers.Answer.TheVariants as answer
+use Rattle.table.specs.Answer as table
 use Rattle.table.specs.declared.answers.Word.{Word}
 use Rattle.table.specs.declared.answers.Word.TheVariants as word
 use Rattle.plain_set.specs.Set.{Answer, said, refused}
@@ -26,8 +25,8 @@ tell a n = record { answer = a; compared = n }
 
 -- clause 7.1: a refusal has compared 0
 abbrev pub compared_of : table.Answer → ℕ
-compared_of (answer.Said label w n slot) = n
-compared_of (answer.Refused why) = 0
+compared_of (Ok r) = r.compared
+compared_of (Err why) = 0
 
 abbrev pub told : table.Answer → Told
 told a = tell (plain a) (compared_of a)

@@ -17,7 +17,7 @@ returns-then-skip c =
 pub answer_part-n-requires : goal.answer_part-n-requires
 answer_part-n-requires c =
     let a = c.args in
-    record { at_le_e = omega (arith, span_line _ _ _ c.requires.at_in_bounds.1, first_after line_feed a.input.now a.at); classes = c.requires.classes }
+    record { at_le_e = omega (arith, span_line _ _ _ c.requires.at_in_bounds.1, first_after line_feed a.input.now a.at); room = c.requires.room }
 
 pub overflow_add-result-2 : goal.overflow_add-result-2
 overflow_add-result-2 c =

@@ -1,5 +1,5 @@
 -- What legal settings keep, as facts; and what the answers to settings tell.
-use Rattle.std.specs.Prelude.{◌≡◌, ℕ, ◌*◌, Bool, true, false, nat_le, nat_lt}
+use Rattle.std.specs.Prelude.{◌≡◌, ℕ, ◌*◌, Bool, true, false, nat_le, nat_lt, Err, Ok}
 use Rattle.std.proofs.Common.{sym, ◌∙◌, true≢false, arith}
 use borrow.Author.Tests.{leb-true, ltb-true, le-leb, lt-ltb}
 use Rattle.laws.specs.Cases.{cases, both_true}
@@ -10,7 +10,6 @@ use Rattle.settings.specs.Layout.{layout_of}
 use Rattle.settings.specs.Made.{laid_of}
 use Rattle.settings.specs.declared.settings.Settings.{Settings}
 use Rattle.settings.specs.declared.layout.Layout.{Layout}
-use Rattle.settings.specs.declared.layout.Laid.TheVariants as laid
 use Rattle.settings.specs.declared.refusal.Refusal.{Refusal}
 use Rattle.settings.specs.declared.refusal.Refusal.TheVariants as refusal
 
@@ -97,27 +96,27 @@ module _ (s : Settings) where
 
   -- ---- what the answers to settings tell
 
-  pub laid_if_lem : in_ranges s ≡ true → below_prime s ≡ true → fits s ≡ true → laid.Layout (layout_of s) ≡ laid_of s
+  pub laid_if_lem : in_ranges s ≡ true → below_prime s ≡ true → fits s ≡ true → Ok (layout_of s) ≡ laid_of s
   unfolding laid_of legal
   laid_if_lem r p f = rw (r, f, p)
 
   -- a test that legal settings pass refuses the others
-  pub refused_if : {t : Bool} → (Legal s → t ≡ true) → t ≡ false → laid.Refused refusal.Settings ≡ laid_of s
+  pub refused_if : {t : Bool} → (Legal s → t ≡ true) → t ≡ false → Err refusal.Settings ≡ laid_of s
   unfolding laid_of
   refused_if f e = cases (legal s) (λ l. absurd (true≢false (sym (f (legal_means l)) ∙ e))) (λ l. rw l)
 
   -- a layout is answered to legal settings alone, and is theirs
-  pub laid_layout : (g : Layout) → laid_of s ≡ laid.Layout g → (legal s ≡ true) × (layout_of s ≡ g)
+  pub laid_layout : (g : Layout) → laid_of s ≡ Ok g → (legal s ≡ true) × (layout_of s ≡ g)
   unfolding laid_of
   laid_layout g e =
       cases (legal s)
-      (λ h. let q : laid.Layout (layout_of s) ≡ laid.Layout g = rw h at e in (h, cc))
-      (λ h. let q : laid.Refused refusal.Settings ≡ laid.Layout g = rw h at e in let z : ◌≡◌ {A = ℕ} 0 1 = cc in absurd (omega arith))
+      (λ h. let q : Ok (layout_of s) ≡ Ok g = rw h at e in (h, cc))
+      (λ h. let q : Err refusal.Settings ≡ Ok g = rw h at e in let z : ◌≡◌ {A = ℕ} 0 1 = cc in absurd (omega arith))
 
   -- settings are refused with 1, and only where they are not legal
-  pub laid_refused : (why : Refusal) → laid_of s ≡ laid.Refused why → (legal s ≡ false) × (refusal.Settings ≡ why)
+  pub laid_refused : (why : Refusal) → laid_of s ≡ Err why → (legal s ≡ false) × (refusal.Settings ≡ why)
   unfolding laid_of
   laid_refused why e =
       cases (legal s)
-      (λ h. let q : laid.Layout (layout_of s) ≡ laid.Refused why = rw h at e in let z : ◌≡◌ {A = ℕ} 0 1 = cc in absurd (omega arith))
-      (λ h. let q : laid.Refused refusal.Settings ≡ laid.Refused why = rw h at e in (h, cc))
+      (λ h. let q : Ok (layout_of s) ≡ Err why = rw h at e in let z : ◌≡◌ {A = ℕ} 0 1 = cc in absurd (omega arith))
+      (λ h. let q : Err refusal.Settings ≡ Err why = rw h at e in (h, cc))

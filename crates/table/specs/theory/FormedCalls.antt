@@ -23,8 +23,7 @@ use Rattle.table.specs.Done.{Done, damage, no_block, done, Answered, answered}
 use Rattle.table.specs.Store.{store_overflow, store_at}
 use Rattle.table.specs.theory.Formed.{All, all_nil, all_cons, all_get_d, all_take, all_append, Each, each_at, each_set, each_tab, Fits, OverflowFits, Formed, basic_fits, overflow_fits}
 use Rattle.table.specs.theory.Written.{join_fits}
-use Rattle.table.specs.declared.answers.Answer.{Answer}
-use Rattle.table.specs.Answer.{said}
+use Rattle.table.specs.Answer.{said, Answer}
 use Rattle.table.specs.declared.answers.Word.TheVariants as word
 use Rattle.table.specs.theory.FormedUpdates.{unpack_each, head_fits, rest_fits, formed_free, formed_basic, formed_overflow, counter_fits, link_fits, slot_fits, empty_fits, front_fits, body_fits, own_fits, block_link, block_free, list_owner}
 use Rattle.table.specs.Table.{Within}

@@ -1,58 +1,49 @@
 -- A table that is opened for the key answers as its list does; any other is refused.
-use mathlib.Core.Path.{◌≡◌, sym, ap, ◌∙◌}
-use lib.ListN.{length}
+use Rattle.std.proofs.Common.{◌≡◌, Ok, length, sym, ap, ◌∙◌}
+use Rattle.std.proofs.lemmas.Result.{err_from_is_err_and}
 use Rattle.settings.specs.Reply.{Reply}
-use Rattle.settings.specs.Made.{laid_of}
-use Rattle.settings.specs.declared.layout.Laid.TheVariants as laid
 use Rattle.table.specs.Calls.{find}
-use Rattle.table.specs.declared.answers.Answer.{Answer}
+use Rattle.table.specs.Answer.{Answer}
 use Rattle.table_find.specs.Seek.{open_of, laid_if}
-use Rattle.table_find.specs.declared.Admission.{Admission}
 use Rattle.table_find.specs.theory.Seeks.{open_illegal, open_refused, found_call}
 use Rattle.table_find.specs.theory.SoughtLaws.{placed_at}
 use Rattle.table_find.proofs.find.Goals as goal
-use Rattle.table_find.proofs.find.Goals.{After-admit, After-place-place}
+use Rattle.table_find.proofs.find.Goals.{In_ok-admit}
 
--- whether the table is opened for the key
-opened : (c : After-admit) (x : Admission) → c.admit.result ≡ x
-    → let a = c.args in open_of a.s (length a.t.now) a.key ≡ laid_if c.in-Layout.g x
-opened c x e = sym c.admit.ensures ∙ ap (laid_if c.in-Layout.g) e
+-- the table is opened for the key
+opened : (c : In_ok-admit) → let a = c.args in open_of a.s (length a.t.now) a.key ≡ Ok c.in_ok-g.g
+opened c = sym c.admit.ensures ∙ ap (laid_if c.in_ok-g.g) c.in_ok-admit.was
 
 pub admit-requires : goal.admit-requires
-admit-requires c = sym c.layout.ensures ∙ c.in-Layout.is
+admit-requires c = sym c.layout.ensures ∙ c.in_ok-g.was
 
 pub place-place-requires : goal.place-place-requires
 place-place-requires c =
     let a = c.args in
-    (placed_at a.s a.key a.t.now (opened (goal.at.place-place-requires c).After-admit _ c.in-Granted.is)).place
-
-opened_at_after_place : (c : After-place-place) (x : Admission) → c.admit.result ≡ x
-    → let a = c.args in open_of a.s (length a.t.now) a.key ≡ laid_if c.in-Layout.g x
-opened_at_after_place c x e = sym c.admit.ensures ∙ ap (laid_if c.in-Layout.g) e
-
--- the table is opened for the key that has a place in it
-placed : (d : After-place-place) → let a = d.args in
-    open_of a.s (length a.t.now) a.key ≡ laid.Layout d.in-Layout.g
-placed d = opened_at_after_place d _ d.in-Granted.is
+    (placed_at a.s a.key a.t.now (opened (goal.at.place-place-requires c).In_ok-admit)).place
 
 pub find_in-requires : goal.find_in-requires
 find_in-requires c =
     let a = c.args in
-    rw c.place-place.ensures (placed_at a.s a.key a.t.now (placed (goal.at.find_in-requires c).After-place-place)).find
+    rw c.place-place.ensures (placed_at a.s a.key a.t.now (opened (goal.at.find_in-requires c).In_ok-admit)).find
 
-pub returns-in-Granted : goal.returns-in-Granted
-returns-in-Granted c =
+pub returns : goal.returns
+returns c =
     let a = c.args in
-    c.find_in.ensures ∙ rw c.place-place.ensures (placed_at a.s a.key a.t.now (placed (goal.at.returns-in-Granted c).After-place-place)).found_is ∙ found_call a.s a.key a.t.now (placed (goal.at.returns-in-Granted c).After-place-place)
+    let o = opened (goal.at.returns c).In_ok-admit in
+    c.find_in.ensures ∙ rw c.place-place.ensures (placed_at a.s a.key a.t.now o).found_is ∙ found_call a.s a.key a.t.now o
 
-pub returns-in-Refused-admit : goal.returns-in-Refused-admit
-returns-in-Refused-admit c =
+pub returns-in_err-admit : goal.returns-in_err-admit
+returns-in_err-admit c =
     let a = c.args in
-    sym (ap (λ (o : Reply Answer). o.answer) (open_refused a.s a.key a.t.now find c.in-Refused-admit.why (opened (goal.at.returns-in-Refused-admit c).After-admit _ c.in-Refused-admit.is)))
+    let p = err_from_is_err_and c.from_residual-in_err-admit.result c.from_residual-in_err-admit.ensures.1 in
+    let o = sym c.admit.ensures ∙ ap (laid_if c.in_ok-g.g) c.in_err-admit.was in
+    rw (p.1, p.2) (sym (ap (λ (o : Reply Answer). o.answer) (open_refused a.s a.key a.t.now find _ o)))
 
-pub returns-in-Refused : goal.returns-in-Refused
-returns-in-Refused c =
+pub returns-in_err-g : goal.returns-in_err-g
+returns-in_err-g c =
     let a = c.args in
-    let e : laid_of a.s ≡ laid.Refused c.in-Refused.why = sym c.layout.ensures ∙ c.in-Refused.is in
-    sym (ap (λ (o : Reply Answer). o.answer)
-    (open_refused a.s a.key a.t.now find c.in-Refused.why (open_illegal a.s a.key (length a.t.now) c.in-Refused.why e)))
+    let p = err_from_is_err_and c.from_residual.result c.from_residual.ensures.1 in
+    let e = sym c.layout.ensures ∙ c.in_err-g.was in
+    rw (p.1, p.2)
+    (sym (ap (λ (o : Reply Answer). o.answer) (open_refused a.s a.key a.t.now find _ (open_illegal a.s a.key (length a.t.now) _ e))))

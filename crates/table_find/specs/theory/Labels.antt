@@ -1,5 +1,5 @@
 -- A call with a label.
-use Rattle.std.specs.Prelude.{◌≡◌, refl, false, List, [], ◌∷◌, ℕ, ◌^◌, ◌≤◌, ◌<◌, length, ltb}
+use Rattle.std.specs.Prelude.{◌≡◌, refl, false, List, [], ◌∷◌, ℕ, ◌^◌, ◌≤◌, ◌<◌, length, ltb, Err}
 use Rattle.std.proofs.Common.{ap, arith, lt_of_lt_of_le, pow_mono}
 use Rattle.settings.specs.declared.settings.Settings.{Settings}
 use Rattle.settings.specs.declared.layout.Layout.{Layout}
@@ -10,12 +10,11 @@ use Rattle.settings.specs.Reply.{Gives}
 use Rattle.settings.specs.theory.Legal.{legal_means}
 use Rattle.keys.specs.declared.Key.{Key}
 use Rattle.table.specs.Calls.{Verb, verb_due, key_call}
-use Rattle.table.specs.declared.answers.Answer.TheVariants as answer
 use Rattle.table_find.specs.theory.Seeks.{Opened, open_call}
 
 -- it is refused, once the table is opened for the key
 pub label_refused : {s : Settings} {k : Key} {g : Layout} (t : List ℕ) (v : Verb) (label : ℕ) → verb_due s v ≡ label_due s label ∷ [] → Opened s (length t) k g
-    → ltb label (2 ^ s.val) ≡ false → Gives (key_call s t v k) (answer.Refused refusal.Label) t
+    → ltb label (2 ^ s.val) ≡ false → Gives (key_call s t v k) (Err refusal.Label) t
 label_refused {s} {k} t v label d o h = rw (open_call s k t v o, d, h) (record { answer = refl; bytes = refl })
 
 module _ {s : Settings} {n : ℕ} {k : Key} {g : Layout} (o : Opened s n k g) where

@@ -1,9 +1,8 @@
 -- A key that was sought in the table that was opened for it: where its list and its entry stand there, and what a call with it comes to.
-use Rattle.std.specs.Prelude.{◌≡◌, refl, List, ℕ, ◌^◌, ◌<◌, length}
+use Rattle.std.specs.Prelude.{◌≡◌, refl, List, ℕ, ◌^◌, ◌<◌, length, Err, Ok}
 use Rattle.std.proofs.Common.{sym, ap, ap₂, ◌∙◌, arith, leb-true, ltb-true}
 use Rattle.settings.specs.declared.settings.Settings.{Settings}
 use Rattle.settings.specs.declared.layout.Layout.{Layout}
-use Rattle.settings.specs.declared.layout.Laid.TheVariants as laid
 use Rattle.settings.specs.Sizes.{table_bytes}
 use Rattle.settings.specs.Legal.{Legal}
 use Rattle.settings.specs.theory.Legal.{legal_means}
@@ -18,11 +17,10 @@ use Rattle.table.specs.Find.{find_in}
 use Rattle.table.specs.Done.{replied}
 use Rattle.table.specs.Calls.{Verb, list_call, verb_due, key_call}
 use Rattle.table.specs.theory.Opened.{opened_table, place_list, place_entry, place_list_below, place_entry_below}
-use Rattle.table.specs.declared.answers.Answer.{Answer}
-use Rattle.table.specs.declared.answers.Answer.TheVariants as answer
 use Rattle.table_find.specs.Seek.{open_of, sought_of}
 use Rattle.table_find.specs.declared.Sought.{Sought}
 use Rattle.table_find.specs.theory.Seeks.{Opened, open_means, open_call}
+use Rattle.table.specs.Answer.{Answer}
 
 -- the lent bytes hold a table
 pub open_table : {s : Settings} {k : Key} {g : Layout} (t : List ℕ) → Opened s (length t) k g → Table g t
@@ -38,9 +36,9 @@ pub record SoughtIn (s : Settings) (t : List ℕ) (k : Key) (g : Layout) (v : So
   pub found_is : v.found ≡ find_in g (decode g t) v.place.list.0 (key_number v.place.entry)
   pub call_is : (b : Verb)
       → key_call s t b k
-      ≡ called answer.Refused t (verb_due s b) (replied g t (list_call g (decode g t) v.place.list.0 (key_number v.place.entry) b))
+      ≡ called Err t (verb_due s b) (replied g t (list_call g (decode g t) v.place.list.0 (key_number v.place.entry) b))
 
-pub sought_means : (s : Settings) (t : List ℕ) (k : Key) (g : Layout) (v : Sought) → open_of s (length t) k ≡ laid.Layout g → v ≡ sought_of s t k → SoughtIn s t k g v
+pub sought_means : (s : Settings) (t : List ℕ) (k : Key) (g : Layout) (v : Sought) → open_of s (length t) k ≡ Ok g → v ≡ sought_of s t k → SoughtIn s t k g v
 unfolding sought_of
 sought_means s t k g v e ev =
     let o = open_means s k (length t) g e in
@@ -58,8 +56,8 @@ sought_means s t k g v e ev =
           ∙ ap (λ (x : Layout). find_in x (decode x t) v.place.list.0 (key_number v.place.entry)) o.layout;
       call_is = λ b.
           open_call s k t b o
-          ∙ sym (ap₂ (λ (m q : ℕ). called answer.Refused t (verb_due s b) (replied (layout_of s) t (list_call (layout_of s) (decode (layout_of s) t) m q b))) i d)
-          ∙ ap (λ (x : Layout). called answer.Refused t (verb_due s b) (replied x t (list_call x (decode x t) v.place.list.0 (key_number v.place.entry) b))) o.layout;
+          ∙ sym (ap₂ (λ (m q : ℕ). called Err t (verb_due s b) (replied (layout_of s) t (list_call (layout_of s) (decode (layout_of s) t) m q b))) i d)
+          ∙ ap (λ (x : Layout). called Err t (verb_due s b) (replied x t (list_call x (decode x t) v.place.list.0 (key_number v.place.entry) b))) o.layout;
     }
 
 -- a key's place in the table that was opened for it: what finding it there asks, and what is found
@@ -68,7 +66,7 @@ pub record PlacedAt (s : Settings) (t : List ℕ) (k : Key) (g : Layout) (p : Pl
   pub find : Table g t × (p.list.0 < g.lists) × (key_number p.entry < 2 ^ g.bie)
   pub found_is : find_in g (decode g t) p.list.0 (key_number p.entry) ≡ (sought_of s t k).found
 
-pub placed_at : (s : Settings) (k : Key) {g : Layout} (t : List ℕ) → open_of s (length t) k ≡ laid.Layout g → PlacedAt s t k g (place_of s (key_number k))
+pub placed_at : (s : Settings) (k : Key) {g : Layout} (t : List ℕ) → open_of s (length t) k ≡ Ok g → PlacedAt s t k g (place_of s (key_number k))
 unfolding sought_of
 placed_at s k {g} t e =
     let o = open_means s k (length t) g e in
@@ -80,7 +78,7 @@ placed_at s k {g} t e =
     }
 
 -- sought: what stands at its place, and is found there
-pub sought_as : (s : Settings) (k : Key) {g : Layout} (t : List ℕ) → open_of s (length t) k ≡ laid.Layout g → (p : Place) (f : Answer)
+pub sought_as : (s : Settings) (k : Key) {g : Layout} (t : List ℕ) → open_of s (length t) k ≡ Ok g → (p : Place) (f : Answer)
     → p ≡ place_of s (key_number k) → f ≡ find_in g (decode g t) p.list.0 (key_number p.entry)
     → ◌≡◌ {A = Sought} (record { place = p; found = f }) (sought_of s t k)
 unfolding sought_of

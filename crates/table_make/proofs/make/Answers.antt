@@ -1,10 +1,11 @@
 -- The layout's answer and the length decide the call's; zeroed and linked bytes are the new table's (`new_bytes_lem`).
+use Rattle.std.specs.Prelude.{Err, Ok, ⊤}
 use mathlib.Core.Path.{◌≡◌, refl, sym, ap, ◌∙◌}
 use mathlib.Core.Bool.{true}
 use mathlib.Core.List.{List, [], ◌++◌}
 use Prim.Native.Nat.{ℕ, ◌≤◌}
 use native.Mathlib.Omega.{arith}
-use lib.ListN.{length, take, drop, replicate, length-take}
+use lib.ListN.{length, take, drop, replicate}
 use lib.Seq.{length-take-le}
 use Rattle.settings.specs.Legal.{legal}
 use Rattle.settings.specs.Layout.{layout_of}
@@ -17,67 +18,66 @@ use Rattle.table_make.specs.NewSteps.{linked}
 use Rattle.table.specs.Calls.{make_call}
 use Rattle.table_make.proofs.New.{zero_length, new_bytes_lem}
 use Rattle.table.specs.theory.Opened.{due_settings, due_short, due_later, opened_table}
-use Rattle.table.specs.declared.answers.MakeAnswer.{MakeAnswer}
-use Rattle.table.specs.declared.answers.MakeAnswer.TheVariants as making
+use Rattle.std.proofs.lemmas.Result.{err_from_is_err_and}
 use Rattle.table_make.proofs.make.Goals as goal
-use Rattle.table_make.proofs.make.Goals.{After-zero_bytes, In-Layout}
+use Rattle.table_make.proofs.make.Goals.{After-zero_bytes, In_ok-g}
+use Rattle.std.specs.declared.result.Result.{Result}
+use Rattle.settings.specs.declared.refusal.Refusal.{Refusal}
 
 -- what the call comes to if nothing is refused
-abbrev made : Settings → List ℕ → Reply MakeAnswer
-made s t = reply making.Made (new_bytes (layout_of s) t)
+abbrev made : Settings → List ℕ → Reply (Result ⊤ Refusal)
+made s t = reply (Ok tt) (new_bytes (layout_of s) t)
 
 -- the settings are legal, and the layout is theirs
-laid : (c : In-Layout) → let a = c.args in (legal a.s ≡ true) × (layout_of a.s ≡ c.in-Layout.g)
-laid c = laid_layout c.args.s c.in-Layout.g (sym c.layout.ensures ∙ c.in-Layout.is)
+laid : (c : In_ok-g) → let a = c.args in (legal a.s ≡ true) × (layout_of a.s ≡ c.in_ok-g.g)
+laid c = laid_layout c.args.s c.in_ok-g.g (sym c.layout.ensures ∙ c.in_ok-g.was)
 
-pub returns-then-t-g : goal.returns-then-t-g
+pub returns-then-t-n : goal.returns-then-t-n
 unfolding make_call
-returns-then-t-g c =
+returns-then-t-n c =
     let a = c.args in
     let t = a.t.now in
-    rw (due_short (λ why. reply (making.Refused why) t) a.s (length t) [] (made a.s t) c.in-Layout.g (laid (goal.at.returns-then-t-g c).In-Layout).0 (laid (goal.at.returns-then-t-g c).In-Layout).1 c.if-t-g.true)
+    rw (due_short (λ why. reply (Err why) t) a.s (length t) [] (made a.s t) c.in_ok-g.g (laid (goal.at.returns-then-t-n c).In_ok-g).0 (laid (goal.at.returns-then-t-n c).In_ok-g).1 c.if-t-n.true)
     (record { answer = refl; bytes = refl })
 
-pub slice_bounds-zero_bytes-end-in-Layout : goal.slice_bounds-zero_bytes-end-in-Layout
-slice_bounds-zero_bytes-end-in-Layout c = simp length-take (omega arith)
-
 -- the first bytes zero, and the others as they were
-zeroed : (z : After-zero_bytes) → let g = z.in-Layout.g in let t = z.args.t.now in
+zeroed : (z : After-zero_bytes) → let g = z.in_ok-g.g in let t = z.args.t.now in
     z.zero_bytes.new.s ++ drop g.bytes t ≡ replicate g.bytes 0 ++ drop g.bytes t
 zeroed z =
-    let g = z.in-Layout.g in
+    let g = z.in_ok-g.g in
     let t = z.args.t.now in
-    let l : length (take g.bytes t) ≡ g.bytes = length-take-le g.bytes t z.if-t-g.false in
+    let l : length (take g.bytes t) ≡ g.bytes = length-take-le g.bytes t z.if-t-n.false in
     ap (◌++ drop g.bytes t) (z.zero_bytes.ensures ∙ ap (λ (n : ℕ). replicate n 0) l)
 
 pub link_free-requires : goal.link_free-requires
 link_free-requires c =
     let a = c.args in
-    let g = c.in-Layout.g in
-    opened_table a.s g (laid (goal.at.link_free-requires c).In-Layout).0 (laid (goal.at.link_free-requires c).In-Layout).1 _ (omega (arith, ap length (zeroed (goal.at.link_free-requires c).After-zero_bytes), zero_length g.bytes a.t.now c.if-t-g.false, c.if-t-g.false))
+    let g = c.in_ok-g.g in
+    opened_table a.s g (laid (goal.at.link_free-requires c).In_ok-g).0 (laid (goal.at.link_free-requires c).In_ok-g).1 _ (omega (arith, ap length (zeroed (goal.at.link_free-requires c).After-zero_bytes), zero_length g.bytes a.t.now c.if-t-n.false, c.if-t-n.false))
 
-pub returns-else-t-g : goal.returns-else-t-g
+pub returns : goal.returns
 unfolding make_call
-returns-else-t-g c =
+returns c =
     let a = c.args in
-    let g = c.in-Layout.g in
+    let g = c.in_ok-g.g in
     let t = a.t.now in
-    let l : g.bytes ≤ length t = c.if-t-g.false in
-    rw (due_later (λ why. reply (making.Refused why) t) a.s (length t) [] (made a.s t) g (laid (goal.at.returns-else-t-g c).In-Layout).0 (laid (goal.at.returns-else-t-g c).In-Layout).1 l)
+    let l : g.bytes ≤ length t = c.if-t-n.false in
+    rw (due_later (λ why. reply (Err why) t) a.s (length t) [] (made a.s t) g (laid (goal.at.returns c).In_ok-g).0 (laid (goal.at.returns c).In_ok-g).1 l)
     (record {
       answer = refl;
       bytes =
           c.link_free.ensures
-          ∙ ap (linked g g.nob) (zeroed (goal.at.returns-else-t-g c).After-zero_bytes)
-          ∙ new_bytes_lem g (opened_table a.s g (laid (goal.at.returns-else-t-g c).In-Layout).0 (laid (goal.at.returns-else-t-g c).In-Layout).1 t l).proper t l (λ j. omega (arith, c.slice_known-1.given j))
-          ∙ ap (λ (x : Layout). new_bytes x t) (sym (laid (goal.at.returns-else-t-g c).In-Layout).1);
+          ∙ ap (linked g g.nob) (zeroed (goal.at.returns c).After-zero_bytes)
+          ∙ new_bytes_lem g (opened_table a.s g (laid (goal.at.returns c).In_ok-g).0 (laid (goal.at.returns c).In_ok-g).1 t l).proper t l (λ j. omega (arith, c.slice_known-1.given j))
+          ∙ ap (λ (x : Layout). new_bytes x t) (sym (laid (goal.at.returns c).In_ok-g).1);
     })
 
-pub returns-in-Refused : goal.returns-in-Refused
+pub returns-in_err-g : goal.returns-in_err-g
 unfolding make_call
-returns-in-Refused c =
+returns-in_err-g c =
     let a = c.args in
     let t = a.t.now in
-    let e = laid_refused a.s _ (sym c.layout.ensures ∙ c.in-Refused.is) in
-    rw (due_settings (λ why. reply (making.Refused why) t) a.s (length t) [] (made a.s t) e.0)
-    (record { answer = ap making.Refused (sym e.1); bytes = refl })
+    let p = err_from_is_err_and c.from_residual.result c.from_residual.ensures.1 in
+    let e = laid_refused a.s _ (sym c.layout.ensures ∙ c.in_err-g.was) in
+    rw (p.1, p.2, due_settings (λ why. reply (Err why) t) a.s (length t) [] (made a.s t) e.0)
+    (record { answer = ap Err (sym e.1); bytes = refl })

@@ -1,5 +1,5 @@
 -- Laws of looking an entry up: where it stands, in one row of slots and in two.
-use Rattle.std.specs.Prelude.{◌≡◌, refl, true, false, get_or, take, eqb}
+use Rattle.std.specs.Prelude.{◌≡◌, refl, true, false, get_or, take, eqb, Err}
 use Rattle.std.proofs.Math.Path.{sym, ap}
 use Rattle.std.proofs.Common.{ap₂, ◌∙◌, length-append, get_or-append-add, lt-ltb, le-ltb}
 use mathlib.Core.List.{List, [], ◌∷◌, ◌++◌}
@@ -24,9 +24,7 @@ use Rattle.table_read.specs.theory.Reads.{slots_length, basic_slots_in, displace
 use Rattle.table_read.specs.theory.Walks.{OneStep, owns, followed, content_short, content_high, content_bad, content_long}
 use Rattle.table_read.specs.theory.BlockSlots.{number_here, number_on}
 use Rattle.table_read.specs.declared.slots.Slots.{Slots}
-use Rattle.table.specs.Answer.{said}
-use Rattle.table.specs.declared.answers.Answer.{Answer}
-use Rattle.table.specs.declared.answers.Answer.TheVariants as answer
+use Rattle.table.specs.Answer.{said, Answer}
 use Rattle.table.specs.declared.answers.Word.TheVariants as word
 
 module _ (g : Layout) (e : ℕ) where
@@ -198,7 +196,7 @@ module _ (g : Layout) (t : List ℕ) (T : Table g t) (e n f b c j : ℕ) (r : Sl
 -- ---- a list, by its basic block's counter
 
 module _ (g : Layout) (st : State) (i e : ℕ) where
-  find_damaged : content g st i ≡ none → answer.Refused refusal.Damage ≡ find_in g st i e
+  find_damaged : content g st i ≡ none → Err refusal.Damage ≡ find_in g st i e
   unfolding find_in find_followed
   find_damaged q = rw q
 
@@ -230,14 +228,14 @@ module _ (g : Layout) (t : List ℕ) (T : Table g t) (i e : ℕ) (il : i < g.lis
       ∙ ap (λ (xs : List ℕ). find_from g (slot_number g i []) e xs 0) (basic_slots_in g t T i (basic_at (decode g t).basic i).counter il k)
       ∙ sym (find_whole g (decode g t) i e _ (content_short g (decode g t) i k))
 
-  pub find_high : (c : ℕ) → c ≡ (basic_at (decode g t).basic i).counter → suc g.sib < c → answer.Refused refusal.Damage ≡ find_in g (decode g t) i e
+  pub find_high : (c : ℕ) → c ≡ (basic_at (decode g t).basic i).counter → suc g.sib < c → Err refusal.Damage ≡ find_in g (decode g t) i e
   find_high c ec l = find_damaged g (decode g t) i e (content_high g (decode g t) i (omega (arith, ec)))
 
   module _ (h last : ℕ) (O : Overflows g (decode g t) i h) (el : last ≡ last_from g i g.nob (decode g t).overflow h) where
     end : last ≡ last_from g i g.nob (decode g t).overflow (basic_at (decode g t).basic i).head
     end = el ∙ ap (last_from g i g.nob (decode g t).overflow) O.head
 
-    pub find_bad : g.nob ≤ last → answer.Refused refusal.Damage ≡ find_in g (decode g t) i e
+    pub find_bad : g.nob ≤ last → Err refusal.Damage ≡ find_in g (decode g t) i e
     find_bad l = find_damaged g (decode g t) i e (content_bad g (decode g t) i O.counter (omega (arith, l, end)))
 
     module _ (d j : ℕ) (r : Slots) (low : last < g.nob) (ed : d ≡ (overflow_at (decode g t).overflow last).link) (er : r ≡ displaced_run g i d)

@@ -16,15 +16,15 @@ returns-in_default c = (
 
 pub overflow_link-requires : goal.overflow_link-requires
 overflow_link-requires c =
-    let end = ends_at _ _ _ (sym c.follow.ensures ∙ c.in-Block.is) in
+    let end = ends_at _ _ _ (sym c.follow.ensures ∙ c.in-Ok.is) in
     (c.requires.0, end.low)
 
 pub nth_of-requires : goal.nth_of-requires
 nth_of-requires c =
-    let end = ends_at _ _ _ (sym c.follow.ensures ∙ c.in-Block.is) in
+    let end = ends_at _ _ _ (sym c.follow.ensures ∙ c.in-Ok.is) in
     let d = c.overflow_link in
     let T = c.requires.0 in
-    let f = link_lt c.args.g c.args.t.now T c.in-Block.last.0 end.low in (
+    let f = link_lt c.args.g c.args.t.now T c.in-Ok.last.0 end.low in (
       T.proper,
       rw c.displaced_run.ensures
           (displaced_run_within c.args.g c.args.t.now T c.args.i.0 _ c.requires.1
@@ -33,24 +33,24 @@ nth_of-requires c =
 
 pub returns-then-n-sib : goal.returns-then-n-sib
 returns-then-n-sib c =
-    let end = ends_at _ _ _ (sym c.follow.ensures ∙ c.in-Block.is) in (
+    let end = ends_at _ _ _ (sym c.follow.ensures ∙ c.in-Ok.is) in (
       c.nth_of.ensures.0
-          ∙ nth_displaced c.args.g c.args.t.now c.requires.0 c.args.i.0 c.requires.1 c.args.first.0 c.in-Block.last.0 c.requires.2 end.is end.low
+          ∙ nth_displaced c.args.g c.args.t.now c.requires.0 c.args.i.0 c.requires.1 c.args.first.0 c.in-Ok.last.0 c.requires.2 end.is end.low
           c.args.n c.displaced_run.result c.overflow_link.result c.overflow_link.ensures c.displaced_run.ensures c.if-n-sib.true,
       c.nth_of.ensures.1,
     )
 
 pub nth_blocks-requires : goal.nth_blocks-requires
 nth_blocks-requires c =
-    let end = ends_at _ _ _ (sym c.follow.ensures ∙ c.in-Block.is) in (
+    let end = ends_at _ _ _ (sym c.follow.ensures ∙ c.in-Ok.is) in (
       c.requires.0,
-      list_followed c.args.g c.args.t.now c.requires.0 c.args.i.0 c.requires.1 c.args.first.0 c.in-Block.last.0 c.requires.2 end.is end.low,
+      list_followed c.args.g c.args.t.now c.requires.0 c.args.i.0 c.requires.1 c.args.first.0 c.in-Ok.last.0 c.requires.2 end.is end.low,
     )
 
 pub returns : goal.returns
 returns c =
-    let end = ends_at _ _ _ (sym c.follow.ensures ∙ c.in-Block.is) in (
+    let end = ends_at _ _ _ (sym c.follow.ensures ∙ c.in-Ok.is) in (
       c.nth_blocks.ensures.0
-          ∙ nth_behind c.args.g c.args.t.now c.requires.0 c.args.i.0 c.requires.1 c.args.first.0 c.in-Block.last.0 c.requires.2 end.is end.low c.args.n c.if-n-sib.false,
+          ∙ nth_behind c.args.g c.args.t.now c.requires.0 c.args.i.0 c.requires.1 c.args.first.0 c.in-Ok.last.0 c.requires.2 end.is end.low c.args.n c.if-n-sib.false,
       c.nth_blocks.ensures.1,
     )

@@ -1,16 +1,16 @@
 -- The RFCs' examples of address texts, texts that are not legal, and texts that go on behind an address, by computation.
-use Rattle.std.specs.Prelude.{◌≡◌, refl, List, [], ◌∷◌, map, ℕ}
+use Rattle.std.specs.Prelude.{◌≡◌, refl, List, [], ◌∷◌, map, ℕ, Err}
 use Rattle.std.proofs.Math.Option.{Option, none, some}
 use Prim.Native.String.{String}
 use Rattle.text_read.specs.Reading.{groups_of}
 use Rattle.text_read.specs.Answers.{reading_of}
 use Rattle.text_run.specs.Run.{run}
 use Rattle.text_run.specs.Answers.{taking, taken_of}
-use Rattle.text_run.specs.declared.Taken.{Taken}
-use Rattle.text_run.specs.declared.Taken.TheVariants as taken
 use Rattle.text_write.specs.Writing.{written}
 use Rattle.text_write.specs.Ascii.{ascii}
 use Rattle.text_calls.specs.theory.Computing.{again, computing}
+use Rattle.std.specs.declared.result.Result.{Result}
+use Rattle.settings.specs.declared.refusal.Refusal.{Refusal}
 
 -- texts and the groups that they spell: RFC 4291, section 2.2
 abbrev pub spellings : List (String × List ℕ)
@@ -131,9 +131,9 @@ runs =
     ∷ []
 
 -- the address, as it is written, and the bytes taken; nothing for what is refused
-abbrev pub taken_again : Taken → Option (List ℕ × ℕ)
-taken_again (taken.Key k n) = some (written k.high k.low, n)
-taken_again (taken.Refused why) = none
+abbrev pub taken_again : Result Taken Refusal → Option (List ℕ × ℕ)
+taken_again (Ok t) = some (written t.key.high t.key.low, t.bytes)
+taken_again (Err why) = none
 
 pub runs_taken : map (λ e. taken_again (taken_of (ascii e.0))) runs ≡ map (λ e. some (ascii e.1.0, e.1.1)) runs
 unfolding computing run taking taken_of

@@ -9,5 +9,5 @@ pub returns : goal.returns
 returns c =
     let a = c.args in
     c.part.ensures
-    ∙ ap (λ (x : ℕ). x / 2 ^ (8 - a.a - a.n) % 2 ^ a.n) c.long.ensures.0
+    ∙ ap (λ (x : ℕ). x / 2 ^ (8 - a.a - a.n) % 2 ^ a.n) c.from.ensures
     ∙ sym (field_in a.s.now a.i a.a a.n _ (omega arith))

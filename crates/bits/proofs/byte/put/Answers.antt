@@ -15,7 +15,7 @@ is : (c : After-replace) →
     c.replace.result ≡ replaced (get_or a.s.now a.i 0) (8 - a.a - a.n) a.n a.v
 is c =
     let a = c.args in
-    c.replace.ensures ∙ ap (λ (x : ℕ). replaced x (8 - a.a - a.n) a.n a.v) c.long.ensures.0
+    c.replace.ensures ∙ ap (λ (x : ℕ). replaced x (8 - a.a - a.n) a.n a.v) c.from.ensures
 
 pub overflow_cast-s : goal.overflow_cast-s
 overflow_cast-s c =

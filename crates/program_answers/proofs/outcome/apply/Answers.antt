@@ -1,4 +1,5 @@
 -- The table is opened for every key; behind that each command is the table's own call, once it is known what find answers.
+use Rattle.std.specs.Prelude.{Ok}
 use mathlib.Core.Path.{◌≡◌, refl, sym, ap, ◌∙◌}
 use mathlib.Core.Bool.{true}
 use mathlib.Core.List.{List}
@@ -7,7 +8,6 @@ use native.Mathlib.Omega.{arith}
 use lib.ListN.{length}
 use Rattle.settings.specs.Reply.{Gives}
 use Rattle.settings.specs.declared.layout.Layout.{Layout}
-use Rattle.settings.specs.declared.layout.Laid.TheVariants as laid
 use Rattle.keys.specs.declared.Key.{Key}
 use Rattle.table.specs.Calls.{find, list_call, key_call}
 use Rattle.table_find.specs.Seek.{open_of, sought_of}
@@ -23,7 +23,7 @@ use Rattle.program_answers.proofs.outcome.apply.Goals as goal
 use Rattle.program_answers.proofs.outcome.apply.Goals.{After-layout-g}
 
 -- what find answers
-found : (t : List ℕ) (k : Key) {g : Layout} {v : Sought} → open_of program (length t) k ≡ laid.Layout g → v ≡ sought_of program t k → Gives (key_call program t find k) v.found t
+found : (t : List ℕ) (k : Key) {g : Layout} {v : Sought} → open_of program (length t) k ≡ Ok g → v ≡ sought_of program t k → Gives (key_call program t find k) v.found t
 unfolding sought_of list_call
 found t k {g} o e = rw (e, open_call program k t find (open_means program k (length t) g o)) (record { answer = refl; bytes = refl })
 
@@ -34,9 +34,9 @@ takes op.Relabel d f = refl
 takes op.Delete d f = absurd (d refl)
 takes op.Find d f = absurd (f refl)
 
-opens : (c : After-layout-g) → open_of program (length c.args.t.now) c.args.key ≡ laid.Layout c.layout-g.result
+opens : (c : After-layout-g) → open_of program (length c.args.t.now) c.args.key ≡ Ok c.layout-g.result
 opens c =
-    program_opens c.args.t.now (omega (arith, c)) c.args.key (omega (arith, c)) (omega (arith, c)) ∙ ap laid.Layout (sym c.layout-g.ensures)
+    program_opens c.args.t.now (omega (arith, c)) c.args.key (omega (arith, c)) (omega (arith, c)) ∙ ap Ok (sym c.layout-g.ensures)
 
 pub seek-v-requires : goal.seek-v-requires
 seek-v-requires c = opens (goal.at.seek-v-requires c).After-layout-g

@@ -1,5 +1,5 @@
 -- Each turn tests one block's slots against each other and against the blocks after it.
-use mathlib.Core.Path.{◌≡◌, refl, sym, ap, ap₂, ◌∙◌}
+use mathlib.Core.Path.{◌≡◌, sym, ap, ap₂, ◌∙◌}
 use mathlib.Core.Bool.{Bool, true, false, ◌&&◌}
 use Prim.Native.Nat.{◌-◌}
 use native.Mathlib.Omega.{arith}
@@ -25,20 +25,11 @@ turned : (k : After-slots_apart) (q : Bool) → k.slots_apart.result ≡ q → (
     ≡ no_entry_twice k.args.g (slots_from k.args.g k.args.g.nob (decode k.args.g k.args.t.now).overflow k.args.first.0)
 turned k q e = ap (λ (q : Bool). q && no_entry_twice k.args.g (slots_after k.args.g (k.loop-left.left - 1) (decode k.args.g k.args.t.now).overflow k.step_of-way.result)) (sym e) ∙ turned_once k
 
-pub loop-left-init : goal.loop-left-init
-loop-left-init c = refl
-
 pub returns-then-b-g : goal.returns-then-b-g
 returns-then-b-g c =
     ap (no_entry_twice c.args.g)
     (sym (slots_high c.args.g (decode c.args.g c.args.t.now).overflow c.loop-left.left c.loop-left.b.0 (omega arith)))
     ∙ c.loop-left.invariant
-
-pub overflow_front-front-requires : goal.overflow_front-front-requires
-overflow_front-front-requires c = (c.requires, omega arith)
-
-pub run_of-requires : goal.run_of-requires
-run_of-requires c = (c.requires.proper, omega (arith, c.if-b-g.false))
 
 pub slots_apart-requires : goal.slots_apart-requires
 slots_apart-requires c =

@@ -8,6 +8,3 @@ use Rattle.table_check.proofs.entries.blocks_apart.Given as goal
 abbrev pub invariant-loop-left : goal.invariant-loop-left
 invariant-loop-left l =
     no_entry_twice l.g (slots_from l.g l.left (decode l.g l.t).overflow l.b.0) ≡ no_entry_twice l.g (slots_from l.g l.g.nob (decode l.g l.t).overflow l.fn.first.0)
-
-abbrev pub decreases-loop-left : goal.decreases-loop-left
-decreases-loop-left l = l.left

@@ -6,4 +6,4 @@ use Rattle.table_check.proofs.entries.run_of.Goals as goal
 
 pub returns : goal.returns
 unfolding run_of
-returns c = let a = c.args in c.overflow_run.ensures ∙ ap (overflow_run a.g a.b.0) c.least.ensures
+returns c = let a = c.args in c.overflow_run.ensures ∙ ap (overflow_run a.g a.b.0) c.min.ensures

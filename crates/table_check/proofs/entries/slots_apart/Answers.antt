@@ -1,8 +1,7 @@
 -- Every slot passed has an entry of its own.
-use mathlib.Core.Path.{◌≡◌, sym, ap, ◌∙◌}
-use Prim.Native.Nat.{suc, ◌^◌, ◌≤◌, ◌<◌}
+use mathlib.Core.Path.{◌≡◌, refl, sym, ap, ◌∙◌}
+use Prim.Native.Nat.{◌+◌, ◌*◌, ◌^◌, ◌<◌}
 use native.Mathlib.Omega.{arith}
-use native.Mathlib.Nat.{mul-le-mul_right}
 use lib.ListN.{get_or}
 use borrow.Author.Count.{below_more}
 use Rattle.laws.specs.Tests.{below_all, below_not}
@@ -13,7 +12,6 @@ use Rattle.keys.specs.theory.Keys.{number_key}
 use Rattle.table.specs.State.{entry_of}
 use Rattle.table.specs.Decode.{decode}
 use Rattle.table_read.specs.Steps.{restored_bytes, First, slots_in}
-use Rattle.table_read.specs.theory.Reads.{entry_within}
 use Rattle.table_read.specs.theory.Rows.{fewer}
 use Rattle.table_read.specs.theory.Scans.{run_row}
 use Rattle.table_check.specs.Entries.{alone, slots_after}
@@ -26,11 +24,11 @@ entry : (c : After-next_entry-entry) → key_number c.next_entry-entry.result �
 entry c =
     ap key_number c.next_entry-entry.ensures
     ∙ number_key _
-    ∙ entry_is c.args.g c.requires.0.proper c.args.t.now c.args.b c.requires.1 c.loop-j.j c.loop-j.at (omega arith) c.loop-j.invariant.1
+    ∙ entry_is c.args.g c.requires.0.proper c.args.t.now c.args.b c.requires.1 c.loop-j.j _ (omega arith) refl
 
 small : (c : After-next_entry-entry) → key_number c.next_entry-entry.result < 2 ^ c.args.g.bie
 small c =
-    let x = field (restored_bytes c.args.t.now c.args.b) c.loop-j.at c.args.g.bie in
+    let x = field (restored_bytes c.args.t.now c.args.b) (c.args.b.start + c.loop-j.j * c.args.g.slot) c.args.g.bie in
     rw (c.next_entry-entry.ensures, number_key x) (field_lt _ _ _)
 
 -- the first j slots were looked through for it
@@ -38,23 +36,9 @@ looked : (c : After-scan_run) → First (restored_bytes c.args.t.now c.args.b) c
     c.scan_run.result.0
 looked c = c.scan_run.ensures
 
-pub loop-j-init : goal.loop-j-init
-loop-j-init c = (omega arith, omega arith, λ k h. absurd (omega arith))
-
-pub next_entry-entry-requires : goal.next_entry-entry-requires
-next_entry-entry-requires c = (
-  entry_within c.args.g c.args.t.now c.args.b c.requires.0.proper c.requires.1 c.loop-j.j c.loop-j.at (omega arith) c.loop-j.invariant.1,
-  c.requires.0.proper.bie_high,
-)
-
-pub scan_run-requires : goal.scan_run-requires
-scan_run-requires c =
-    let R = c.requires.1 in
-    let row = run_row c.args.g c.requires.0.proper c.args.t.now c.args.b R in
-    record {
-      row = (fewer _ _ _ _ _ row c.loop-j.j c.loop-j.invariant.0, small (goal.at.scan_run-requires c).After-next_entry-entry);
-      displaced_bound = (R.block, R.narrow, R.fits);
-    }
+pub scan_run-requires-clause-row : goal.scan_run-requires-clause-row
+scan_run-requires-clause-row c =
+    (fewer _ _ _ _ _ (run_row c.args.g c.requires.0.proper c.args.t.now c.args.b c.requires.1) c.loop-j.j (omega arith), small (goal.at.scan_run-requires-clause-row c).After-next_entry-entry)
 
 pub returns-then-scan_run-j : goal.returns-then-scan_run-j
 returns-then-scan_run-j c =
@@ -62,7 +46,7 @@ returns-then-scan_run-j c =
     (below_not c.args.b.count (alone c.args.g (slots_in c.args.g c.args.t.now c.args.b) (slots_after c.args.g c.args.most (decode c.args.g c.args.t.now).overflow c.args.way)) c.loop-j.j (omega arith)
     (alone_before c.args.g (slots_in c.args.g c.args.t.now c.args.b) (slots_after c.args.g c.args.most (decode c.args.g c.args.t.now).overflow c.args.way) c.loop-j.j (key_number c.next_entry-entry.result) (entry (goal.at.returns-then-scan_run-j c).After-next_entry-entry)
     (met_before c.args.g c.requires.0.proper c.args.t.now c.args.b c.requires.1 (key_number c.next_entry-entry.result) c.loop-j.j c.scan_run.result.0
-    c.loop-j.invariant.0 (looked (goal.at.returns-then-scan_run-j c).After-scan_run) (omega (arith, c.if-scan_run-j.true)))))
+    (omega arith) (looked (goal.at.returns-then-scan_run-j c).After-scan_run) (omega (arith, c.if-scan_run-j.true)))))
 
 pub held_after-requires : goal.held_after-requires
 held_after-requires c =
@@ -74,26 +58,14 @@ returns-then-held_after c =
     (below_not c.args.b.count (alone c.args.g (slots_in c.args.g c.args.t.now c.args.b) (slots_after c.args.g c.args.most (decode c.args.g c.args.t.now).overflow c.args.way)) c.loop-j.j (omega arith)
     (alone_behind c.args.g (slots_in c.args.g c.args.t.now c.args.b) (slots_after c.args.g c.args.most (decode c.args.g c.args.t.now).overflow c.args.way) c.loop-j.j (key_number c.next_entry-entry.result) (entry (goal.at.returns-then-held_after c).After-next_entry-entry) (sym c.held_after.ensures ∙ c.if-held_after.true)))
 
-pub overflow_add-at : goal.overflow_add-at
-overflow_add-at c =
-    let h : suc c.loop-j.j ≤ c.args.b.count = omega (arith, c.loop-j-test.true) in
-    omega (arith, mul-le-mul_right c.args.g.slot h, c.requires.1.near, c.loop-j.invariant.1)
-
-pub overflow_add-j : goal.overflow_add-j
-overflow_add-j c =
-    omega (arith, c.requires.1.few)
-
 pub loop-j-preserved : goal.loop-j-preserved
-loop-j-preserved c = (
-  omega arith,
-  omega (arith, c.loop-j.invariant.1),
-  below_more _ _ c.loop-j.invariant.2
-      (alone_yes c.args.g (slots_in c.args.g c.args.t.now c.args.b) (slots_after c.args.g c.args.most (decode c.args.g c.args.t.now).overflow c.args.way) c.loop-j.j (key_number c.next_entry-entry.result) (entry (goal.at.loop-j-preserved c).After-next_entry-entry)
-      (none_before c.args.g c.requires.0.proper c.args.t.now c.args.b c.requires.1 (key_number c.next_entry-entry.result) c.loop-j.j c.scan_run.result.0
-      c.loop-j.invariant.0 (looked (goal.at.loop-j-preserved c).After-scan_run) (omega (arith, c.if-scan_run-j.false)))
-      (sym c.held_after.ensures ∙ c.if-held_after.false)),
-)
+loop-j-preserved c =
+    below_more _ _ c.loop-j.invariant
+    (alone_yes c.args.g (slots_in c.args.g c.args.t.now c.args.b) (slots_after c.args.g c.args.most (decode c.args.g c.args.t.now).overflow c.args.way) c.loop-j.j (key_number c.next_entry-entry.result) (entry (goal.at.loop-j-preserved c).After-next_entry-entry)
+    (none_before c.args.g c.requires.0.proper c.args.t.now c.args.b c.requires.1 (key_number c.next_entry-entry.result) c.loop-j.j c.scan_run.result.0
+    (omega arith) (looked (goal.at.loop-j-preserved c).After-scan_run) (omega (arith, c.if-scan_run-j.false)))
+    (sym c.held_after.ensures ∙ c.if-held_after.false))
 
 pub returns : goal.returns
 returns c =
-    sym (below_all c.args.b.count (alone c.args.g (slots_in c.args.g c.args.t.now c.args.b) (slots_after c.args.g c.args.most (decode c.args.g c.args.t.now).overflow c.args.way)) (λ k h. c.loop-j.invariant.2 k (omega arith)))
+    sym (below_all c.args.b.count (alone c.args.g (slots_in c.args.g c.args.t.now c.args.b) (slots_after c.args.g c.args.most (decode c.args.g c.args.t.now).overflow c.args.way)) (λ k h. c.loop-j.invariant k (omega arith)))

@@ -5,7 +5,7 @@ use Prim.Native.Nat.{ℕ}
 use native.Mathlib.Omega.{arith}
 use Rattle.table.specs.State.{basic_at}
 use Rattle.table.specs.Decode.{decode}
-use Rattle.table_check.specs.Walk.{found, way_on, walk}
+use Rattle.table_check.specs.Walk.{found, list_step, walk}
 use Rattle.table_check.specs.Lists.{provided, long_apart, list_walk}
 use Rattle.table_check.proofs.ListLaws.{list_short, list_high, list_over}
 use Rattle.table_check.proofs.lists.list_sound.Goals as goal
@@ -32,7 +32,7 @@ over c q e =
     let b = basic_at st.basic c.args.i.0 in
     list_over g st.overflow c.args.i.0 b c.args.marks.now (omega (arith, c.basic_counter-n.ensures, c.if-n-g-2.false))
     ∙ ap (provided (long_apart g st.overflow c.args.i.0 b))
-    (ap (λ (x : ℕ). walk g (way_on g st.overflow false c.args.i.0) g.nob x c.args.marks.now) (sym c.basic_head.ensures)
+    (ap (λ (x : ℕ). walk g (list_step g st.overflow c.args.i.0) g.nob x c.args.marks.now) (sym c.basic_head.ensures)
     ∙ c.mark_from.ensures
     ∙ ap (λ (r : Bool). found r c.mark_from.new.marks) e)
 

@@ -19,13 +19,13 @@ returns-in_default c =
     (no_end c.args.g _ (sym c.follow.ensures ∙ c.in_default.is)))
 
 pub overflow_link-requires : goal.overflow_link-requires
-overflow_link-requires c = (c.requires.0, (ends_at _ _ _ (sym c.follow.ensures ∙ c.in-Block.is)).low)
+overflow_link-requires c = (c.requires.0, (ends_at _ _ _ (sym c.follow.ensures ∙ c.in-Ok.is)).low)
 
 pub slots_apart-requires : goal.slots_apart-requires
 slots_apart-requires c =
     let T = c.requires.0 in
     let h = c.basic_head.ensures in
-    let f = link_lt c.args.g c.args.t.now T c.in-Block.last.0 (ends_at _ _ _ (sym c.follow.ensures ∙ c.in-Block.is)).low in (
+    let f = link_lt c.args.g c.args.t.now T c.in-Ok.last.0 (ends_at _ _ _ (sym c.follow.ensures ∙ c.in-Ok.is)).low in (
       T,
       rw c.displaced_run-run.ensures
           (displaced_run_within c.args.g c.args.t.now T c.args.i.0 _ c.requires.1
@@ -37,8 +37,8 @@ both : (k : After-slots_apart) → (k.slots_apart.result && no_entry_twice k.arg
     ≡ long_apart k.args.g (decode k.args.g k.args.t.now).overflow k.args.i.0 (basic_at (decode k.args.g k.args.t.now).basic k.args.i.0)
 both k =
     ap (λ (q : Bool). q && no_entry_twice k.args.g (slots_from k.args.g k.args.g.nob (decode k.args.g k.args.t.now).overflow k.basic_head.result)) k.slots_apart.ensures
-    ∙ long_as k.args.g k.args.t.now k.requires.0 k.args.i.0 k.requires.1 k.basic_head.result k.in-Block.last.0 k.overflow_link.result k.displaced_run-run.result
-    k.basic_head.ensures (ends_at _ _ _ (sym k.follow.ensures ∙ k.in-Block.is)).is (ends_at _ _ _ (sym k.follow.ensures ∙ k.in-Block.is)).low k.overflow_link.ensures k.displaced_run-run.ensures
+    ∙ long_as k.args.g k.args.t.now k.requires.0 k.args.i.0 k.requires.1 k.basic_head.result k.in-Ok.last.0 k.overflow_link.result k.displaced_run-run.result
+    k.basic_head.ensures (ends_at _ _ _ (sym k.follow.ensures ∙ k.in-Ok.is)).is (ends_at _ _ _ (sym k.follow.ensures ∙ k.in-Ok.is)).low k.overflow_link.ensures k.displaced_run-run.ensures
 
 pub returns-then-not-slots_apart : goal.returns-then-not-slots_apart
 returns-then-not-slots_apart c =

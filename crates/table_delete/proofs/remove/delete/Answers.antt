@@ -1,25 +1,26 @@
 -- The table opened for the key, and the key sought; where a refusal comes first, it is the answer, and every byte stays.
+use Rattle.std.specs.Prelude.{Ok, ⊤}
 use mathlib.Core.Path.{◌≡◌, refl, sym, ap, ◌∙◌}
 use lib.ListN.{length}
-use Rattle.settings.specs.declared.layout.Laid.TheVariants as laid
 use Rattle.table.specs.Calls.{delete}
 use Rattle.table_find.specs.Seek.{open_of, laid_if}
-use Rattle.table_find.specs.declared.Admission.{Admission}
 use Rattle.table_find.specs.theory.Seeks.{open_illegal, open_refused}
 use Rattle.table_find.specs.theory.SoughtLaws.{placed_at, sought_as}
 use Rattle.table_delete.proofs.remove.delete.Goals as goal
 use Rattle.table_delete.proofs.remove.delete.Goals.{After-admit, In-Granted}
+use Rattle.std.specs.declared.result.Result.{Result}
+use Rattle.settings.specs.declared.refusal.Refusal.{Refusal}
 
 -- whether the table is opened for the key
-opened : (c : After-admit) (x : Admission) → c.admit.result ≡ x
+opened : (c : After-admit) (x : Result ⊤ Refusal) → c.admit.result ≡ x
     → let a = c.args in open_of a.s (length a.t.now) a.key ≡ laid_if c.in-Layout.g x
 opened c x e = sym c.admit.ensures ∙ ap (laid_if c.in-Layout.g) e
 
-opened_at_after_enum_told : (c : In-Granted) (x : Admission) → c.admit.result ≡ x
+opened_at_after_enum_told : (c : In-Granted) (x : Result ⊤ Refusal) → c.admit.result ≡ x
     → let a = c.args in open_of a.s (length a.t.now) a.key ≡ laid_if c.in-Layout.g x
 opened_at_after_enum_told c x e = sym c.admit.ensures ∙ ap (laid_if c.in-Layout.g) e
 
-open_at : (c : In-Granted) → let a = c.args in open_of a.s (length a.t.now) a.key ≡ laid.Layout c.in-Layout.g
+open_at : (c : In-Granted) → let a = c.args in open_of a.s (length a.t.now) a.key ≡ Ok c.in-Layout.g
 open_at c = opened_at_after_enum_told c _ c.in-Granted.is
 
 pub admit-requires : goal.admit-requires

@@ -10,11 +10,12 @@ use Rattle.table_read.specs.theory.Walks.{followed, ended_own}
 use Rattle.table_store.specs.theory.StoreLaws.{slot_lt}
 use Rattle.table_enter.proofs.FreeLaws.{Takes, takes}
 use Rattle.table_enter.proofs.AppendLaws.{more_refused, more_met, append_more}
+use Rattle.std.proofs.lemmas.Result.{err_from_is_err_and}
 use Rattle.table_enter.proofs.append.append_more.Goals as goal
-use Rattle.table_enter.proofs.append.append_more.Goals.{In-Block}
+use Rattle.table_enter.proofs.append.append_more.Goals.{In_ok-free}
 
-took : (c : In-Block) → Takes c.args.g (decode c.args.g c.args.t.now) c.in-Block.number.0 c.in-Block.next.0
-took c = takes _ _ _ _ (sym c.first_free.ensures ∙ c.in-Block.is)
+took : (c : In_ok-free) → Takes c.args.g (decode c.args.g c.args.t.now) c.in_ok-free.free.number.0 c.in_ok-free.free.next.0
+took c = takes _ _ _ (sym c.first_free.ensures ∙ c.in_ok-free.was)
 
 pub first_free-requires : goal.first_free-requires
 first_free-requires c = c.requires.0.table
@@ -33,7 +34,7 @@ returns-then-list_has_block c =
     let v = c.args.v in
     more_met g c.args.t.now T (λ j. omega (arith, c.slice_known-1.given j)) c.args.i.0 v c.requires.0.list
     (slot_lt g T.proper (key_number v.entry) v.label c.requires.0.slotted) c.args.h.0 c.args.j.0 c.requires.1 c.requires.2 _ _
-    (took (goal.at.returns-then-list_has_block c).In-Block)
+    (took (goal.at.returns-then-list_has_block c).In_ok-free)
     (sym c.if-list_has_block.true ∙ c.list_has_block.ensures)
 
 pub overflow_link-displaced-requires : goal.overflow_link-displaced-requires
@@ -41,12 +42,12 @@ overflow_link-displaced-requires c = (c.requires.0.table, c.requires.1.low)
 
 pub put_overflow_front-requires : goal.put_overflow_front-requires
 put_overflow_front-requires c =
-    let k = took (goal.at.put_overflow_front-requires c).In-Block in
+    let k = took (goal.at.put_overflow_front-requires c).In_ok-free in
     (c.requires.0.table, c.requires.1.low, omega arith, omega (arith, k.low, c.requires.0.table.proper.link_holds))
 
 pub take-requires : goal.take-requires
 take-requires c =
-    let k = took (goal.at.take-requires c).In-Block in (
+    let k = took (goal.at.take-requires c).In_ok-free in (
       c.put_overflow_front.ensures.table,
       c.requires.0.list,
       k.low,
@@ -58,27 +59,29 @@ take-requires c =
 pub overflow_number-requires : goal.overflow_number-requires
 overflow_number-requires c =
     let T = c.requires.0.table in
-    (T.proper, (took (goal.at.overflow_number-requires c).In-Block).low, T.proper.sio_low)
+    (T.proper, (took (goal.at.overflow_number-requires c).In_ok-free).low, T.proper.sio_low)
 
-pub returns-else-list_has_block : goal.returns-else-list_has_block
-returns-else-list_has_block c =
+pub returns : goal.returns
+returns c =
     let g = c.args.g in
     let T = c.requires.0.table in
     let v = c.args.v in
     append_more g c.args.t.now T (λ j. omega (arith, c.slice_known-1.given j)) c.args.i.0 v c.requires.0.list
     (slot_lt g T.proper (key_number v.entry) v.label c.requires.0.slotted) c.args.h.0 c.args.j.0 c.requires.1 c.requires.2 _ _ _
-    (took (goal.at.returns-else-list_has_block c).In-Block)
+    (took (goal.at.returns c).In_ok-free)
     (sym c.if-list_has_block.false ∙ c.list_has_block.ensures)
     c.overflow_link-displaced.ensures _ _ _
     c.put_overflow_front.ensures
     c.take.ensures
     (c.added.ensures ∙ ap (said word.Added _ _) c.overflow_number.ensures)
 
-pub returns-in-Refused : goal.returns-in-Refused
-returns-in-Refused c =
+pub returns-in_err-free : goal.returns-in_err-free
+returns-in_err-free c =
     let g = c.args.g in
     let T = c.requires.0.table in
     let v = c.args.v in
-    more_refused g c.args.t.now T (λ j. omega (arith, c.slice_known-1.given j)) c.args.i.0 v c.requires.0.list
+    let p = err_from_is_err_and c.from_residual.result c.from_residual.ensures.1 in
+    rw (p.1, p.2)
+    (more_refused g c.args.t.now T (λ j. omega (arith, c.slice_known-1.given j)) c.args.i.0 v c.requires.0.list
     (slot_lt g T.proper (key_number v.entry) v.label c.requires.0.slotted) c.args.h.0 c.args.j.0 c.requires.1 c.requires.2 _
-    (sym c.first_free.ensures ∙ c.in-Refused.is)
+    (sym c.first_free.ensures ∙ c.in_err-free.was))

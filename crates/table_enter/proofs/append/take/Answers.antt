@@ -16,7 +16,7 @@ put_slot-requires c =
     let F = c.requires.0.proper in
     let p = c.overflow_slot in
     slot_asks c.args.g c.empty_block.new.t c.empty_block.ensures.table p.result _ _
-    (omega (arith, p.ensures, overflow_slot_ends c.args.g F c.args.f.0 c.requires.2 0 F.sio_low))
+    (omega (arith, p.ensures, overflow_slot_ends c.args.g F c.args.free.number.0 c.requires.2 0 F.sio_low))
     c.requires.5
 
 pub put_free_start-requires : goal.put_free_start-requires
@@ -29,7 +29,7 @@ returns c =
     let g = c.args.g in
     let v = c.args.v in
     let p = c.overflow_slot in
-    stored_take g c.args.t.now c.requires.0 c.args.i.0 c.args.f.0 c.args.displaced c.args.next.0 _ c.requires.2 c.requires.4
+    stored_take g c.args.t.now c.requires.0 c.args.i.0 c.args.free.number.0 c.args.displaced c.args.free.next.0 _ c.requires.2 c.requires.4
     (slot_lt g c.requires.0.proper (key_number v.entry) v.label c.requires.5) _ _ _ _
     c.empty_block.ensures
     p.ensures

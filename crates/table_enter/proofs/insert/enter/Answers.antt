@@ -1,40 +1,37 @@
 -- The table opened for the key, and the key sought; where a refusal comes first, it is the answer, and every byte stays.
+use Rattle.std.specs.Prelude.{Ok, ⊤}
 use mathlib.Core.Path.{◌≡◌, refl, sym, ap, ◌∙◌}
 use Prim.Native.Nat.{◌^◌, ◌<◌}
 use lib.ListN.{length}
 use borrow.Author.Tests.{ltb-true}
-use Rattle.settings.specs.declared.layout.Laid.TheVariants as laid
 use Rattle.table.specs.Calls.{enter}
 use Rattle.table_find.specs.Seek.{open_of, laid_if}
-use Rattle.table_find.specs.declared.Admission.{Admission}
 use Rattle.table_find.specs.theory.Seeks.{Opened, open_means, open_illegal, open_refused}
 use Rattle.table_find.specs.theory.SoughtLaws.{placed_at, sought_as}
 use Rattle.table_find.specs.theory.Labels.{label_refused, val_high, label_word}
+use Rattle.std.proofs.lemmas.Result.{err_from_is_err_and}
 use Rattle.table_enter.proofs.insert.enter.Goals as goal
-use Rattle.table_enter.proofs.insert.enter.Goals.{After-admit, Else-not-fits, In-Granted}
+use Rattle.table_enter.proofs.insert.enter.Goals.{Else-not-fits, In_ok-admit}
+use Rattle.std.specs.declared.result.Result.{Result}
+use Rattle.settings.specs.declared.refusal.Refusal.{Refusal}
 
--- whether the table is opened for the key
-opened : (c : After-admit) (x : Admission) → c.admit.result ≡ x
-    → let a = c.args in open_of a.s (length a.t.now) a.key ≡ laid_if c.in-Layout.g x
-opened c x e = sym c.admit.ensures ∙ ap (laid_if c.in-Layout.g) e
+open_at : (c : In_ok-admit) → let a = c.args in open_of a.s (length a.t.now) a.key ≡ Ok c.in_ok-g.g
+open_at c = sym c.admit.ensures ∙ ap (laid_if c.in_ok-g.g) c.in_ok-admit.was
 
-open_at : (c : In-Granted) → let a = c.args in open_of a.s (length a.t.now) a.key ≡ laid.Layout c.in-Layout.g
-open_at c = sym c.admit.ensures ∙ ap (laid_if c.in-Layout.g) c.in-Granted.is
-
-open_means_at : (c : In-Granted) → let a = c.args in Opened a.s (length a.t.now) a.key c.in-Layout.g
+open_means_at : (c : In_ok-admit) → let a = c.args in Opened a.s (length a.t.now) a.key c.in_ok-g.g
 open_means_at c = let a = c.args in open_means a.s a.key (length a.t.now) _ (open_at c)
 
 pub admit-requires : goal.admit-requires
 admit-requires c =
-    sym c.layout.ensures ∙ c.in-Layout.is
+    sym c.layout.ensures ∙ c.in_ok-g.was
 
 pub fits-requires : goal.fits-requires
-fits-requires c = val_high (open_means_at (goal.at.fits-requires c).In-Granted)
+fits-requires c = val_high (open_means_at (goal.at.fits-requires c).In_ok-admit)
 
 pub returns-then-not-fits : goal.returns-then-not-fits
 returns-then-not-fits c =
     let a = c.args in
-    label_refused a.t.now (enter a.label) a.label refl (open_means_at (goal.at.returns-then-not-fits c).In-Granted) (sym c.fits.ensures ∙ c.if-not-fits.true)
+    label_refused a.t.now (enter a.label) a.label refl (open_means_at (goal.at.returns-then-not-fits c).In_ok-admit) (sym c.fits.ensures ∙ c.if-not-fits.true)
 
 -- the label fits
 low : (c : Else-not-fits) → let a = c.args in a.label < 2 ^ a.s.val
@@ -45,30 +42,33 @@ low c =
 pub place-place-requires : goal.place-place-requires
 place-place-requires c =
     let a = c.args in
-    (placed_at a.s a.key a.t.now (open_at (goal.at.place-place-requires c).In-Granted)).place
+    (placed_at a.s a.key a.t.now (open_at (goal.at.place-place-requires c).In_ok-admit)).place
 
 pub find_in-found-requires : goal.find_in-found-requires
 find_in-found-requires c =
     let a = c.args in
-    rw c.place-place.ensures (placed_at a.s a.key a.t.now (open_at (goal.at.find_in-found-requires c).In-Granted)).find
+    rw c.place-place.ensures (placed_at a.s a.key a.t.now (open_at (goal.at.find_in-found-requires c).In_ok-admit)).find
 
 pub overflow_cast-label : goal.overflow_cast-label
 overflow_cast-label c =
-    record { fits = label_word (open_means_at (goal.at.overflow_cast-label c).In-Granted) (low (goal.at.overflow_cast-label c).Else-not-fits) }
+    record { fits = label_word (open_means_at (goal.at.overflow_cast-label c).In_ok-admit) (low (goal.at.overflow_cast-label c).Else-not-fits) }
 
 pub enter_sought-requires : goal.enter_sought-requires
 enter_sought-requires c =
     let a = c.args in
-    (open_at (goal.at.enter_sought-requires c).In-Granted, sought_as a.s a.key a.t.now (open_at (goal.at.enter_sought-requires c).In-Granted) c.place-place.result c.find_in-found.result c.place-place.ensures c.find_in-found.ensures, low (goal.at.enter_sought-requires c).Else-not-fits)
+    (open_at (goal.at.enter_sought-requires c).In_ok-admit, sought_as a.s a.key a.t.now (open_at (goal.at.enter_sought-requires c).In_ok-admit) c.place-place.result c.find_in-found.result c.place-place.ensures c.find_in-found.ensures, low (goal.at.enter_sought-requires c).Else-not-fits)
 
-pub returns-in-Refused-admit : goal.returns-in-Refused-admit
-returns-in-Refused-admit c =
+pub returns-in_err-admit : goal.returns-in_err-admit
+returns-in_err-admit c =
     let a = c.args in
-    rw (open_refused a.s a.key a.t.now (enter a.label) c.in-Refused-admit.why (opened (goal.at.returns-in-Refused-admit c).After-admit _ c.in-Refused-admit.is)) (record { answer = refl; bytes = refl })
+    let p = err_from_is_err_and c.from_residual-in_err-admit.result c.from_residual-in_err-admit.ensures.1 in
+    let o = sym c.admit.ensures ∙ ap (laid_if c.in_ok-g.g) c.in_err-admit.was in
+    rw (p.1, p.2, open_refused a.s a.key a.t.now (enter a.label) _ o) (record { answer = refl; bytes = refl })
 
-pub returns-in-Refused : goal.returns-in-Refused
-returns-in-Refused c =
+pub returns-in_err-g : goal.returns-in_err-g
+returns-in_err-g c =
     let a = c.args in
-    rw (open_refused a.s a.key a.t.now (enter a.label) c.in-Refused.why
-    (open_illegal a.s a.key (length a.t.now) c.in-Refused.why (sym c.layout.ensures ∙ c.in-Refused.is)))
+    let p = err_from_is_err_and c.from_residual.result c.from_residual.ensures.1 in
+    let e = sym c.layout.ensures ∙ c.in_err-g.was in
+    rw (p.1, p.2, open_refused a.s a.key a.t.now (enter a.label) _ (open_illegal a.s a.key (length a.t.now) _ e))
     (record { answer = refl; bytes = refl })

@@ -12,8 +12,7 @@ use Rattle.table.specs.Decode.{decode}
 use Rattle.table.specs.Find.{position}
 use Rattle.table_read.specs.Steps.{slots_in, overflow_run, gather_from, find_from}
 use Rattle.table_read.specs.BlockSlots.{number_from}
-use Rattle.table.specs.Answer.{said}
-use Rattle.table.specs.declared.answers.Answer.{Answer}
+use Rattle.table.specs.Answer.{said, Answer}
 use Rattle.table.specs.declared.answers.Word.TheVariants as word
 use Rattle.table_read.specs.theory.Reads.{overflow_run_within}
 use Rattle.table.specs.theory.Ways.{told_further, told_other}

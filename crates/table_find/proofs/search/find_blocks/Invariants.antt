@@ -8,8 +8,8 @@ use Rattle.table.specs.State.{Overflow}
 use Rattle.table.specs.Decode.{decode}
 use Rattle.table_read.specs.Steps.{Followed, gather_from, find_from}
 use Rattle.table_read.specs.BlockSlots.{number_from}
-use Rattle.table.specs.declared.answers.Answer.{Answer}
 use Rattle.table_find.proofs.search.find_blocks.Given as goal
+use Rattle.table.specs.Answer.{Answer}
 
 abbrev pub from : Layout → ℕ → ℕ → List Overflow → ℕ → ℕ → Answer
 from g e m os b n = find_from g (number_from g m os b) e (gather_from g m os b) n

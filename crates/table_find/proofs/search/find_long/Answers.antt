@@ -16,23 +16,24 @@ use Rattle.table_read.specs.declared.slots.Slots.{Slots}
 use Rattle.table.specs.Answer.{said}
 use Rattle.table.specs.declared.answers.Word.TheVariants as word
 use Rattle.settings.specs.Legal.{most_bits}
+use Rattle.std.proofs.lemmas.Result.{err_from_is_err_and}
 use Rattle.table_find.proofs.search.find_long.Goals as goal
-use Rattle.table_find.proofs.search.find_long.Goals.{After-displaced_run-run, After-scan_displaced-j, In-Block, Then-j-g}
+use Rattle.table_find.proofs.search.find_long.Goals.{After-displaced_run-run, After-scan_displaced-j, In_ok-last, Then-j-g}
 
 -- the list's last block
-end : (c : In-Block) → let a = c.args in
-    EndsAt a.g (last_from a.g a.i.0 a.g.nob (decode a.g a.t.now).overflow a.first.0) c.in-Block.last
-end c = ends_at _ _ _ (sym c.follow.ensures ∙ c.in-Block.is)
+end : (c : In_ok-last) → let a = c.args in
+    EndsAt a.g (last_from a.g a.i.0 a.g.nob (decode a.g a.t.now).overflow a.first.0) c.in_ok-last.last
+end c = ends_at _ _ _ (sym c.follow.ensures ∙ c.in_ok-last.was)
 
 end_at_after_displaced_run : (c : After-displaced_run-run) → let a = c.args in
-    EndsAt a.g (last_from a.g a.i.0 a.g.nob (decode a.g a.t.now).overflow a.first.0) c.in-Block.last
-end_at_after_displaced_run c = ends_at _ _ _ (sym c.follow.ensures ∙ c.in-Block.is)
+    EndsAt a.g (last_from a.g a.i.0 a.g.nob (decode a.g a.t.now).overflow a.first.0) c.in_ok-last.last
+end_at_after_displaced_run c = ends_at _ _ _ (sym c.follow.ensures ∙ c.in_ok-last.was)
 
 -- the basic block's slots
 run_within : (c : After-displaced_run-run)
     → (let s = c.args in SlotsWithin s.g s.t.now c.displaced_run-run.result)
 run_within c =
-    let f = link_lt c.args.g c.args.t.now c.requires.0 c.in-Block.last.0 (end_at_after_displaced_run c).low in
+    let f = link_lt c.args.g c.args.t.now c.requires.0 c.in_ok-last.last.0 (end_at_after_displaced_run c).low in
     rw c.displaced_run-run.ensures
     (displaced_run_within c.args.g c.args.t.now c.requires.0 c.args.i.0 _ c.requires.1
     (omega (arith, c.overflow_link-displaced.ensures, f, c.requires.2.head, head_lt c.args.g c.args.t.now c.requires.0 c.args.i.0 c.requires.1)))
@@ -51,13 +52,13 @@ place d =
     (key_number d.args.entry) d.scan_displaced-j.result.0 d.scan_displaced-j.ensures
 
 end_at_then1 : (c : Then-j-g) → let a = c.args in
-    EndsAt a.g (last_from a.g a.i.0 a.g.nob (decode a.g a.t.now).overflow a.first.0) c.in-Block.last
-end_at_then1 c = ends_at _ _ _ (sym c.follow.ensures ∙ c.in-Block.is)
+    EndsAt a.g (last_from a.g a.i.0 a.g.nob (decode a.g a.t.now).overflow a.first.0) c.in_ok-last.last
+end_at_then1 c = ends_at _ _ _ (sym c.follow.ensures ∙ c.in_ok-last.was)
 
 run_within_at_then1 : (c : Then-j-g)
     → (let s = c.args in SlotsWithin s.g s.t.now c.displaced_run-run.result)
 run_within_at_then1 c =
-    let f = link_lt c.args.g c.args.t.now c.requires.0 c.in-Block.last.0 (end_at_then1 c).low in
+    let f = link_lt c.args.g c.args.t.now c.requires.0 c.in_ok-last.last.0 (end_at_then1 c).low in
     rw c.displaced_run-run.ensures
     (displaced_run_within c.args.g c.args.t.now c.requires.0 c.args.i.0 _ c.requires.1
     (omega (arith, c.overflow_link-displaced.ensures, f, c.requires.2.head, head_lt c.args.g c.args.t.now c.requires.0 c.args.i.0 c.requires.1)))
@@ -74,13 +75,15 @@ inside c =
     label_inside c.args.g c.requires.0.proper c.args.t.now c.displaced_run-run.result c.scan_displaced-j.result.0
     (run_within_at_then1 c) (omega (arith, c.if-j-g.true, all_at_then1 c))
 
-pub returns-in_default : goal.returns-in_default
-returns-in_default c =
-    find_bad c.args.g c.args.t.now c.requires.0 c.args.i.0 (key_number c.args.entry) c.requires.1
-    c.args.first.0 _ c.requires.2 refl (no_end c.args.g _ (sym c.follow.ensures ∙ c.in_default.is))
+pub returns-in_err-last : goal.returns-in_err-last
+returns-in_err-last c =
+    let p = err_from_is_err_and c.from_residual.result c.from_residual.ensures.1 in
+    rw (p.1, p.2)
+    (find_bad c.args.g c.args.t.now c.requires.0 c.args.i.0 (key_number c.args.entry) c.requires.1
+    c.args.first.0 _ c.requires.2 refl (no_end c.args.g _ (sym c.follow.ensures ∙ c.in_err-last.was)))
 
 pub overflow_link-displaced-requires : goal.overflow_link-displaced-requires
-overflow_link-displaced-requires c = (c.requires.0, (end (goal.at.overflow_link-displaced-requires c).In-Block).low)
+overflow_link-displaced-requires c = (c.requires.0, (end (goal.at.overflow_link-displaced-requires c).In_ok-last).low)
 
 pub scan_displaced-j-requires : goal.scan_displaced-j-requires
 unfolding key_number
@@ -125,15 +128,15 @@ returns-then-j-g c =
     ap₂ (λ (x y : ℕ). said word.Held x (j + 1) y) c.label_at.ensures c.basic_number.ensures
     ∙ held_restored c.args.g c.requires.0.proper c.args.t.now c.displaced_run-run.result j (j + 1) 0 (omega (arith, c.if-j-g.true, all (goal.at.returns-then-j-g c).After-displaced_run-run)) (omega arith)
     ∙ find_first c.args.g c.args.t.now c.requires.0 c.args.i.0 (key_number c.args.entry) c.requires.1
-    c.args.first.0 c.in-Block.last.0 c.requires.2 (end (goal.at.returns-then-j-g c).In-Block).is
+    c.args.first.0 c.in_ok-last.last.0 c.requires.2 (end (goal.at.returns-then-j-g c).In_ok-last).is
     c.overflow_link-displaced.result j c.displaced_run-run.result
-    (end (goal.at.returns-then-j-g c).In-Block).low c.overflow_link-displaced.ensures c.displaced_run-run.ensures (place (goal.at.returns-then-j-g c).After-scan_displaced-j) c.if-j-g.true
+    (end (goal.at.returns-then-j-g c).In_ok-last).low c.overflow_link-displaced.ensures c.displaced_run-run.ensures (place (goal.at.returns-then-j-g c).After-scan_displaced-j) c.if-j-g.true
 
 pub find_blocks-requires : goal.find_blocks-requires
 find_blocks-requires c = (
   c.requires.0,
   ended_own c.args.g (decode c.args.g c.args.t.now).overflow c.args.i.0
-      (followed c.args.g (decode c.args.g c.args.t.now).overflow c.args.i.0 c.args.g.nob c.args.first.0 (omega (arith, (end (goal.at.find_blocks-requires c).In-Block).is, (end (goal.at.find_blocks-requires c).In-Block).low))),
+      (followed c.args.g (decode c.args.g c.args.t.now).overflow c.args.i.0 c.args.g.nob c.args.first.0 (omega (arith, (end (goal.at.find_blocks-requires c).In_ok-last).is, (end (goal.at.find_blocks-requires c).In_ok-last).low))),
   c.requires.3,
   c.requires.0.proper.sib_high,
 )
@@ -142,6 +145,6 @@ pub returns : goal.returns
 returns c =
     c.find_blocks.ensures
     ∙ find_rest c.args.g c.args.t.now c.requires.0 c.args.i.0 (key_number c.args.entry) c.requires.1
-    c.args.first.0 c.in-Block.last.0 c.requires.2 (end (goal.at.returns c).In-Block).is
+    c.args.first.0 c.in_ok-last.last.0 c.requires.2 (end (goal.at.returns c).In_ok-last).is
     c.overflow_link-displaced.result c.scan_displaced-j.result.0 c.displaced_run-run.result
-    (end (goal.at.returns c).In-Block).low c.overflow_link-displaced.ensures c.displaced_run-run.ensures (place (goal.at.returns c).After-scan_displaced-j) c.if-j-g.false
+    (end (goal.at.returns c).In_ok-last).low c.overflow_link-displaced.ensures c.displaced_run-run.ensures (place (goal.at.returns c).After-scan_displaced-j) c.if-j-g.false

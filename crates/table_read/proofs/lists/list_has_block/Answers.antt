@@ -9,48 +9,47 @@ use Rattle.table_read.specs.theory.Walks.{OneStep, one_step}
 use Rattle.table_read.specs.BlockSlots.{has_block}
 use Rattle.table_read.specs.theory.BlockSlots.{has_here, has_last, has_on}
 use Rattle.table_read.proofs.lists.list_has_block.Goals as goal
-use Rattle.table_read.proofs.lists.list_has_block.Goals.{At-loop-q}
+use Rattle.table_read.proofs.lists.list_has_block.Goals.{At-loop}
 
 -- the block that the loop has come to
-here : (c : At-loop-q) → OneStep c.args.g (decode c.args.g c.args.t.now).overflow (c.args.g.nob - c.loop-q.q) c.loop-q.b.0
+here : (c : At-loop) → OneStep c.args.g (decode c.args.g c.args.t.now).overflow (c.args.g.nob - c.loop.counter) c.loop.b.0
 here c =
-    one_step c.args.g (decode c.args.g c.args.t.now).overflow (c.args.g.nob - c.loop-q.q) c.loop-q.b.0 c.loop-q.invariant.1
+    one_step c.args.g (decode c.args.g c.args.t.now).overflow (c.args.g.nob - c.loop.counter) c.loop.b.0 c.loop.invariant.0
 
-pub loop-q-init : goal.loop-q-init
-loop-q-init c =
+pub loop-init : goal.loop-init
+loop-init c =
     let z : c.args.g.nob - 0 ≡ c.args.g.nob = omega arith in
-    (omega arith, rw z c.requires.1, ap (λ (n : ℕ). has_block c.args.g n (decode c.args.g c.args.t.now).overflow c.args.first.0 c.args.f.0) z)
+    (rw z c.requires.1, ap (λ (n : ℕ). has_block c.args.g n (decode c.args.g c.args.t.now).overflow c.args.first.0 c.args.f.0) z)
 
 pub returns-then-b-f : goal.returns-then-b-f
 returns-then-b-f c =
-    has_here c.args.g (decode c.args.g c.args.t.now).overflow c.args.f.0 (c.args.g.nob - c.loop-q.q) c.loop-q.b.0 (here (goal.at.returns-then-b-f c).At-loop-q) c.if-b-f.true
-    ∙ c.loop-q.invariant.2
+    has_here c.args.g (decode c.args.g c.args.t.now).overflow c.args.f.0 (c.args.g.nob - c.loop.counter) c.loop.b.0 (here (goal.at.returns-then-b-f c).At-loop) c.if-b-f.true
+    ∙ c.loop.invariant.1
 
 pub overflow_front-requires : goal.overflow_front-requires
 overflow_front-requires c =
-    (c.requires.0, (here (goal.at.overflow_front-requires c).At-loop-q).low)
+    (c.requires.0, (here (goal.at.overflow_front-requires c).At-loop).low)
 
 pub returns-in_default : goal.returns-in_default
 returns-in_default c =
     let other = told_other _ _ _ _ c.step_of.ensures {P = Unit {0}} {Q = Unit {0}} (λ e z. c.in_default.not-Further _ e) (λ e z. c.in_default.not-Further _ e) (inl tt) in
-    has_last c.args.g (decode c.args.g c.args.t.now).overflow c.args.f.0 (c.args.g.nob - c.loop-q.q) c.loop-q.b.0 (here (goal.at.returns-in_default c).At-loop-q) c.if-b-f.false
-    (omega (arith, (here (goal.at.returns-in_default c).At-loop-q).count, c.overflow_front.ensures.0, other))
-    ∙ c.loop-q.invariant.2
+    has_last c.args.g (decode c.args.g c.args.t.now).overflow c.args.f.0 (c.args.g.nob - c.loop.counter) c.loop.b.0 (here (goal.at.returns-in_default c).At-loop) c.if-b-f.false
+    (omega (arith, (here (goal.at.returns-in_default c).At-loop).count, c.overflow_front.ensures.0, other))
+    ∙ c.loop.invariant.1
 
-pub loop-q-preserved : goal.loop-q-preserved
-loop-q-preserved c =
-    let k = here (goal.at.loop-q-preserved c).At-loop-q in
+pub loop-preserved : goal.loop-preserved
+loop-preserved c =
+    let k = here (goal.at.loop-preserved c).At-loop in
     let on = told_further _ _ _ _ c.step_of.ensures _ c.in-Further.is in
     let full = sym c.overflow_front.ensures.0 ∙ on.full in
-    let m : c.args.g.nob - c.loop-q.q - 1 ≡ c.args.g.nob - (c.loop-q.q + 1) = omega arith in
+    let m : c.args.g.nob - c.loop.counter - 1 ≡ c.args.g.nob - (c.loop.counter + 1) = omega arith in
     let next = on.link ∙ c.overflow_front.ensures.1 in (
-      omega (arith, c.loop-q-test.true),
       rw (next, ← m) (k.on full),
       rw (next, ← m)
-          (has_on c.args.g (decode c.args.g c.args.t.now).overflow c.args.f.0 (c.args.g.nob - c.loop-q.q) c.loop-q.b.0 k c.if-b-f.false full
-          ∙ c.loop-q.invariant.2),
+          (has_on c.args.g (decode c.args.g c.args.t.now).overflow c.args.f.0 (c.args.g.nob - c.loop.counter) c.loop.b.0 k c.if-b-f.false full
+          ∙ c.loop.invariant.1),
     )
 
 pub returns : goal.returns
 returns c =
-    absurd (omega (arith, (here (goal.at.returns c).At-loop-q).fuel, c.loop-q-test.false))
+    absurd (omega (arith, (here (goal.at.returns c).At-loop).fuel, c.loop-test.false))

@@ -9,5 +9,5 @@ pub returns : goal.returns
 unfolding overflow_run
 returns c =
     let a = c.args in
-    let n = c.least.ensures ∙ ap (λ (x : ℕ). min x a.g.sio) (add-one a.c) in
+    let n = c.min.ensures ∙ ap (λ (x : ℕ). min x a.g.sio) (add-one a.c) in
     λ i. record { start = c.overflow_slots.ensures i; count = n i; displaced = 0; value = 0 }

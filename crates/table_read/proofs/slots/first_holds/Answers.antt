@@ -30,14 +30,14 @@ pub returns-then-get_short-entry : goal.returns-then-get_short-entry
 unfolding key_number
 returns-then-get_short-entry c =
     let a = c.args in
-    let m : ℕ = c.least-m.result in
-    let h : m ≤ a.bie = omega (arith, c.least-m.ensures) in
-    let i : m ≤ 63 = omega (arith, c.least-m.ensures) in
+    let m : ℕ = c.min-m.result in
+    let h : m ≤ a.bie = omega (arith, c.min-m.ensures) in
+    let i : m ≤ 63 = omega (arith, c.min-m.ensures) in
     let l : a.entry.low < 2 ^ 64 = omega (arith, c.struct_known-3-1.given) in
     sym (last_differ (restored_bytes a.t.now a.b) a.b.start a.bie m (key_number a.entry) h
     (λ q. c.if-get_short-entry.true
     (c.get_short.ensures
-    ∙ restored_bytes_out a.t.now a.b (a.b.start + (a.bie - m)) m (last_within (goal.at.returns-then-get_short-entry c).Start m h) (omega (arith, c.least-m.ensures, c.requires.3))
+    ∙ restored_bytes_out a.t.now a.b (a.b.start + (a.bie - m)) m (last_within (goal.at.returns-then-get_short-entry c).Start m h) (omega (arith, c.min-m.ensures, c.requires.3))
     ∙ q
     ∙ mod_low a.entry.high l i
     ∙ ap (λ (x : ℕ). a.entry.low % x) (sym c.pow.ensures))))

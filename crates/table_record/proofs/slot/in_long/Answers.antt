@@ -28,7 +28,7 @@ returns-in_default c =
 
 pub overflow_link-requires : goal.overflow_link-requires
 overflow_link-requires c =
-    let end = ends_at _ _ _ (sym c.follow.ensures ∙ c.in-Block.is) in
+    let end = ends_at _ _ _ (sym c.follow.ensures ∙ c.in-Ok.is) in
     (c.requires.0, end.low)
 
 over_behind : (h : After-displaced_run-run) → let a = h.args in Overflows a.g (decode a.g a.t.now) a.i.0 h.basic_head.result
@@ -36,14 +36,14 @@ over_behind h =
     record { counter = omega (arith, h.requires.3, h.requires.4, h.if-count-g.false); head = h.basic_head.ensures }
 
 end : (c : After-displaced_run-run) → let a = c.args in
-    EndsAt a.g (last_from a.g a.i.0 a.g.nob (decode a.g a.t.now).overflow c.basic_head.result) c.in-Block.last
-end c = ends_at _ _ _ (sym c.follow.ensures ∙ c.in-Block.is)
+    EndsAt a.g (last_from a.g a.i.0 a.g.nob (decode a.g a.t.now).overflow c.basic_head.result) c.in-Ok.last
+end c = ends_at _ _ _ (sym c.follow.ensures ∙ c.in-Ok.is)
 
 -- the basic block's slots, behind the displaced bits
 row : (r : After-displaced_run-run) → LongRow r.args.g r.args.t.now r.requires.0 r.args.i r.requires.1 r.args.p r.displaced_run-run.result
 row r =
     long_row r.args.g r.args.t.now r.requires.0 r.args.i r.requires.1 r.args.p r.displaced_run-run.result r.basic_head.result
-    r.in-Block.last.0 (over_behind r) (end r).is (end r).low r.requires.2 r.overflow_link.result r.overflow_link.ensures r.displaced_run-run.ensures
+    r.in-Ok.last.0 (over_behind r) (end r).is (end r).low r.requires.2 r.overflow_link.result r.overflow_link.ensures r.displaced_run-run.ensures
 
 pub overflow_add-run : goal.overflow_add-run
 overflow_add-run c =

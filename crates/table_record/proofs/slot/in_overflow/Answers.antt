@@ -10,7 +10,7 @@ use Rattle.table_read.specs.theory.Walks.{ended_own, content_high}
 use Rattle.table_record.proofs.Records.{list_unended, list_own, list_content}
 use Rattle.table_record.proofs.Retrievals.{Listed, owner_below, has_own, no_blocks, list_damaged, not_listed, block_empty, block_slot_lem}
 use Rattle.table_record.proofs.slot.in_overflow.Goals as goal
-use Rattle.table_record.proofs.slot.in_overflow.Goals.{After-basic_front-front, After-list_has_block, Else-front-g-2, In-Block}
+use Rattle.table_record.proofs.slot.in_overflow.Goals.{After-basic_front-front, After-list_has_block, Else-front-g-2, In-Ok}
 
 -- ---- the list
 -- it is one of the table's
@@ -26,17 +26,17 @@ over c =
       head = c.basic_front-front.ensures.1;
     }
 
-end : (c : In-Block) → let a = c.args in
+end : (c : In-Ok) → let a = c.args in
     last_from a.g c.owned_front-fields.result.owner.0 a.g.nob (decode a.g a.t.now).overflow c.basic_front-front.result.link < a.g.nob
 end c =
-    let e = ends_at _ _ _ (sym c.follow.ensures ∙ c.in-Block.is) in
+    let e = ends_at _ _ _ (sym c.follow.ensures ∙ c.in-Ok.is) in
     omega (arith, e.is, e.low)
 
-list_ended : (f : In-Block) → f.owned_front-fields.result.owner.0 < f.args.g.lists
+list_ended : (f : In-Ok) → f.owned_front-fields.result.owner.0 < f.args.g.lists
 list_ended f =
     omega (arith, owner_below f.args.g f.args.t.now f.requires.0 f.args.j.0 f.requires.1, f.owned_front-fields.ensures.2)
 
-over_ended : (c : In-Block) → let a = c.args in
+over_ended : (c : In-Ok) → let a = c.args in
     Overflows a.g (decode a.g a.t.now) c.owned_front-fields.result.owner.0 c.basic_front-front.result.link
 over_ended c =
     record {
@@ -45,7 +45,7 @@ over_ended c =
     }
 
 -- its blocks, and whether block j is among them
-abbrev own : (c : In-Block) → let a = c.args in
+abbrev own : (c : In-Ok) → let a = c.args in
     OwnFollowed a.g c.owned_front-fields.result.owner.0 a.g.nob (decode a.g a.t.now).overflow c.basic_front-front.result.link
 own c =
     list_own c.args.g c.args.t.now c.requires.0 c.owned_front-fields.result.owner.0 (list_ended c) c.basic_front-front.result.link _ (over_ended c) refl (end c)
@@ -65,7 +65,7 @@ over_asked c =
 end_asked : (c : After-list_has_block) → let a = c.args in
     last_from a.g c.owned_front-fields.result.owner.0 a.g.nob (decode a.g a.t.now).overflow c.basic_front-front.result.link < a.g.nob
 end_asked c =
-    let e = ends_at _ _ _ (sym c.follow.ensures ∙ c.in-Block.is) in
+    let e = ends_at _ _ _ (sym c.follow.ensures ∙ c.in-Ok.is) in
     omega (arith, e.is, e.low)
 
 abbrev own_asked : (c : After-list_has_block) → let a = c.args in
@@ -107,7 +107,7 @@ returns-in_default c =
 pub list_has_block-requires : goal.list_has_block-requires
 list_has_block-requires c = (
   c.requires.0,
-  ended_own c.args.g (decode c.args.g c.args.t.now).overflow c.owned_front-fields.result.owner.0 (own (goal.at.list_has_block-requires c).In-Block),
+  ended_own c.args.g (decode c.args.g c.args.t.now).overflow c.owned_front-fields.result.owner.0 (own (goal.at.list_has_block-requires c).In-Ok),
 )
 
 pub returns-then-not-list_has_block : goal.returns-then-not-list_has_block

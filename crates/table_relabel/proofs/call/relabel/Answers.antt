@@ -1,4 +1,5 @@
 -- The table opened for the key, and the key sought; where a refusal comes first, it is the answer, and every byte stays.
+use Rattle.std.specs.Prelude.{Ok, ⊤}
 use mathlib.Core.Path.{◌≡◌, refl, sym, ap, ◌∙◌}
 use mathlib.Core.List.{List}
 use Prim.Native.Nat.{ℕ, ◌-◌, ◌^◌, ◌<◌}
@@ -7,11 +8,9 @@ use lib.ListN.{length}
 use lib.Dec.{leb}
 use borrow.Author.Tests.{ltb-true, leb-true}
 use Rattle.laws.specs.Cases.{both_true}
-use Rattle.settings.specs.declared.layout.Laid.TheVariants as laid
 use Rattle.settings.specs.Reply.{Gives}
 use Rattle.table.specs.Calls.{relabel, key_call}
 use Rattle.table_find.specs.Seek.{open_of, laid_if}
-use Rattle.table_find.specs.declared.Admission.{Admission}
 use Rattle.table_find.specs.theory.Seeks.{Opened, open_means, open_illegal, open_refused}
 use Rattle.table_find.specs.theory.SoughtLaws.{SoughtIn, sought_means, placed_at, sought_as}
 use Rattle.table_find.specs.theory.Labels.{label_refused, val_high, label_word, label_slot}
@@ -20,17 +19,19 @@ use Rattle.table_relabel.specs.FromFind.{answer_to}
 use Rattle.table_relabel.proofs.KeyLaws.{found_placed, found_gives, missing_gives}
 use Rattle.table_relabel.proofs.call.relabel.Goals as goal
 use Rattle.table_relabel.proofs.call.relabel.Goals.{After-admit, After-place_found-n, Else-n-eq0, Else-not-fits, In-Granted}
+use Rattle.std.specs.declared.result.Result.{Result}
+use Rattle.settings.specs.declared.refusal.Refusal.{Refusal}
 
 -- whether the table is opened for the key
-opened : (c : After-admit) (x : Admission) → c.admit.result ≡ x
+opened : (c : After-admit) (x : Result ⊤ Refusal) → c.admit.result ≡ x
     → let a = c.args in open_of a.s (length a.t.now) a.key ≡ laid_if c.in-Layout.g x
 opened c x e = sym c.admit.ensures ∙ ap (laid_if c.in-Layout.g) e
 
-opened_at_after_enum_told : (c : In-Granted) (x : Admission) → c.admit.result ≡ x
+opened_at_after_enum_told : (c : In-Granted) (x : Result ⊤ Refusal) → c.admit.result ≡ x
     → let a = c.args in open_of a.s (length a.t.now) a.key ≡ laid_if c.in-Layout.g x
 opened_at_after_enum_told c x e = sym c.admit.ensures ∙ ap (laid_if c.in-Layout.g) e
 
-open_at : (c : In-Granted) → let a = c.args in open_of a.s (length a.t.now) a.key ≡ laid.Layout c.in-Layout.g
+open_at : (c : In-Granted) → let a = c.args in open_of a.s (length a.t.now) a.key ≡ Ok c.in-Layout.g
 open_at c = opened_at_after_enum_told c _ c.in-Granted.is
 
 open_means_at : (c : In-Granted) → let a = c.args in Opened a.s (length a.t.now) a.key c.in-Layout.g
@@ -64,11 +65,11 @@ find_in-found-requires c =
     let a = c.args in
     rw c.place-place.ensures (placed_at a.s a.key a.t.now (open_at (goal.at.find_in-found-requires c).In-Granted)).find
 
-opened_at_after_place_found : (c : After-place_found-n) (x : Admission) → c.admit.result ≡ x
+opened_at_after_place_found : (c : After-place_found-n) (x : Result ⊤ Refusal) → c.admit.result ≡ x
     → let a = c.args in open_of a.s (length a.t.now) a.key ≡ laid_if c.in-Layout.g x
 opened_at_after_place_found c x e = sym c.admit.ensures ∙ ap (laid_if c.in-Layout.g) e
 
-open_at_at_after_place_found : (c : After-place_found-n) → let a = c.args in open_of a.s (length a.t.now) a.key ≡ laid.Layout c.in-Layout.g
+open_at_at_after_place_found : (c : After-place_found-n) → let a = c.args in open_of a.s (length a.t.now) a.key ≡ Ok c.in-Layout.g
 open_at_at_after_place_found c = opened_at_after_place_found c _ c.in-Granted.is
 
 sought : (c : After-place_found-n) → let a = c.args in SoughtIn a.s a.t.now a.key c.in-Layout.g ((record { place = c.place-place.result; found = c.find_in-found.result }))
@@ -87,11 +88,11 @@ pub overflow_cast-label : goal.overflow_cast-label
 overflow_cast-label c =
     record { fits = label_word (open_means_at (goal.at.overflow_cast-label c).In-Granted) (low (goal.at.overflow_cast-label c).Else-not-fits) }
 
-opened_at_else2 : (c : Else-n-eq0) (x : Admission) → c.admit.result ≡ x
+opened_at_else2 : (c : Else-n-eq0) (x : Result ⊤ Refusal) → c.admit.result ≡ x
     → let a = c.args in open_of a.s (length a.t.now) a.key ≡ laid_if c.in-Layout.g x
 opened_at_else2 c x e = sym c.admit.ensures ∙ ap (laid_if c.in-Layout.g) e
 
-open_at_at_else2 : (c : Else-n-eq0) → let a = c.args in open_of a.s (length a.t.now) a.key ≡ laid.Layout c.in-Layout.g
+open_at_at_else2 : (c : Else-n-eq0) → let a = c.args in open_of a.s (length a.t.now) a.key ≡ Ok c.in-Layout.g
 open_at_at_else2 c = opened_at_else2 c _ c.in-Granted.is
 
 open_means_at_at_else2 : (c : Else-n-eq0) → let a = c.args in Opened a.s (length a.t.now) a.key c.in-Layout.g

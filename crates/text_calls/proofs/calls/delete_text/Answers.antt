@@ -1,35 +1,37 @@
 -- What was admitted decides: the call with the key, or its refusal, which leaves every byte.
+use Rattle.std.specs.Prelude.{Ok}
 use mathlib.Core.Path.{◌≡◌, sym, ◌∙◌}
 use lib.ListN.{length}
 use Rattle.settings.specs.Made.{laid_of}
-use Rattle.settings.specs.declared.layout.Laid.TheVariants as laid
 use Rattle.table.specs.Calls.{delete}
 use Rattle.table_find.specs.Seek.{open_of}
 use Rattle.table_find.specs.theory.SoughtLaws.{placed_at, sought_as}
-use Rattle.text_read.specs.declared.Parsed.{Parsed}
 use Rattle.text_calls.specs.Admits.{admitted_of}
 use Rattle.text_calls.specs.theory.TextCalls.{admitted_open, admitted_illegal, admitted_key, admitted_refused}
 use Rattle.text_calls.proofs.calls.delete_text.Goals as goal
 use Rattle.text_calls.proofs.calls.delete_text.Goals.{After-admit, In-Key, In-Layout}
+use Rattle.std.specs.declared.result.Result.{Result}
+use Rattle.settings.specs.declared.refusal.Refusal.{Refusal}
+use Rattle.keys.specs.declared.Key.{Key}
 
 -- the layout is the settings'
-laid_out : (c : In-Layout) → laid_of c.args.s ≡ laid.Layout c.in-Layout.g
+laid_out : (c : In-Layout) → laid_of c.args.s ≡ Ok c.in-Layout.g
 laid_out c = sym c.layout.ensures ∙ c.in-Layout.is
 
 -- what was admitted
-admitted : (c : After-admit) (p : Parsed) → c.admit.result ≡ p
+admitted : (c : After-admit) (p : Result Key Refusal) → c.admit.result ≡ p
     → let a = c.args in admitted_of a.s a.t.now a.text.now ≡ p
 admitted c p e = sym c.admit.ensures ∙ e
 
-laid_out_at_after_key : (c : In-Key) → laid_of c.args.s ≡ laid.Layout c.in-Layout.g
+laid_out_at_after_key : (c : In-Key) → laid_of c.args.s ≡ Ok c.in-Layout.g
 laid_out_at_after_key c = sym c.layout.ensures ∙ c.in-Layout.is
 
-admitted_at_after_key : (c : In-Key) (p : Parsed) → c.admit.result ≡ p
+admitted_at_after_key : (c : In-Key) (p : Result Key Refusal) → c.admit.result ≡ p
     → let a = c.args in admitted_of a.s a.t.now a.text.now ≡ p
 admitted_at_after_key c p e = sym c.admit.ensures ∙ e
 
 -- a key: the table is opened for it
-open_at : (c : In-Key) → let a = c.args in open_of a.s (length a.t.now) c.in-Key.key ≡ laid.Layout c.in-Layout.g
+open_at : (c : In-Key) → let a = c.args in open_of a.s (length a.t.now) c.in-Key.key ≡ Ok c.in-Layout.g
 open_at c =
     let a = c.args in
     admitted_open a.s a.t.now a.text.now (laid_out_at_after_key c) (admitted_at_after_key c _ c.in-Key.is)

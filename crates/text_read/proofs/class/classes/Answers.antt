@@ -4,6 +4,6 @@ use Rattle.text_read.specs.Class.{class_of}
 use Rattle.text_read.proofs.Table.{right, classes_of}
 use Rattle.text_read.proofs.class.classes.Goals as goal
 
-pub returns : goal.returns
+pub invariant_of-result : goal.invariant_of-result
 unfolding right class_of
-returns c = classes_of _ (lit≤ tt) tt
+invariant_of-result c = record { right = classes_of _ (lit≤ tt) tt }

@@ -4,7 +4,7 @@ use mathlib.Core.Path.{◌≡◌, sym, ◌∙◌}
 use native.Mathlib.Omega.{arith}
 use lib.ListN.{get_or}
 use Rattle.text_read.specs.Class.{class_of, colon}
-use Rattle.text_read.specs.ReaderSteps.{class_at}
+use Rattle.text_read.specs.Classes.{class_at}
 use Rattle.text_read.proofs.Fields.{class_here}
 use Rattle.text_read.proofs.reader.group.Goals as goal
 
@@ -20,5 +20,5 @@ group_of-requires c =
         four = c.class-d.ensures ∙ here 3 (omega arith);
         five = c.class-e.ensures ∙ here 4 (omega arith);
       },
-      c.requires.1,
+      c.requires,
     )

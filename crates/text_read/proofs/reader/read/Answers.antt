@@ -4,6 +4,6 @@ use Rattle.text_read.specs.Class.{class_of}
 use Rattle.text_read.proofs.Table.{right, classes_of}
 use Rattle.text_read.proofs.reader.read.Goals as goal
 
-pub read_by-requires : goal.read_by-requires
+pub invariant_of-read_by : goal.invariant_of-read_by
 unfolding right class_of
-read_by-requires c = classes_of _ (lit≤ tt) tt
+invariant_of-read_by c = record { right = classes_of _ (lit≤ tt) tt }

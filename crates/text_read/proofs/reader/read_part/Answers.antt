@@ -1,97 +1,85 @@
 -- What is left of the text, with the groups read so far, gives the answer.
+use Rattle.std.specs.Prelude.{Some}
 use Prim.Native.Nat.{ℕ, ◌+◌, ◌≤◌}
-use mathlib.Core.Path.{◌≡◌, refl, sym, ap, ap₂, ◌∙◌}
+use mathlib.Core.Path.{◌≡◌, sym, ap, ap₂, ◌∙◌}
 use native.Mathlib.Omega.{arith}
-use borrow.Author.Rules.{rules}
-use mathlib.Core.List.{List}
 use mathlib.Core.Option.{some}
-use lib.ListN.{length, drop}
-use lib.Dec.{lit<, lit≤}
+use lib.ListN.{drop}
+use lib.Dec.{lit≤}
 use Rattle.text_read.specs.Class.{colon}
 use Rattle.text_read.specs.Numerals.{group}
-use Rattle.text_read.specs.ReaderSteps.{until, group_in, Sized, part_at}
+use Rattle.text_read.specs.ReaderSteps.{until, Sized, part_at}
 use Rattle.text_read.proofs.Splits.{Past, no_group, one_group}
 use Rattle.text_read.proofs.Joined.{group_small, pushed_of}
 use Rattle.text_read.proofs.Parts.{before_sized, part_tail, turn_many, turn_last, turn_short, turn_gap, turn_more}
 use Rattle.text_read.specs.declared.reader.Groups.{Groups}
 use Rattle.text_read.specs.declared.reader.Part.TheVariants as answer
-use Rattle.text_read.specs.declared.reader.Numeral.{Numeral}
-use Rattle.text_read.specs.declared.reader.Numeral.TheVariants as numeral
 use Rattle.text_read.proofs.reader.read_part.Goals as goal
+use Rattle.text_read.proofs.reader.read_part.Goals.{In-Some}
 
 -- the group that is found in the field, and where the field ends
-found : {s : List ℕ} {i v end : ℕ} {r : Numeral} → i ≤ length s → r ≡ group_in (until colon (drop i s)) i → r ≡ numeral.Value v end
-    → (group (until colon (drop i s)) ≡ some v) × Past colon s i end
-found {s = s} {i = i} {v = v} {end = end} h e g = one_group s i h v end (sym e ∙ g)
-
-pub loop-value-init : goal.loop-value-init
-loop-value-init c = (search rules, search rules, record { fits = lit< tt; half = lit< tt }, refl)
-
-pub group-requires : goal.group-requires
-group-requires c = (c.requires.0, c.loop-value.invariant.0)
+found : (c : In-Some) → (group (until colon (drop c.loop-value.at c.args.text.now)) ≡ some c.in-Some.field-0.value) × Past colon c.args.text.now c.loop-value.at c.in-Some.field-0.next
+found c = one_group _ _ c.loop-value.invariant.0 _ (sym c.group.ensures ∙ c.in-Some.is)
 
 pub with_tail-requires : goal.with_tail-requires
 with_tail-requires c =
     let b = c.before_tail.result in
     let z : Sized b × (b.count ≤ 8) = rw c.before_tail.ensures (before_sized c.loop-value.at c.loop-value.groups c.loop-value.invariant.2 c.loop-value.invariant.1) in
-    (c.requires.0, c.loop-value.invariant.0, z.0, z.1)
+    (c.loop-value.invariant.0, z.0, z.1)
 
-pub returns-in-Bad : goal.returns-in-Bad
-returns-in-Bad c =
+pub returns-in_default : goal.returns-in_default
+returns-in_default c =
     let s = c.args.text.now in
     let i = c.loop-value.at in
     c.with_tail.ensures
-    ∙ sym (c.loop-value.invariant.3 ∙ part_tail c.loop-value.groups _ (drop i s) i (no_group s i (sym c.group.ensures ∙ c.in-Bad.is)) c.before_tail.ensures)
+    ∙ sym (c.loop-value.invariant.3 ∙ part_tail c.loop-value.groups _ (drop i s) i (no_group s i (sym c.group.ensures ∙ c.in_default.is)) c.before_tail.ensures)
 
 pub returns-then-groups-gt7 : goal.returns-then-groups-gt7
 returns-then-groups-gt7 c =
-    let f = found c.loop-value.invariant.0 c.group.ensures c.in-Value.is in
+    let f = found (goal.at.returns-then-groups-gt7 c).In-Some in
     sym (c.loop-value.invariant.3 ∙ turn_many _ _ _ _ _ _ f.0 f.1 c.if-groups-gt7.true)
 
 pub pushed-groups-requires : goal.pushed-groups-requires
 pushed-groups-requires c =
-    (c.loop-value.invariant.2, lit≤ tt, lit≤ tt, omega (arith, c.if-groups-gt7.false), group_small _ _ (found c.loop-value.invariant.0 c.group.ensures c.in-Value.is).0)
+    (c.loop-value.invariant.2, lit≤ tt, lit≤ tt, omega (arith, c.if-groups-gt7.false), group_small _ _ (found (goal.at.pushed-groups-requires c).In-Some).0)
 
 pub returns-then-next-text : goal.returns-then-next-text
 returns-then-next-text c =
-    let f = found c.loop-value.invariant.0 c.group.ensures c.in-Value.is in
-    ap answer.Whole c.pushed-groups.ensures
+    let f = found (goal.at.returns-then-next-text c).In-Some in
+    ap (λ (g : Groups). Some (answer.Whole g)) c.pushed-groups.ensures
     ∙ sym (c.loop-value.invariant.3 ∙ turn_last _ _ _ _ _ _ f.0 f.1 c.if-next-text.true c.if-groups-gt7.false)
 
 pub overflow_add-at : goal.overflow_add-at
 overflow_add-at c =
-    omega (arith, (found c.loop-value.invariant.0 c.group.ensures c.in-Value.is).1.within, c.well_formed)
+    omega (arith, (found (goal.at.overflow_add-at c).In-Some).1.within, c.well_formed)
 
 pub returns-then-at-text : goal.returns-then-at-text
 returns-then-at-text c =
-    let f = found c.loop-value.invariant.0 c.group.ensures c.in-Value.is in
+    let f = found (goal.at.returns-then-at-text c).In-Some in
     sym (c.loop-value.invariant.3 ∙ turn_short _ _ _ _ _ _ f.0 f.1 c.if-at-text.true)
 
 pub bounds-text-at : goal.bounds-text-at
-bounds-text-at c = omega (arith, (found c.loop-value.invariant.0 c.group.ensures c.in-Value.is).1.within, c.if-next-text.false, c.if-at-text.false)
-
-pub class-requires : goal.class-requires
-class-requires c = c.requires.0
+bounds-text-at c = omega (arith, (found (goal.at.bounds-text-at c).In-Some).1.within, c.if-next-text.false, c.if-at-text.false)
 
 pub overflow_add-result : goal.overflow_add-result
 overflow_add-result c =
-    omega (arith, (found c.loop-value.invariant.0 c.group.ensures c.in-Value.is).1.within, c.if-next-text.false, c.if-at-text.false, c.well_formed)
+    omega (arith, (found (goal.at.overflow_add-result c).In-Some).1.within, c.if-next-text.false, c.if-at-text.false, c.well_formed)
 
 pub returns-then-class-eq-COLON : goal.returns-then-class-eq-COLON
 returns-then-class-eq-COLON c =
-    let f = found c.loop-value.invariant.0 c.group.ensures c.in-Value.is in
-    ap (λ (p : Groups). answer.Gap p (c.in-Value.next + 1 + 1)) c.pushed-groups.ensures
+    let f = found (goal.at.returns-then-class-eq-COLON c).In-Some in
+    ap (λ (p : Groups). Some (answer.Gap p (c.in-Some.field-0.next + 1 + 1))) c.pushed-groups.ensures
     ∙ sym (c.loop-value.invariant.3 ∙ turn_gap _ _ _ _ _ _ f.0 f.1 (omega (arith, f.1.within, c.if-next-text.false, c.if-at-text.false)) (sym c.class.ensures ∙ c.if-class-eq-COLON.true) c.if-groups-gt7.false)
 
 pub loop-value-smaller : goal.loop-value-smaller
 loop-value-smaller c =
-    omega (arith, (found c.loop-value.invariant.0 c.group.ensures c.in-Value.is).1.within, c.if-next-text.false, c.if-at-text.false, (found c.loop-value.invariant.0 c.group.ensures c.in-Value.is).1.from)
+    omega (arith, (found (goal.at.loop-value-smaller c).In-Some).1.within, c.if-next-text.false, c.if-at-text.false, (found (goal.at.loop-value-smaller c).In-Some).1.from)
 
 pub loop-value-preserved : goal.loop-value-preserved
 loop-value-preserved c =
-    let f = found c.loop-value.invariant.0 c.group.ensures c.in-Value.is in
-    let next = c.in-Value.next + 1 in
-    let p = pushed_of c.loop-value.groups c.in-Value.value c.pushed-groups.result c.loop-value.invariant.2 (group_small _ _ f.0) c.pushed-groups.ensures in (
+    let f = found (goal.at.loop-value-preserved c).In-Some in
+    let next = c.in-Some.field-0.next + 1 in
+    let p = pushed_of c.loop-value.groups c.in-Some.field-0.value c.pushed-groups.result c.loop-value.invariant.2 (group_small _ _ f.0) c.pushed-groups.ensures in (
       omega (arith, f.1.within, c.if-next-text.false, c.if-at-text.false),
       omega (arith, p.count, c.if-groups-gt7.false),
       p.sized,

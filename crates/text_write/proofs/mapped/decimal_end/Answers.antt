@@ -5,4 +5,4 @@ use Rattle.text_write.proofs.mapped.decimal_end.Goals as goal
 
 pub returns : goal.returns
 returns c =
-    omega (arith, count_is c.args.byte c.requires.1, c.one_if.ensures.0, c.one_if-2.ensures.0)
+    omega (arith, count_is c.args.byte c.requires.1, c.from.ensures, c.from-2.ensures)

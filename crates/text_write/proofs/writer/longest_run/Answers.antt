@@ -5,7 +5,9 @@ use native.Mathlib.Nat.{lt_of_not-le}
 use native.Mathlib.Omega.{arith}
 use lib.Bits.{bit_and}
 use lib.Count.{count_trailing_zeros}
+use Rattle.text_write.specs.Writing.{longest}
 use Rattle.text_write.specs.WriterSteps.{key_groups, run_marks}
+use Rattle.text_write.specs.theory.LongestRun.{longest_run}
 use Rattle.text_write.proofs.Groups.{eight}
 use Rattle.text_write.proofs.Marks.{marks_none, marks_next, marks_clear, marks_found}
 use Rattle.text_write.proofs.writer.longest_run.Goals as goal
@@ -15,12 +17,6 @@ use Rattle.text_write.proofs.writer.longest_run.Goals.{In-loop-longer}
 next : (single marks n : ℕ) → 1 ≤ n → ((l : List ℕ) → single ≡ run_marks 1 l → marks ≡ run_marks n l)
     → (l : List ℕ) → single ≡ run_marks 1 l → bit_and marks (marks / 2) ≡ run_marks (n + 1) l
 next single marks n h f l e = ap (λ (x : ℕ). bit_and x (x / 2)) (f l e) ∙ marks_next n l h
-
-pub returns-then-marks-eq0 : goal.returns-then-marks-eq0
-returns-then-marks-eq0 c =
-    let k = key_groups c.args.key in
-    let e : run_marks 2 k ≡ 0 = sym (next c.zero_groups-single.result c.zero_groups-single.result 1 (omega arith) (λ l e. e) k c.zero_groups-single.ensures) ∙ c.if-marks-eq0.true in
-    record { none = λ h. omega (arith, marks_clear 1 k e); some = λ h. absurd (omega arith) }
 
 pub loop-longer-init : goal.loop-longer-init
 loop-longer-init c =
@@ -46,15 +42,25 @@ loop-longer-preserved c =
     let f = c.loop-longer.invariant.3 in
     (omega arith, omega (arith, more (goal.at.loop-longer-preserved c).In-loop-longer), omega (arith, c.loop-longer-test.true), λ l e. ((f l e).1, next single c.loop-longer.longer (n + 1) (omega arith) (λ m d. (f m d).1) l e))
 
-pub returns : goal.returns
-returns c =
-    let k = c.args.key in
+pub returns-clause-some : goal.returns-clause-some
+returns-clause-some c =
     let n = c.loop-longer.count in
-    let m = c.loop-longer.invariant.3 (key_groups k) c.zero_groups-single.ensures in
-    let e : run_marks (n + 1) (key_groups k) ≡ 0 = sym m.1 ∙ c.loop-longer-test.false in
-    let p : 0 < run_marks n (key_groups k) = omega (arith, m.0, c.loop-longer.invariant.2) in
-    let r = marks_found 32 n (key_groups k) (omega (arith, eight k)) (omega arith) e p in
+    let k = key_groups c.args.key in
+    let m = c.loop-longer.invariant.3 k c.zero_groups-single.ensures in
+    let e : run_marks (n + 1) k ≡ 0 = sym m.1 ∙ c.loop-longer-test.false in
+    let p : 0 < run_marks n k = omega (arith, m.0, c.loop-longer.invariant.2) in
+    let r = marks_found 32 n k (omega (arith, eight c.args.key)) (omega arith) e p in
+    let s : count_trailing_zeros 32 c.loop-longer.marks ≡ (longest k).0 = ap (λ (x : ℕ). count_trailing_zeros 32 x) m.0 ∙ sym (ap (λ (q : ℕ × ℕ). q.0) r) in
+    let t : n ≡ (longest k).1 = sym (ap (λ (q : ℕ × ℕ). q.1) r) in
     record {
-      none = λ h. absurd (omega arith);
-      some = λ h. (c.wide.ensures ∙ ap (λ (x : ℕ). count_trailing_zeros 32 x) m.0 ∙ sym (ap (λ (q : ℕ × ℕ). q.0) r), sym (ap (λ (q : ℕ × ℕ). q.1) r));
+      two = c.loop-longer.invariant.0;
+      start = s;
+      count = t;
+      within = omega (arith, (longest_run k).within, eight c.args.key);
     }
+
+pub returns-then-marks-eq0-clause-none : goal.returns-then-marks-eq0-clause-none
+returns-then-marks-eq0-clause-none c =
+    let k = key_groups c.args.key in
+    let e : run_marks 2 k ≡ 0 = sym (next c.zero_groups-single.result c.zero_groups-single.result 1 (omega arith) (λ l e. e) k c.zero_groups-single.ensures) ∙ c.if-marks-eq0.true in
+    omega (arith, marks_clear 1 k e)

@@ -1,4 +1,4 @@
-use mathlib.Core.Path.{◌≡◌, sym, ◌∙◌}
+use mathlib.Core.Path.{◌≡◌, sym}
 use mathlib.Core.List.{[]}
 use Prim.Native.Nat.{◌+◌, ◌*◌, ◌-◌, ◌≤◌}
 use native.Mathlib.Omega.{arith}
@@ -14,10 +14,7 @@ unfolding run_marks
 loop-i-init c =
     let g = key_groups c.args.key in
     let d : drop 8 g ≡ [] = drop_of_length-le g {i = 8} (omega (arith, eight c.args.key)) in
-    (omega arith, omega arith, rw d)
-
-pub overflow_add-marks : goal.overflow_add-marks
-overflow_add-marks c = omega (arith, c.loop-i.invariant, c.zero_bit.ensures)
+    (omega arith, rw d)
 
 pub loop-i-preserved : goal.loop-i-preserved
 loop-i-preserved c =
@@ -25,14 +22,9 @@ loop-i-preserved c =
     let g = key_groups k in
     let i = c.loop-i.i - 1 in
     let e : c.loop-i.i ≡ i + 1 = omega arith in
-    let m : c.loop-i.marks * 2 + c.zero_bit.result ≡ run_marks 1 (drop i g) =
-    rw (c.zero_bit.ensures.0, c.group_at.ensures.0, c.loop-i.invariant.2) (sym (marks_step g i c.loop-i.i e (omega (arith, eight k))))
+    let m : c.loop-i.marks * 2 + c.from.result ≡ run_marks 1 (drop i g) =
+    rw (c.from.ensures, c.group_at.ensures.0, c.loop-i.invariant.1) (sym (marks_step g i c.loop-i.i e (omega (arith, eight k))))
     in
     let p : length (drop i g) ≤ 8 = omega (arith, length-drop i g, eight k) in
     let q = pow_mono p in
-    (omega arith, omega (arith, marks_lt 1 (drop i g)), m)
-
-pub returns : goal.returns
-returns c =
-    let z : c.loop-i.i ≡ 0 = omega arith in
-    c.loop-i.invariant.2 ∙ rw z
+    (omega (arith, m, marks_lt 1 (drop i g)), m)

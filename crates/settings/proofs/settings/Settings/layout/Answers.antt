@@ -1,8 +1,8 @@
 -- Settings that fail a test are not legal; those that pass all keep every range and rule.
+use Rattle.std.specs.Prelude.{Ok}
 use Rattle.std.proofs.Common.{◌≡◌, true, sym, ap, ◌∙◌}
 use Rattle.settings.specs.Legal.{in_ranges, Ranges}
 use Rattle.settings.specs.theory.Legal.{ranges_of, in_ranges_if, fits_if, below_prime_if, laid_if_lem, refused_if}
-use Rattle.settings.specs.declared.layout.Laid.TheVariants as laid
 use Rattle.settings.proofs.settings.Settings.layout.Goals as goal
 use Rattle.settings.proofs.settings.Settings.layout.Goals.{Else-not-in_ranges}
 
@@ -36,6 +36,6 @@ returns-then-not-keeps_rules c =
 
 pub returns : goal.returns
 returns c =
-    ap laid.Layout c.of-g.ensures
+    ap Ok c.of-g.ensures
     ∙ laid_if_lem _ (in-ranges (goal.at.returns c).Else-not-in_ranges) (sym c.below_prime.ensures ∙ c.if-not-below_prime.false)
     (sym c.keeps_rules.ensures ∙ c.if-not-keeps_rules.false)
