@@ -1,7 +1,6 @@
 -- What page comes to once the lists are surveyed: refusal 7, refusal 13, or the page.
-use Rattle.std.specs.Prelude.{Err, Ok}
 use mathlib.Core.Path.{◌≡◌, refl, sym, ap, ap₂, ◌∙◌}
-use mathlib.Core.Bool.{Bool, true, false, cond, not, ◌&&◌}
+use mathlib.Core.Bool.{Bool, true, false, not, ◌&&◌}
 use mathlib.Core.List.{List, [], ◌∷◌, ◌++◌}
 use Prim.Native.Nat.{ℕ, ◌+◌, ◌-◌, ◌*◌, ◌^◌, ◌≤◌, ◌<◌}
 use native.Mathlib.Omega.{arith}
@@ -9,6 +8,8 @@ use native.Mathlib.Decide.{dec_le}
 use lib.ListN.{length, take, drop}
 use lib.Dec.{leb}
 use borrow.Author.Tests.{le-leb, lt-leb, eq-eqb, ne_eqb}
+use Rattle.std.specs.Prelude.{Ok, Err}
+use Rattle.std.specs.declared.result.Result.{Result}
 use Rattle.settings.specs.Layout.{layout_of}
 use Rattle.settings.specs.Legal.{legal}
 use Rattle.settings.specs.Due.{Due, due, unless_due, width_due}
@@ -29,9 +30,8 @@ use Rattle.plain_set.specs.Rebuilt.{Pair, rebuilt_pairs}
 use Rattle.text_sheet.specs.Row.{heading, rows}
 use Rattle.text_sheet.specs.Pages.{page_count, pairs_on, page_text}
 use Rattle.text_sheet.specs.Answers.{page_room, records, damage_due, page_due, page_put, page_call}
-use Rattle.text_sheet.specs.Steps.{Lines, first_record, page_after}
+use Rattle.text_sheet.specs.Steps.{Lines, page_after}
 use Rattle.text_sheet.proofs.Pages.{count_bounds, count_least, count_none}
-use Rattle.std.specs.declared.result.Result.{Result}
 
 -- ---- whether there is a page k, by its first record n
 
@@ -47,21 +47,6 @@ no_page_0 k count h = rw (lt-leb 1 k h)
 no_page : (k count : ℕ) → 1 ≤ k → page_count count < k → is_page k count ≡ false
 no_page k count a h = rw (le-leb 1 k a, lt-leb k (page_count count) h)
 
--- a page number that is 1 to 2^40, and any other
-data First (k : ℕ) : ℕ → Type 0 where
-  within : 1 ≤ k → k ≤ 2 ^ 40 → First k (40 * (k - 1))
-  zero : k < 1 → First k (2 ^ 40)
-  beyond : 2 ^ 40 < k → First k (2 ^ 40)
-
-first : (k : ℕ) → First k (first_record k)
-unfolding first_record
-first k = pick (dec_le 1 k) (dec_le k (2 ^ 40))
-  where
-    pick : Dec (1 ≤ k) → Dec (k ≤ 2 ^ 40) → First k (cond (leb 1 k && leb k (2 ^ 40)) (40 * (k - 1)) (2 ^ 40))
-    pick (no a) b = rw (lt-leb 1 k (omega arith)) (zero (omega arith))
-    pick (yes a) (no b) = rw (le-leb 1 k a, lt-leb k (2 ^ 40) (omega arith)) (beyond (omega arith))
-    pick (yes a) (yes b) = rw (le-leb 1 k a, le-leb k (2 ^ 40) b) (within a b)
-
 few_pages : (count : ℕ) → 40 * page_count count ≤ count + 40
 few_pages count = pick (dec_le 1 count)
   where
@@ -69,23 +54,34 @@ few_pages count = pick (dec_le 1 count)
     pick (yes h) = omega (arith, count_least count h)
     pick (no h) = omega (arith, count_none count (omega arith))
 
-there : (k count : ℕ) {n : ℕ} → First k n → count < 2 ^ 40 → (0 < n → n < count) → (is_page k count ≡ true) × (n ≡ 40 * (k - 1))
-there k count (within a b) few h = (is_page_lem k count a (pick (dec_le 2 k)), refl)
+there : (k count n : ℕ) → 1 ≤ k → n ≡ (k - 1) * 40 → (0 < n → n < count) → is_page k count ≡ true
+there k count n a e h = is_page_lem k count a (pick (dec_le 2 k))
   where
     pick : Dec (2 ≤ k) → k ≤ page_count count
     pick (yes x) = omega (arith, (count_bounds count).0, h (omega arith))
     pick (no x) = omega (arith, (count_bounds count).1)
-there k count (zero a) few h = absurd (omega (arith, h (omega arith)))
-there k count (beyond a) few h = absurd (omega (arith, h (omega arith)))
 
-not_there : (k count : ℕ) {n : ℕ} → First k n → count < 2 ^ 40 → 0 < n → count ≤ n → is_page k count ≡ false
-not_there k count (within a b) few h l = no_page k count a (pick (dec_le 1 count))
+not_there : (k count n : ℕ) → 1 ≤ k → n ≡ (k - 1) * 40 → 0 < n → count ≤ n → is_page k count ≡ false
+not_there k count n a e h l = no_page k count a (pick (dec_le 1 count))
   where
     pick : Dec (1 ≤ count) → page_count count < k
     pick (yes x) = omega (arith, count_least count x)
     pick (no x) = omega (arith, count_none count (omega arith))
-not_there k count (zero a) few h l = no_page_0 k count a
-not_there k count (beyond a) few h l = no_page k count (omega arith) (omega (arith, few_pages count))
+
+-- a page whose first record has no number of 64 bits
+nowhere : (k count : ℕ) → ((1 ≤ k) × ((k - 1) * 40 < 2 ^ 64) → ⊥) → count < 2 ^ 40 → is_page k count ≡ false
+nowhere k count far few = pick (dec_le 1 k)
+  where
+    pick : Dec (1 ≤ k) → is_page k count ≡ false
+    pick (yes a) = no_page k count a (pick_far (dec_le (2 ^ 64) ((k - 1) * 40)))
+      where
+        pick_far : Dec (2 ^ 64 ≤ (k - 1) * 40) → page_count count < k
+        pick_far (yes b) = omega (arith, few_pages count)
+        pick_far (no b) = absurd (far (a, omega arith))
+    pick (no a) = no_page_0 k count (omega arith)
+
+abbrev Answer : Type 0
+Answer = Result ℕ Refusal
 
 -- ---- what is answered
 
@@ -95,7 +91,7 @@ module _ (s : Settings) (g : Layout) (t : List ℕ) (laid : layout_of s ≡ g) (
       let d : undamaged (layout_of s) (held s t) ≡ false = ap (λ (x : Layout). undamaged x (decode x t)) laid ∙ e in
       rw d (record { answer = refl; bytes = refl })
 
-  module _ (n count : ℕ) (c : Cursor) (is : n ≡ first_record k) (C : Counts g t n count c) where
+  module _ (n count : ℕ) (c : Cursor) (C : Counts g t n count c) where
     whole : undamaged (layout_of s) (held s t) ≡ true
     whole = ap (λ (x : Layout). undamaged x (decode x t)) laid ∙ undamaged_test g t C.whole
 
@@ -105,35 +101,38 @@ module _ (s : Settings) (g : Layout) (t : List ℕ) (laid : layout_of s ≡ g) (
     counted : length (records s t) ≡ count
     counted = ap (λ (ps : List Pair). length ps) (sym held_is) ∙ C.count s laid
 
-    begins : First k n
-    begins = rw is (first k)
-
-    page_is : n ≡ 40 * (k - 1) → ahead s t c ≡ drop n (rebuilt_pairs s (decode g t)) → heading ++ rows (take 40 (ahead s t c)) ≡ page_text (records s t) k
+    page_is : n ≡ (k - 1) * 40 → ahead s t c ≡ drop n (rebuilt_pairs s (decode g t)) → heading ++ rows (take 40 (ahead s t c)) ≡ page_text (records s t) k
     unfolding page_text pairs_on
     page_is e a =
-        ap (λ (ps : List Pair). heading ++ rows (take 40 ps)) (a ∙ ap₂ (λ (m : ℕ) (ps : List Pair). drop m ps) e held_is)
+        let e′ : n ≡ 40 * (k - 1) = omega arith in
+        ap (λ (ps : List Pair). heading ++ rows (take 40 ps)) (a ∙ ap₂ (λ (m : ℕ) (ps : List Pair). drop m ps) e′ held_is)
 
-    pub no_such : 0 < n → count ≤ n → Gives (page_after s t k out) (Err refusal.Page) out
-    no_such h l =
-        let e : is_page k (length (records s t)) ≡ false = ap (is_page k) counted ∙ not_there k count begins C.few h l in
+    no_page_here : is_page k count ≡ false → Gives (page_after s t k out) (Err refusal.Page) out
+    no_page_here h =
+        let e : is_page k (length (records s t)) ≡ false = ap (is_page k) counted ∙ h in
         rw (whole, e) (record { answer = refl; bytes = refl })
 
+    pub no_number : ((1 ≤ k) × ((k - 1) * 40 < 2 ^ 64) → ⊥) → Gives (page_after s t k out) (Err refusal.Page) out
+    no_number far = no_page_here (nowhere k count far C.few)
+
+    pub no_such : (m : ℕ) → 1 ≤ k → m ≡ (k - 1) * 40 → 0 < m → count ≤ m → Gives (page_after s t k out) (Err refusal.Page) out
+    no_such m a is h l = no_page_here (not_there k count m a is h l)
+
     -- the lines of the page's records are the page
-    pub put : (0 < n → n < count) → (r : ℕ) (out' : List ℕ) → Lines (take 40 (ahead s t c)) out out' r → Gives (page_after s t k out) (Ok r) out'
-    put h r out' L =
-        let w = there k count begins C.few h in
-        let e : is_page k (length (records s t)) ≡ true = ap (is_page k) counted ∙ w.0 in
-        let same : heading ++ rows (take 40 (ahead s t c)) ≡ page_text (records s t) k = page_is w.1 (C.are h s laid) in
+    pub put : 1 ≤ k → n ≡ (k - 1) * 40 → (0 < n → n < count) → (r : ℕ) (out' : List ℕ) → Lines (take 40 (ahead s t c)) out out' r → Gives (page_after s t k out) (Ok r) out'
+    put a is h r out' L =
+        let e : is_page k (length (records s t)) ≡ true = ap (is_page k) counted ∙ there k count n a is h in
+        let same : heading ++ rows (take 40 (ahead s t c)) ≡ page_text (records s t) k = page_is is (C.are h s laid) in
         let long : r ≡ length (page_text (records s t) k) = L.end ∙ ap (λ (x : List ℕ). length x) same in
         rw (whole, e) (record { answer = ap Ok long; bytes = L.are ∙ ap₂ (λ (x : List ℕ) (m : ℕ). x ++ drop m out) same long })
 
 -- ---- refusals 1, 2, 3 and 9
 
-gives : {o : Reply (Result ℕ Refusal)} {a : Result ℕ Refusal} {u : List ℕ} → o ≡ reply a u → Gives o a u
+gives : {o : Reply Answer} {a : Answer} {u : List ℕ} → o ≡ reply a u → Gives o a u
 gives e = rw e (record { answer = refl; bytes = refl })
 
 module _ (s : Settings) (t : List ℕ) (k : ℕ) (out : List ℕ) where
-  refuse : Refusal → Reply (Result ℕ Refusal)
+  refuse : Refusal → Reply Answer
   refuse why = reply (Err why) out
 
   later : List Due

@@ -70,8 +70,8 @@ module _ (ps : List Pair) (out₀ : List ℕ) where
     unfolding front
     front_is = u.are ∙ sym (append_assoc (take 51 out₀) (rows (take n ps)) (drop (51 + 51 * n) out₀))
 
-    module _ (p : Pair) (qs : List Pair) (e : rest ≡ p ∷ qs) (few : n < 40) (one : length (pair_row p) ≡ 51) (line : List ℕ) (k : ℕ)
-        (wide : 51 ≤ length (take k (drop (51 + 51 * n) out))) (put : line ≡ pair_row p ++ drop 51 (take k (drop (51 + 51 * n) out))) where
+    module _ (p : Pair) (qs : List Pair) (e : rest ≡ p ∷ qs) (few : n < 40) (one : length (pair_row p) ≡ 51) (line : List ℕ) (at k : ℕ) (at_is : at ≡ 51 + 51 * n)
+        (wide : 51 ≤ length (take k (drop at out))) (put : line ≡ pair_row p ++ drop 51 (take k (drop at out))) where
       more : drop n ps ≡ p ∷ qs
       more = sym u.left ∙ e
 
@@ -79,23 +79,22 @@ module _ (ps : List Pair) (out₀ : List ℕ) where
       unfolding rows
       rows_more = ap rows (take_more ps n p qs more) ∙ rows_append (take n ps) (p ∷ []) ∙ ap (rows (take n ps) ++◌) (append-nil (pair_row p))
 
-      put_more : take (51 + 51 * n) out ++ (line ++ drop k (drop (51 + 51 * n) out))
-          ≡ take 51 out₀ ++ (rows (take (n + 1) ps) ++ drop (51 + 51 * (n + 1)) out₀)
+      put_more : take at out ++ (line ++ drop k (drop at out)) ≡ take 51 out₀ ++ (rows (take (n + 1) ps) ++ drop (51 + 51 * (n + 1)) out₀)
       unfolding front
       put_more =
-          let at : ℕ = 51 + 51 * n in
-          let next : at + 51 ≡ 51 + 51 * (n + 1) = omega arith in
-          let a : take at out ≡ front = ap (take at) front_is ∙ take_at front (drop at out₀) at front_long in
+          let long : length front ≡ at = front_long ∙ sym at_is in
+          let next : 51 + 51 * n + 51 ≡ 51 + 51 * (n + 1) = omega arith in
+          let a : take at out ≡ front = ap (take at) front_is ∙ take_at front (drop (51 + 51 * n) out₀) at long in
           let b : drop (at + 51) out ≡ drop (51 + 51 * (n + 1)) out₀ =
-          sym (drop-drop 51 at out) ∙ ap (drop 51) (ap (drop at) front_is ∙ drop_at front (drop at out₀) at front_long)
-          ∙ drop-drop 51 at out₀ ∙ ap (λ (x : ℕ). drop x out₀) next in
+          sym (drop-drop 51 at out) ∙ ap (drop 51) (ap (drop at) front_is ∙ drop_at front (drop (51 + 51 * n) out₀) at long)
+          ∙ drop-drop 51 (51 + 51 * n) out₀ ∙ ap (λ (x : ℕ). drop x out₀) next in
           ap₂ ◌++◌ a (put_line out line (pair_row p) at k wide put ∙ ap (pair_row p ++◌) b)
           ∙ append_assoc (take 51 out₀) (rows (take n ps)) (pair_row p ++ drop (51 + 51 * (n + 1)) out₀)
           ∙ ap (take 51 out₀ ++◌)
           (sym (append_assoc (rows (take n ps)) (pair_row p) (drop (51 + 51 * (n + 1)) out₀))
           ∙ ap (◌++ drop (51 + 51 * (n + 1)) out₀) (sym rows_more))
 
-      pub upto_more : Upto ps (n + 1) qs out₀ (take (51 + 51 * n) out ++ (line ++ drop k (drop (51 + 51 * n) out)))
+      pub upto_more : Upto ps (n + 1) qs out₀ (take at out ++ (line ++ drop k (drop at out)))
       upto_more =
           record {
             few = omega arith;
@@ -117,15 +116,16 @@ module _ (ps : List Pair) (out₀ : List ℕ) where
           take_all n ps all ∙ sym (take_all 40 ps (omega (arith, u.few))))
           ends
 
-      pub upto_lines : (before : List ℕ) → out₀ ≡ heading ++ drop 51 before → Lines (take 40 ps) before out (51 + 51 * n)
-      upto_lines before e =
+      pub upto_lines : (before : List ℕ) → out₀ ≡ heading ++ drop 51 before → (at : ℕ) → at ≡ 51 + 51 * n → Lines (take 40 ps) before out at
+      upto_lines before e at at_is =
           let t : take 51 out₀ ≡ heading = ap (take 51) e ∙ take_at heading (drop 51 before) 51 heading_length in
           let d : drop (51 + 51 * n) out₀ ≡ drop (51 + 51 * n) before =
           sym (drop-drop (51 * n) 51 out₀) ∙ ap (drop (51 * n)) (ap (drop 51) e ∙ drop_at heading (drop 51 before) 51 heading_length)
           ∙ drop-drop (51 * n) 51 before in
-          record {
+          rw at_is
+          (record {
             end = omega (arith, length-append heading (rows (take 40 ps)), heading_length, ap (λ (x : List Pair). length (rows x)) all_there, u.long);
             are = u.are
                 ∙ ap₂ ◌++◌ t (ap₂ ◌++◌ (ap rows all_there) d)
                 ∙ sym (append_assoc heading (rows (take 40 ps)) (drop (51 + 51 * n) before));
-          }
+          })

@@ -1,6 +1,8 @@
 -- What page answers, and what it leaves in the lent bytes (clauses 9.10 and 9.11).
-use Rattle.std.specs.Prelude.{ℕ, not, ◌&&◌, List, [], ◌∷◌, ◌++◌, length, drop, leb, Err, Ok}
+use Rattle.std.specs.Prelude.{ℕ, not, ◌&&◌, List, [], ◌∷◌, ◌++◌, length, drop, leb, Ok, Err}
+use Rattle.std.specs.declared.result.Result.{Result}
 use Rattle.settings.specs.declared.settings.Settings.{Settings}
+use Rattle.settings.specs.declared.refusal.Refusal.{Refusal}
 use Rattle.settings.specs.declared.refusal.Refusal.TheVariants as refusal
 use Rattle.settings.specs.Layout.{layout_of}
 use Rattle.settings.specs.Due.{Due, due, settings_due, short_due, width_due}
@@ -9,8 +11,6 @@ use Rattle.table.specs.Calls.{held}
 use Rattle.table_cursor.specs.Undamaged.{undamaged}
 use Rattle.plain_set.specs.Rebuilt.{Pair, rebuilt_pairs}
 use Rattle.text_sheet.specs.Pages.{page_count, page_text}
-use Rattle.std.specs.declared.result.Result.{Result}
-use Rattle.settings.specs.declared.refusal.Refusal.{Refusal}
 
 -- 9: fewer bytes are lent than a full page has, a heading and 40 rows of 51 bytes
 abbrev pub page_room : ℕ

@@ -1,9 +1,11 @@
 -- What the functions below page are asked and answer. Only private contracts cite these.
-use Rattle.std.specs.Prelude.{◌≡◌, cond, ◌&&◌, List, [], ◌∷◌, ◌++◌, ℕ, ◌-◌, ◌*◌, ◌^◌, length, drop, leb, Err}
+use Rattle.std.specs.Prelude.{◌≡◌, List, [], ◌∷◌, ◌++◌, ℕ, length, drop, Err}
+use Rattle.std.specs.declared.result.Result.{Result}
 use Rattle.settings.specs.Layout.{layout_of}
 use Rattle.settings.specs.Legal.{Legal}
 use Rattle.settings.specs.Reply.{Reply, called}
 use Rattle.settings.specs.declared.settings.Settings.{Settings}
+use Rattle.settings.specs.declared.refusal.Refusal.{Refusal}
 use Rattle.settings.specs.declared.layout.Layout.{Layout}
 use Rattle.table.specs.Decode.{decode}
 use Rattle.table.specs.Table.{Table}
@@ -13,8 +15,6 @@ use Rattle.plain_set.specs.Rebuilt.{Pair}
 use Rattle.plain_set.specs.Nth.{Undamaged}
 use Rattle.text_sheet.specs.Row.{heading, rows}
 use Rattle.text_sheet.specs.Answers.{damage_due, page_due, page_put}
-use Rattle.std.specs.declared.result.Result.{Result}
-use Rattle.settings.specs.declared.refusal.Refusal.{Refusal}
 
 -- the settings are legal, and g is their layout; the bytes t hold a table without damage, and the cursor c can be moved on
 pub record Ready (s : Settings) (g : Layout) (t : List ℕ) (c : Cursor) : Type 0 where
@@ -28,10 +28,6 @@ pub record Ready (s : Settings) (g : Layout) (t : List ℕ) (c : Cursor) : Type 
 pub record Lines (ps : List Pair) (before after : List ℕ) (r : ℕ) : Type 0 where
   pub end : r ≡ length (heading ++ rows ps)
   pub are : after ≡ (heading ++ rows ps) ++ drop r before
-
--- the number of a page's first record; 2^40, which no table has, where there is no page
-unfoldable pub first_record : ℕ → ℕ
-first_record k = cond (leb 1 k && leb k (2 ^ 40)) (40 * (k - 1)) (2 ^ 40)
 
 -- what page comes to once refusals 1, 2, 3 and 9 are settled
 abbrev pub page_after : Settings → List ℕ → ℕ → List ℕ → Reply (Result ℕ Refusal)

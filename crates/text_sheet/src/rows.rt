@@ -6,7 +6,7 @@ ghost use Rattle.text_sheet.specs.Steps.{Ready, Lines};
 use crate::row::{ROW_BYTES, put_heading, put_row};
 use keys::Place;
 use settings::{Layout, Settings};
-use table_cursor::{Cursor, Next, next};
+use table_cursor::{Cursor, next};
 
 const ROWS_MAX: usize = 40;
 
@@ -17,22 +17,18 @@ pub(crate) fn put_page(s: Settings, t: &[u8], g: Layout, cursor: Cursor, out: &m
 {
     put_heading(out);
     let mut c = cursor;
-    let mut n: usize = 0;
-    while n < ROWS_MAX {
-        let Next::Record {
-            list,
-            entry,
-            label,
-            cursor,
-        } = next(t, g, c)
-        else {
+    let mut end = ROW_BYTES;
+    for _n in 0..ROWS_MAX {
+        let Some(r) = next(t, g, c) else {
             break;
         };
-        let place = Place { list, entry };
-        let at = ROW_BYTES + ROW_BYTES * n;
-        put_row(&mut out[at..], place.key(s), label);
-        c = cursor;
-        n += 1;
+        let place = Place {
+            list: r.list,
+            entry: r.entry,
+        };
+        put_row(&mut out[end..], place.key(s), r.label);
+        c = r.cursor;
+        end += ROW_BYTES;
     }
-    ROW_BYTES + ROW_BYTES * n
+    end
 }

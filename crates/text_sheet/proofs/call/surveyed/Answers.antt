@@ -1,43 +1,30 @@
 -- The survey decides between refusal 7, refusal 13 and the page.
-use native.Mathlib.Omega.{arith}
+use Rattle.std.proofs.Common.{◌≡◌, ◌<◌, ◌∙◌, arith}
 use lib.Dec.{ltb}
 use borrow.Author.Tests.{ltb-true, ltb-false, leb-true, leb-false, lt-ltb}
 use Rattle.laws.specs.Cases.{both_true}
-use Rattle.table_cursor.specs.Survey.{Counts}
-use Rattle.text_sheet.proofs.CallLaws.{damaged, no_such, put}
+use Rattle.text_sheet.proofs.CallLaws.{no_number, no_such, put}
 use Rattle.text_sheet.proofs.call.surveyed.Goals as goal
-use Rattle.text_sheet.proofs.call.surveyed.Goals.{In-Counted}
-
--- what was counted
-counts : (c : In-Counted) → let a = c.args in
-    Counts a.g a.t.now c.first_record-n.result c.in-Counted.count c.in-Counted.cursor
-counts c = rw c.in-Counted.is at c.survey.ensures
-
-pub survey-requires : goal.survey-requires
-survey-requires c = c.requires.2
 
 pub returns-in_default : goal.returns-in_default
 returns-in_default c =
-    damaged c.args.s c.args.g c.args.t.now c.requires.1 c.args.page c.args.out.now (rw c.in_default.is at c.survey.ensures)
+    let a = c.args in
+    no_number a.s a.g a.t.now c.requires.1 a.page a.out.now _ _ _ c.in_ok-count.ensures c.in_default.ensures
 
 -- here and in `returns` `omega` reads the comparison with the count: a wrong one fails at its numbers, not its form
 pub returns-then-n-count : goal.returns-then-n-count
 returns-then-n-count c =
-    let n = c.first_record-n.result in
+    let n = c.in-Some.n in
+    let a = c.args in
     let b = both_true (ltb 0 n) _ c.if-n-count.true in
-    no_such c.args.s c.args.g c.args.t.now c.requires.1 c.args.page c.args.out.now n c.in-Counted.count c.in-Counted.cursor
-    c.first_record-n.ensures (counts (goal.at.returns-then-n-count c).In-Counted) (omega (arith, ltb-true, b.0)) (omega (arith, ltb-true, leb-true, b.1))
-
-pub put_page-requires : goal.put_page-requires
-put_page-requires c =
-    let C = counts (goal.at.put_page-requires c).In-Counted in (
-      record { legal = c.requires.0; laid = c.requires.1; table = c.requires.2; whole = C.whole; good = C.good },
-      c.requires.3,
-    )
+    no_such a.s a.g a.t.now c.requires.1 a.page a.out.now _ _ _ c.in_ok-count.ensures
+    n c.in-Some.ensures.0.0 c.in-Some.ensures.1 (omega (arith, ltb-true, b.0)) (omega (arith, ltb-true, leb-true, b.1))
 
 pub returns : goal.returns
 returns c =
-    let n = c.first_record-n.result in
-    put c.args.s c.args.g c.args.t.now c.requires.1 c.args.page c.args.out.now n c.in-Counted.count c.in-Counted.cursor
-    c.first_record-n.ensures (counts (goal.at.returns c).In-Counted) (λ h. omega (arith, ltb-false, leb-false, rw (lt-ltb 0 n h) at c.if-n-count.false))
+    let n = c.in-Some.n in
+    let a = c.args in
+    let u : c.unwrap_or.result ≡ n = rw c.in-Some.is at c.unwrap_or.ensures in
+    put a.s a.g a.t.now c.requires.1 a.page a.out.now _ _ _ c.in_ok-count.ensures
+    c.in-Some.ensures.0.0 (u ∙ c.in-Some.ensures.1) (λ h. let z : 0 < n = omega (arith, u) in omega (arith, u, ltb-false, leb-false, rw (lt-ltb 0 n z) at c.if-n-count.false))
     _ _ c.put_page.ensures
