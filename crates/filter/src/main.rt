@@ -234,7 +234,7 @@ fn run(io: &Streams, classes: &ClassTable, buf: &mut [u8], t: &mut [u8], out: &m
 // The bytes of each of the two buffers.
 const BUFFER_BYTES: usize = 65536;
 
-// All memory of the run: the class table, the table, for which the settings ask TABLE_BYTES, and the buffers.
+// All memory of the run: the table, for which the settings ask TABLE_BYTES, and the buffers.
 fn main(rt: HostRuntime) {
     let io = Streams {
         input: rt.stdin(),
@@ -250,5 +250,5 @@ fn main(rt: HostRuntime) {
     let mut t = [0u8; TABLE_BYTES];
     let mut out = [0u8; BUFFER_BYTES];
     table_make::make(s, &mut t);
-    run(&io, &classes, &mut buf, &mut t, &mut out);
+    run(&io, classes, &mut buf, &mut t, &mut out);
 }
