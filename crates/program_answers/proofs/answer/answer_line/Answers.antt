@@ -10,8 +10,8 @@ use Rattle.program_answers.proofs.answer.answer_line.Goals.{In-Request, Start}
 parsing : (c : In-Request) → Parsing c.args.line.now c.in-Request.q
 parsing c = asks_request c.args.line.now c.in-Request.q c.parse.ensures c.in-Request.is
 
-pub slice_bounds-read_by-count : goal.slice_bounds-read_by-count
-slice_bounds-read_by-count c = omega (arith, (parsing (goal.at.slice_bounds-read_by-count c).In-Request).low, (parsing (goal.at.slice_bounds-read_by-count c).In-Request).high)
+pub slice_bounds-read-count : goal.slice_bounds-read-count
+slice_bounds-read-count c = omega (arith, (parsing (goal.at.slice_bounds-read-count c).In-Request).low, (parsing (goal.at.slice_bounds-read-count c).In-Request).high)
 
 pub unread-requires : goal.unread-requires
 unread-requires c =
@@ -20,13 +20,13 @@ unread-requires c =
 
 pub returns-in-Ok : goal.returns-in-Ok
 returns-in-Ok c =
-    let e = sym c.read_by.ensures ∙ c.in-Ok.is in
+    let e = sym c.read.ensures ∙ c.in-Ok.is in
     answered_as (line_key c.args.t.now c.args.line.now c.in-Request.q (parsing (goal.at.returns-in-Ok c).In-Request).is (omega (arith, (goal.at.returns-in-Ok c).Start)) c.in-Ok.field-0 e (read_spaceless _ _ e)) c.answer_key.ensures
 
 pub returns-in-Err : goal.returns-in-Err
 returns-in-Err c =
     answered_refused _
-    (line_unread c.args.t.now c.args.line.now c.in-Request.q (parsing (goal.at.returns-in-Err c).In-Request).is (omega (arith, (goal.at.returns-in-Err c).Start)) c.in-Err.field-0 (sym c.read_by.ensures ∙ c.in-Err.is))
+    (line_unread c.args.t.now c.args.line.now c.in-Request.q (parsing (goal.at.returns-in-Err c).In-Request).is (omega (arith, (goal.at.returns-in-Err c).Start)) c.in-Err.field-0 (sym c.read.ensures ∙ c.in-Err.is))
     (rw c.unread.ensures at c.refuse.ensures.0)
 
 pub returns-in-Malformed : goal.returns-in-Malformed
