@@ -5,5 +5,4 @@ mod class;
 mod groups;
 mod reader;
 
-pub use class::{ClassTable, classes};
-pub use reader::{read, read_by};
+pub use reader::read;

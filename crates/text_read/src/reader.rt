@@ -7,7 +7,7 @@ ghost use Rattle.text_read.specs.Classes.{Five};
 ghost use Rattle.text_read.specs.Gathered.{made};
 ghost use Rattle.text_read.specs.ReaderSteps.{Fine, head_answer, by_length, until, numeral_of, group_in, decimal_in, dotted_from, to_end, part_at, gathered};
 
-use crate::class::{CLASSES, COLON, ClassTable, DOT};
+use crate::class::{COLON, DOT, class, class_at};
 use crate::groups::{Groups, NO_GROUPS, PREFIX};
 use keys::Key;
 use settings::Refusal;
@@ -70,43 +70,43 @@ fn group_of(text: &[u8], at: usize, a: u64, b: u64, c: u64, d: u64, e: u64) -> O
 }
 
 // The group in the field from `at` on. Only near the end of the text is each place tested.
-fn group(table: &ClassTable, text: &[u8], at: usize) -> Option<Numeral>
+fn group(text: &[u8], at: usize) -> Option<Numeral>
     requires { at ≤ length text.now }
     ensures { result ≡ group_in (until colon (drop at text.now)) at }
 {
     if at + 4 < text.len() {
-        let a = table.class(text[at]);
-        let b = table.class(text[at + 1]);
-        let c = table.class(text[at + 2]);
-        let d = table.class(text[at + 3]);
-        let e = table.class(text[at + 4]);
+        let a = class(text[at]);
+        let b = class(text[at + 1]);
+        let c = class(text[at + 2]);
+        let d = class(text[at + 3]);
+        let e = class(text[at + 4]);
         return group_of(text, at, a, b, c, d, e);
     }
-    let a = table.class_at(text, at, COLON);
-    let b = table.class_at(text, at + 1, COLON);
-    let c = table.class_at(text, at + 2, COLON);
-    let d = table.class_at(text, at + 3, COLON);
-    let e = table.class_at(text, at + 4, COLON);
+    let a = class_at(text, at, COLON);
+    let b = class_at(text, at + 1, COLON);
+    let c = class_at(text, at + 2, COLON);
+    let d = class_at(text, at + 3, COLON);
+    let e = class_at(text, at + 4, COLON);
     group_of(text, at, a, b, c, d, e)
 }
 
 // The decimal 0 to 255 in the field from `at` on, which goes to a dot or the end.
-fn decimal(table: &ClassTable, text: &[u8], at: usize) -> Option<Numeral>
+fn decimal(text: &[u8], at: usize) -> Option<Numeral>
     requires { at ≤ length text.now }
     ensures { result ≡ decimal_in (until dot (drop at text.now)) at }
 {
-    let a = table.class_at(text, at, DOT);
+    let a = class_at(text, at, DOT);
     if 9 < a {
         return None;
     }
-    let b = table.class_at(text, at + 1, DOT);
+    let b = class_at(text, at + 1, DOT);
     if 9 < b {
         return ended(a, at + 1, b, DOT);
     }
     if a == 0 {
         return None;
     }
-    let c = table.class_at(text, at + 2, DOT);
+    let c = class_at(text, at + 2, DOT);
     if 9 < c {
         return ended(a * 10 + b, at + 2, c, DOT);
     }
@@ -114,7 +114,7 @@ fn decimal(table: &ClassTable, text: &[u8], at: usize) -> Option<Numeral>
     if 255 < value {
         return None;
     }
-    ended(value, at + 3, table.class_at(text, at + 3, DOT), DOT)
+    ended(value, at + 3, class_at(text, at + 3, DOT), DOT)
 }
 
 // The number of n decimals that end the text at `next`: there must be four.
@@ -129,7 +129,7 @@ fn four(value: u64, n: usize, next: usize) -> Option<Numeral>
 
 // The number below 2^32 that four decimals with dots stand for, from `from` to the end of the text. A `loop`, since the
 // text's end and not a count ends it: a `for` over the four would read the last of them apart.
-fn dotted(table: &ClassTable, text: &[u8], from: usize) -> Option<Numeral>
+fn dotted(text: &[u8], from: usize) -> Option<Numeral>
     requires { from ≤ length text.now }
     ensures { result ≡ numeral_of (dotted_from 0 0 (drop from text.now)) (length text.now) }
 {
@@ -137,7 +137,7 @@ fn dotted(table: &ClassTable, text: &[u8], from: usize) -> Option<Numeral>
     let mut count: usize = 0;
     let mut at = from;
     loop {
-        let byte = decimal(table, text, at)?;
+        let byte = decimal(text, at)?;
         if count == 4 {
             return None;
         }
@@ -151,14 +151,14 @@ fn dotted(table: &ClassTable, text: &[u8], from: usize) -> Option<Numeral>
 }
 
 // The groups and the two of the dotted tail from `at` on: a field that is no group can only be that.
-fn with_tail(table: &ClassTable, text: &[u8], at: usize, groups: Groups) -> Option<Part>
+fn with_tail(text: &[u8], at: usize, groups: Groups) -> Option<Part>
     requires { at ≤ length text.now }
     ensures { result ≡ to_end groups.number groups.count (dottedGroups (drop at text.now)) }
 {
     if 6 < groups.count() {
         return None;
     }
-    let tail = dotted(table, text, at)?;
+    let tail = dotted(text, at)?;
     Some(Part::Whole(groups.pushed(2, tail.value)))
 }
 
@@ -175,15 +175,15 @@ fn before_tail(at: usize, groups: Groups) -> Groups
 
 // The groups from `from` on, up to "::" or the end of the text. A `loop`, since what follows a group decides whether one
 // more is read, and where.
-fn read_part(table: &ClassTable, text: &[u8], from: usize) -> Option<Part>
+fn read_part(text: &[u8], from: usize) -> Option<Part>
     requires { from ≤ length text.now }
     ensures { result ≡ part_at 0 0 (drop from text.now) from }
 {
     let mut groups = NO_GROUPS;
     let mut at = from;
     loop {
-        let Some(Numeral { value, next }) = group(table, text, at) else {
-            return with_tail(table, text, at, before_tail(at, groups));
+        let Some(Numeral { value, next }) = group(text, at) else {
+            return with_tail(text, at, before_tail(at, groups));
         };
         if 7 < groups.count() {
             return None;
@@ -196,7 +196,7 @@ fn read_part(table: &ClassTable, text: &[u8], from: usize) -> Option<Part>
         if at == text.len() {
             return None;
         }
-        if table.class(text[at]) == COLON {
+        if class(text[at]) == COLON {
             return Some(Part::Gap {
                 groups,
                 next: at + 1,
@@ -207,61 +207,59 @@ fn read_part(table: &ClassTable, text: &[u8], from: usize) -> Option<Part>
 
 // The groups behind "::". One part follows, or nothing: a second "::" is not legal. Here and in `first_part` the slice is
 // taken anew for the part, so that it stays in registers.
-fn behind_gap(table: &ClassTable, text: &[u8], at: usize) -> Option<Groups>
+fn behind_gap(text: &[u8], at: usize) -> Option<Groups>
     requires { (0 < at) × (at ≤ length text.now) }
     ensures { result ≡ gathered (part true (drop at text.now)) }
 {
     if at == text.len() {
         return Some(NO_GROUPS);
     }
-    match read_part(table, &text[..], at)? {
+    match read_part(&text[..], at)? {
         Part::Whole(tail) => Some(tail),
         Part::Gap { .. } => None,
     }
 }
 
 // The text begins with "::".
-fn opens(table: &ClassTable, text: &[u8]) -> bool
+fn opens(text: &[u8]) -> bool
     ensures { result ≡ (begins text.now && begins (tail text.now)) }
 {
     if text.len() < 2 {
         return false;
     }
-    if table.class(text[0]) != COLON {
+    if class(text[0]) != COLON {
         return false;
     }
-    table.class(text[1]) == COLON
+    class(text[1]) == COLON
 }
 
 // The part before "::", which may be empty, or the whole text.
-fn first_part(table: &ClassTable, text: &[u8]) -> Option<Part>
+fn first_part(text: &[u8]) -> Option<Part>
     ensures { (reading_of text.now ≡ head_answer text.now result) × Fine (length text.now) result }
 {
-    if opens(table, text) {
+    if opens(text) {
         return Some(Part::Gap {
             groups: NO_GROUPS,
             next: 2,
         });
     }
-    read_part(table, &text[..], 0)
-}
-
-// Reads an address by the class table, which is lent once a call.
-pub fn read_by(table: &ClassTable, text: &[u8]) -> Result<Key, Refusal>
-    ensures { result ≡ reading_of text.now }
-{
-    match first_part(table, text).ok_or(Refusal::Text)? {
-        Part::Gap { groups, next } => {
-            let tail = behind_gap(table, text, next).ok_or(Refusal::Text)?;
-            groups.filled(tail)
-        }
-        Part::Whole(groups) => groups.eight(),
-    }
+    read_part(&text[..], 0)
 }
 
 // Reads an address.
 pub fn read(text: &[u8]) -> Result<Key, Refusal>
     ensures { result ≡ reading_of text.now }
 {
-    read_by(&CLASSES, text)
+    let Some(part) = first_part(text) else {
+        return Err(Refusal::Text);
+    };
+    match part {
+        Part::Gap { groups, next } => {
+            let Some(tail) = behind_gap(text, next) else {
+                return Err(Refusal::Text);
+            };
+            groups.filled(tail)
+        }
+        Part::Whole(groups) => groups.eight(),
+    }
 }
