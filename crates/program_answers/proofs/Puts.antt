@@ -1,10 +1,11 @@
 -- Texts put one behind the other.
 use mathlib.Core.Path.{◌≡◌, refl, sym, ap, ◌∙◌}
 use mathlib.Core.List.{List, [], ◌∷◌, ◌++◌, append_assoc}
-use Prim.Native.Nat.{ℕ, ◌+◌, ◌-◌, ◌≤◌, ◌<◌}
+use Prim.Native.Nat.{ℕ, suc, ◌+◌, ◌-◌, ◌≤◌, ◌<◌}
+use native.Mathlib.Numerals.{add-one}
 use native.Mathlib.Omega.{arith}
-use lib.ListN.{length, set, take, drop, length-append}
-use lib.Seq.{drop-drop, drop-set-lt}
+use lib.ListN.{length, get_or, set, take, drop, length-append}
+use lib.Seq.{take-suc, take-suc-set, drop-drop, drop-set-lt}
 use Rattle.laws.specs.Lists.{take_stored}
 use Rattle.settings.specs.declared.refusal.Refusal.{Refusal}
 use Rattle.settings.specs.Reply.{Reply, reply, answering, Gives}
@@ -22,6 +23,15 @@ rest_more n m a b h e =
 -- one byte
 pub put_byte : (out : List ℕ) (at x : ℕ) → at < length out → Put (x ∷ []) out at (set out at x) (at + 1)
 put_byte out at x h = record { end = refl; is = take_stored out at x h; rest = drop-set-lt (at + 1) out at x (omega arith) }
+
+-- one byte more of a text
+pub put_more : (text out₀ out : List ℕ) (at i : ℕ) → i < length text → at + i < length out → take (at + i) out ≡ take at out₀ ++ take i text
+    → take (at + (i + 1)) (set out (at + i) (get_or text i 0)) ≡ take at out₀ ++ take (i + 1) text
+put_more text out₀ out at i ht ho e =
+    let n : at + (i + 1) ≡ suc (at + i) = omega arith in
+    rw (n, add-one i, take-suc text i 0 ht)
+    (take-suc-set out (at + i) (get_or text i 0) ho ∙ ap (λ (l : List ℕ). l ++ get_or text i 0 ∷ []) e
+    ∙ append_assoc (take at out₀) (take i text) (get_or text i 0 ∷ []))
 
 -- a text and then another
 pub put_then : {a b out out₁ out₂ : List ℕ} {at r₁ r₂ : ℕ} → Put a out at out₁ r₁ → Put b out₁ r₁ out₂ r₂ → Put (a ++ b) out at out₂ r₂
