@@ -78,7 +78,9 @@ fn holds(t: &[u8], at: usize, n: usize, high: u64, low: u64) -> bool
     bits::get(t, at, n - 64) == high
 }
 
-// The first slot from `from` on that holds the entry, slot by slot; their count if none does.
+// The first slot from `from` on that holds the entry, slot by slot; their count if none does. Here and below the slots, the
+// widths and the entry come one by one: in one struct, what a call reads of them would be loads of what was just stored, since
+// a function that is not inlined takes a struct in memory.
 #[tactic(auto, unfolding(keys::specs::Key::key_number))]
 fn scan_from(
     t: &[u8],

@@ -29,7 +29,7 @@ returns-then-get_short-entry c =
     let m : ℕ = c.min-m.result in
     let h : m ≤ a.bie = omega (arith, c.min-m.ensures) in
     let i : m ≤ 63 = omega (arith, c.min-m.ensures) in
-    let l : a.entry.low < 2 ^ 64 = omega (arith, c.struct_known-3-1.given) in
+    let l : a.entry.low < 2 ^ 64 = omega arith in
     sym (last_differ (restored_bytes a.t.now a.b) a.b.start a.bie m (key_number a.entry) h
     (λ q. c.if-get_short-entry.true
     (c.get_short.ensures
