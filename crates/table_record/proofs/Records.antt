@@ -1,21 +1,20 @@
 -- Laws of counting records: slot n of slots in two rows, and record n of the lists from one on.
-use Rattle.std.specs.Prelude.{None, Ok}
 use mathlib.Core.Path.{◌≡◌, refl, sym, ap, ap₂, ◌∙◌}
 use mathlib.Core.List.{List, ◌∷◌, ◌++◌}
 use mathlib.Core.Option.{Option, none, some}
-use Prim.Native.Nat.{ℕ, suc, ◌+◌, ◌-◌, ◌^◌, ◌≤◌, ◌<◌}
+use Prim.Native.Nat.{ℕ, suc, ◌+◌, ◌-◌, ◌≤◌, ◌<◌}
 use native.Mathlib.Omega.{arith}
 use native.Mathlib.Decide.{dec_le}
 use lib.ListN.{length, get_or, drop, length-append, get_or-append, drop_of_length-le}
 use lib.Seq.{get_or-append-add, drop-cons}
 use lib.Dec.{ltb}
 use borrow.Author.Tests.{lt-ltb, le-ltb, ltb-true, ltb-false}
+use Rattle.std.specs.Prelude.{Ok, Err, Some, None}
+use Rattle.std.specs.declared.result.Result.{Result}
 use Rattle.laws.specs.Cases.{cases}
 use Rattle.settings.specs.Layout.{layout_of}
-use Rattle.keys.specs.Key.{key_number}
 use Rattle.keys.specs.theory.Keys.{number_key}
 use Rattle.settings.specs.declared.settings.Settings.{Settings}
-use Rattle.keys.specs.declared.Key.{Key}
 use Rattle.settings.specs.declared.layout.Layout.{Layout}
 use Rattle.table.specs.State.{Basic, Overflow, State, basic_at, overflow_at, unpack, empty_basic}
 use Rattle.table.specs.Decode.{decode}
@@ -23,13 +22,24 @@ use Rattle.table.specs.Table.{Table}
 use Rattle.table.specs.Follow.{Content, mk_content, follow, own_blocks, content_of, content}
 use Rattle.table.specs.Record.{record_from, record_in}
 use Rattle.table_read.specs.Steps.{slots_in, basic_run, displaced_run, overflow_run, last_from, Followed, OwnFollowed, Overflows, gather_from}
-use Rattle.table_record.specs.RecordSteps.{slot_nth, nth_of, nth_in, Bounded, on_nth, records_from}
+use Rattle.table_record.specs.RecordSteps.{slot_nth, nth_of, nth_in, on_nth, records_from}
 use Rattle.table_read.specs.theory.Reads.{slots_length, unpack_length, basic_slots_in, displaced_slots_in, link_lt}
 use Rattle.table_read.specs.theory.Walks.{one_step, followed, ended_own, content_short, content_bad, content_long, OneStep}
 use Rattle.table_read.specs.theory.Finds.{block_last, block_more}
 use Rattle.table_read.specs.declared.slots.Slots.{Slots}
+use Rattle.table.specs.Answer.{RecordAnswer}
+use Rattle.table.specs.declared.answers.Record.{Record}
+use Rattle.table.specs.declared.damage.Damage.{Damage}
 use Rattle.table_record.specs.declared.Nth.{Nth}
 use Rattle.table_record.specs.declared.Nth.TheVariants as nth
+
+-- what stands at a number in a list that has an end
+abbrev pub stands : Nth → Result Nth Damage
+stands = Ok
+
+-- the answer with a record
+abbrev pub one : Record → RecordAnswer
+one r = Ok (Some r)
 
 module _ (g : Layout) where
   -- ---- slot n of a row
@@ -65,16 +75,9 @@ module _ (g : Layout) where
       let d : n - length (xs ++ ys) ≡ n - length xs - length ys = omega arith in
       nth_past (xs ++ ys) n (omega arith) ∙ ap nth.Past d ∙ sym (nth_past ys (n - length xs) q))
 
-  -- ---- what is no slot has no entry
-
-  pub bounded_past : (m : ℕ) → Bounded g (nth.Past m)
-  bounded_past m = record { below = λ k l e. let z : ◌≡◌ {A = ℕ} 0 1 = cc in absurd (omega arith) }
-
-  pub bounded_damage : Bounded g nth.Damage
-  bounded_damage = record { below = λ k l e. let z : ◌≡◌ {A = ℕ} 0 1 = cc in absurd (omega arith) }
-
-  pub bounded_slot : (k : Key) (l : ℕ) → key_number k < 2 ^ g.bie → Bounded g (nth.Slot k l)
-  bounded_slot k l h = record { below = λ k' l' e. let z : k ≡ k' = cc in rw z at h }
+-- a counter of sib + 1 says that there are overflow blocks
+pub goes_on : (g : Layout) (st : State) (i c h : ℕ) → c ≡ (basic_at st.basic i).counter → h ≡ (basic_at st.basic i).head → g.sib < c → c ≤ g.sib + 1 → Overflows g st i h
+goes_on g st i c h ec eh high low = record { counter = omega arith; head = eh }
 
 -- ---- the slots of an overflow block, and those of the blocks behind it
 
@@ -110,18 +113,18 @@ module _ (g : Layout) (t : List ℕ) (T : Table g t) (k b c : ℕ) (run : Slots)
 -- ---- a list's slots
 
 module _ (g : Layout) (t : List ℕ) (T : Table g t) (i : ℕ) (l : i < g.lists) where
-  pub nth_damaged : (n : ℕ) → content g (decode g t) i ≡ none → nth.Damage ≡ nth_in g (content g (decode g t) i) n
+  pub nth_damaged : (n : ℕ) → content g (decode g t) i ≡ none → Err (record {}) ≡ nth_in g (content g (decode g t) i) n
   unfolding nth_in
   nth_damaged n e = sym (ap (λ (o : Option Content). nth_in g o n) e)
 
   -- those of a list without overflow blocks
   pub nth_short : (n : ℕ) (run : Slots) (c : ℕ) → c ≡ (basic_at (decode g t).basic i).counter → c ≤ g.sib → run ≡ basic_run g i c
-      → nth_of g (slots_in g t run) n ≡ nth_in g (content g (decode g t) i) n
+      → stands (nth_of g (slots_in g t run) n) ≡ nth_in g (content g (decode g t) i) n
   unfolding nth_in
   nth_short n run c ec low er =
       let k : (basic_at (decode g t).basic i).counter ≤ g.sib = omega arith in
-      ap (λ (b : Slots). nth_of g (slots_in g t b) n) (er ∙ ap (basic_run g i) ec)
-      ∙ ap (λ (es : List ℕ). nth_of g es n) (basic_slots_in g t T i (basic_at (decode g t).basic i).counter l k)
+      ap (λ (b : Slots). stands (nth_of g (slots_in g t b) n)) (er ∙ ap (basic_run g i) ec)
+      ∙ ap (λ (es : List ℕ). stands (nth_of g es n)) (basic_slots_in g t T i (basic_at (decode g t).basic i).counter l k)
       ∙ sym (ap (λ (o : Option Content). nth_in g o n) (content_short g (decode g t) i k))
 
   -- those of a list whose overflow blocks start at h and end with z
@@ -161,24 +164,24 @@ module _ (g : Layout) (t : List ℕ) (T : Table g t) (i : ℕ) (l : i < g.lists)
           last_at
           (sym over.head)
 
-      nth_list : (n : ℕ) → nth_in g (content g (decode g t) i) n ≡ nth_of g (first ++ gather_from g g.nob (decode g t).overflow h) n
+      nth_list : (n : ℕ) → nth_in g (content g (decode g t) i) n ≡ stands (nth_of g (first ++ gather_from g g.nob (decode g t).overflow h) n)
       unfolding nth_in
       nth_list n = ap (λ (o : Option Content). nth_in g o n) list_content
 
       pub nth_displaced : (n : ℕ) (run : Slots) (d : ℕ) → d ≡ (overflow_at (decode g t).overflow z).link → run ≡ displaced_run g i d → n < g.sib
-          → nth_of g (slots_in g t run) n ≡ nth_in g (content g (decode g t) i) n
+          → stands (nth_of g (slots_in g t run) n) ≡ nth_in g (content g (decode g t) i) n
       nth_displaced n run d ed er low =
-          ap (λ (b : Slots). nth_of g (slots_in g t b) n) (er ∙ ap (displaced_run g i) ed)
-          ∙ ap (λ (es : List ℕ). nth_of g es n) (displaced_slots_in g t T i (overflow_at (decode g t).overflow z).link l (link_lt g t T z sound))
-          ∙ sym (nth_list n ∙ nth_first g first _ n (omega (arith, first_length)))
+          ap (λ (b : Slots). stands (nth_of g (slots_in g t b) n)) (er ∙ ap (displaced_run g i) ed)
+          ∙ ap (λ (es : List ℕ). stands (nth_of g es n)) (displaced_slots_in g t T i (overflow_at (decode g t).overflow z).link l (link_lt g t T z sound))
+          ∙ sym (nth_list n ∙ ap stands (nth_first g first _ n (omega (arith, first_length))))
 
       pub nth_behind : (n : ℕ) → g.sib ≤ n
-          → nth_of g (gather_from g g.nob (decode g t).overflow h) (n - g.sib) ≡ nth_in g (content g (decode g t) i) n
+          → stands (nth_of g (gather_from g g.nob (decode g t).overflow h) (n - g.sib)) ≡ nth_in g (content g (decode g t) i) n
       nth_behind n high =
           sym
           (nth_list n
-          ∙ nth_second g first _ n (omega (arith, first_length))
-          ∙ ap (λ (k : ℕ). nth_of g (gather_from g g.nob (decode g t).overflow h) (n - k)) first_length)
+          ∙ ap stands (nth_second g first _ n (omega (arith, first_length)))
+          ∙ ap (λ (k : ℕ). stands (nth_of g (gather_from g g.nob (decode g t).overflow h) (n - k))) first_length)
 
 -- ---- the lists in a row
 
@@ -197,15 +200,15 @@ module _ (s : Settings) where
     unfolding records_from record_in
     records_all n = refl
 
-    pub records_none : (i n : ℕ) → length st.basic ≤ i → records_from s st i n ≡ (Ok None)
+    pub records_none : (i n : ℕ) → length st.basic ≤ i → records_from s st i n ≡ Ok None
     unfolding records_from record_from
     records_none i n h = rw (drop_of_length-le st.basic h)
 
-    pub records_step : (g : Layout) → layout_of s ≡ g → (i n : ℕ) → i < length st.basic → (r : Nth) → r ≡ nth_in g (content g st i) n
+    pub records_step : (g : Layout) → layout_of s ≡ g → (i n : ℕ) → i < length st.basic → (r : Result Nth Damage) → r ≡ nth_in g (content g st i) n
         → records_from s st i n ≡ on_nth s i r (λ m. records_from s st (suc i) m)
     unfolding records_from content
     records_step g e i n h r w =
         ap (λ (bs : List Basic). record_from s i bs st.overflow n) (drop-cons st.basic i empty_basic h)
         ∙ record_step i (basic_at st.basic i) (drop (suc i) st.basic) st.overflow n (content_of (layout_of s) i (basic_at st.basic i) st.overflow) refl
-        ∙ ap (λ (x : Nth). on_nth s i x (λ m. record_from s (suc i) (drop (suc i) st.basic) st.overflow m))
+        ∙ ap (λ (x : Result Nth Damage). on_nth s i x (λ m. record_from s (suc i) (drop (suc i) st.basic) st.overflow m))
         (ap (λ (x : Layout). nth_in x (content_of x i (basic_at st.basic i) st.overflow) n) e ∙ sym w)

@@ -1,5 +1,4 @@
 -- Laws of retrieving: the number of a slot, a slot of a list's basic block, and a slot of an overflow block whose list was followed.
-use Rattle.std.specs.Prelude.{Err, None, Ok}
 use mathlib.Core.Path.{◌≡◌, refl, sym, ap, ap₂, subst, ◌∙◌}
 use mathlib.Core.Bool.{Bool, true, false, not}
 use mathlib.Core.List.{List, [], ◌∷◌}
@@ -11,6 +10,8 @@ use lib.ListN.{length, take, get_or, length-take}
 use lib.Seq.{get_or-take}
 use lib.Dec.{ltb}
 use borrow.Author.Tests.{lt-ltb, le-ltb, ltb-true, ltb-false}
+use Rattle.std.specs.Prelude.{Ok, Err, Some, None}
+use Rattle.std.specs.declared.result.Result.{Result}
 use Rattle.laws.specs.Cases.{cases}
 use Rattle.bits.specs.Field.{field}
 use Rattle.bits.specs.theory.Fields.{field_lt}
@@ -34,6 +35,7 @@ use Rattle.table.specs.Record.{record_of}
 use Rattle.table.specs.Take.{occurs}
 use Rattle.table.specs.Numbers.{basic_capacity, capacity}
 use Rattle.table.specs.Retrieve.{basic_found, overflow_found, retrieve_basic, retrieve_overflow, retrieve_in}
+use Rattle.table.specs.Answer.{RecordAnswer, recorded}
 use Rattle.table.specs.Calls.{retrieve_call}
 use Rattle.table.specs.theory.Opened.{due_settings, due_short, due_later}
 use Rattle.table_read.specs.Places.{basic_slot, overflow_slot}
@@ -43,16 +45,12 @@ use Rattle.table_read.specs.theory.Reads.{restored_bytes_out, slots_length, slot
 use Rattle.table_read.specs.theory.Walks.{owns, content_short}
 use Rattle.table_read.specs.theory.BlockSlots.{has_as}
 use Rattle.table_read.specs.declared.slots.Slots.{Slots}
-use Rattle.table_record.specs.RecordSteps.{nth_of, nth_in, on_nth, at_spot, Readable, Stands}
+use Rattle.table.specs.declared.damage.Damage.{Damage}
+use Rattle.table_record.specs.RecordSteps.{nth_of, nth_in, found_record, on_nth, at_spot, Readable, Stands}
 use Rattle.table_record.specs.declared.Nth.{Nth}
-use Rattle.table_record.specs.declared.Nth.TheVariants as nth
 use Rattle.table_record.specs.declared.slot.Spot.{Spot}
 use Rattle.table_record.specs.declared.slot.Spot.TheVariants as spot
-use Rattle.table_record.proofs.Records.{nth_here, nth_past, nth_damaged, nth_short, nth_displaced}
-use Rattle.std.specs.declared.result.Result.{Result}
-use Rattle.std.specs.declared.option.Option.{Option}
-use Rattle.settings.specs.declared.refusal.Refusal.{Refusal}
-use Rattle.table.specs.declared.answers.Record.{Record}
+use Rattle.table_record.proofs.Records.{stands, nth_here, nth_past, nth_damaged, nth_short, nth_displaced, list_content, list_own}
 
 -- ---- the numbers
 
@@ -75,12 +73,15 @@ module _ (g : Layout) (F : Proper g) where
 
 module _ (g : Layout) (os : List Overflow) (j : ℕ) where
   -- what the walk that looks for it says of the list's blocks
-  pub has_own : {i n b : ℕ} (f : OwnFollowed g i n os b) (x : Bool) → has_block g n os b j ≡ x → ltb 0 (occurs j f.blocks) ≡ x
+  has_own : {i n b : ℕ} (f : OwnFollowed g i n os b) (x : Bool) → has_block g n os b j ≡ x → ltb 0 (occurs j f.blocks) ≡ x
   has_own {i} {n} {b} f x e = sym (has_as g os j n b f.blocks (owns g os i f).found) ∙ e
 
 -- the list that it names is one of the table's
-pub owner_below : (g : Layout) (t : List ℕ) → Table g t → (j : ℕ) → j < g.nob → (overflow_at (decode g t).overflow j).owner < g.lists
+owner_below : (g : Layout) (t : List ℕ) → Table g t → (j : ℕ) → j < g.nob → (overflow_at (decode g t).overflow j).owner < g.lists
 owner_below g t T j h = omega (arith, owner_field g t T j h, field_lt t (block_at g.overflow j + (g.overflow.counter + g.link)) g.owner, T.proper.owner_holds)
+
+pub named : (g : Layout) (t : List ℕ) → Table g t → (j : ℕ) → j < g.nob → (i : ℕ) → i ≡ (overflow_at (decode g t).overflow j).owner → i < g.lists
+named g t T j h i e = omega (arith, owner_below g t T j h)
 
 -- a field of n bits, as a key
 pub key_bound : (t : List ℕ) (at n : ℕ) (k : Key) → k ≡ key_of (field t at n) → key_number k < 2 ^ n
@@ -88,22 +89,26 @@ key_bound t at n k e = rw (e, number_key (field t at n)) (field_lt t at n)
 
 -- ---- the answers
 
+-- what stands behind the slots of a row, where no other list is looked at
+abbrev pub none_behind : ℕ → RecordAnswer
+none_behind m = Ok None
+
 module _ (s : Settings) (g : Layout) (laid : layout_of s ≡ g) where
   -- an entry and a label of the slot x, as they were read
-  pub record_as : (i x : ℕ) (k : Key) (l : ℕ) → k ≡ key_of (entry_of g x) → l ≡ label_of g x → RECORD (key_of (rebuilt s i (key_number k))) l ≡ record_of s i x
+  pub record_as : (i x : ℕ) (k : Key) (l : ℕ) → k ≡ key_of (entry_of g x) → l ≡ label_of g x → Ok (Some (found_record s i k l)) ≡ record_of s i x
   record_as i x k l ek el =
-      ap₂ (λ (y : Key) (z : ℕ). RECORD (key_of (rebuilt s i (key_number y))) z) ek el
-      ∙ ap (λ (e : ℕ). RECORD (key_of (rebuilt s i e)) (label_of g x)) (number_key (entry_of g x))
-      ∙ ap (λ (y : Layout). RECORD (key_of (rebuilt s i (entry_of y x))) (label_of y x)) (sym laid)
+      ap₂ (λ (y : Key) (z : ℕ). recorded (key_of (rebuilt s i (key_number y))) z) ek el
+      ∙ ap (λ (e : ℕ). recorded (key_of (rebuilt s i e)) (label_of g x)) (number_key (entry_of g x))
+      ∙ ap (λ (y : Layout). recorded (key_of (rebuilt s i (entry_of y x))) (label_of y x)) (sym laid)
 
   -- slot n of a row
-  here_record : (i : ℕ) (es : List ℕ) (n : ℕ) → n < length es → on_nth s i (nth_of g es n) (λ m. (Ok None)) ≡ record_of s i (get_or es n 0)
+  here_record : (i : ℕ) (es : List ℕ) (n : ℕ) → n < length es → on_nth s i (stands (nth_of g es n)) none_behind ≡ record_of s i (get_or es n 0)
   here_record i es n h =
-      ap (λ (r : Nth). on_nth s i r (λ m. (Ok None))) (nth_here g es n h)
+      ap (λ (r : Nth). on_nth s i (stands r) none_behind) (nth_here g es n h)
       ∙ record_as i (get_or es n 0) (key_of (entry_of g (get_or es n 0))) (label_of g (get_or es n 0)) refl refl
 
-  past_none : (i : ℕ) (es : List ℕ) (n : ℕ) → length es ≤ n → on_nth s i (nth_of g es n) (λ m. (Ok None)) ≡ (Ok None)
-  past_none i es n h = ap (λ (r : Nth). on_nth s i r (λ m. (Ok None))) (nth_past g es n h)
+  past_none : (i : ℕ) (es : List ℕ) (n : ℕ) → length es ≤ n → on_nth s i (stands (nth_of g es n)) none_behind ≡ Ok None
+  past_none i es n h = ap (λ (r : Nth). on_nth s i (stands r) none_behind) (nth_past g es n h)
 
 module _ (s : Settings) (g : Layout) (laid : layout_of s ≡ g) (st : State) where
   -- slot number n
@@ -116,15 +121,15 @@ module _ (s : Settings) (g : Layout) (laid : layout_of s ≡ g) (st : State) whe
   in_overflow n b e h = rw (e, ← laid) (rw (le-ltb n (basic_capacity (layout_of s)) (rw (e, ← laid) at h)))
 
   -- slot p of the basic block of list i
-  basic_as : (i p : ℕ) (o : Option Content) → on_nth s i (nth_in (layout_of s) o p) (λ m. (Ok None)) ≡ basic_found s i p o
+  basic_as : (i p : ℕ) (o : Option Content) → on_nth s i (nth_in (layout_of s) o p) none_behind ≡ basic_found s i p o
   unfolding nth_in nth_of
   basic_as i p none = refl
   basic_as i p (some v) = cases (ltb p (length v.slots)) (λ e. rw (e, number_key)) (λ e. rw e)
 
-  basic_answer : (i p : ℕ) (r : Nth) → r ≡ nth_in g (content g st i) p → on_nth s i r (λ m. (Ok None)) ≡ retrieve_basic s st i p
+  basic_answer : (i p : ℕ) (r : Result Nth Damage) → r ≡ nth_in g (content g st i) p → on_nth s i r none_behind ≡ retrieve_basic s st i p
   unfolding retrieve_basic
   basic_answer i p r e =
-      ap (λ (x : Nth). on_nth s i x (λ m. (Ok None))) (e ∙ ap (λ (x : Layout). nth_in x (content x st i) p) (sym laid))
+      ap (λ (x : Result Nth Damage). on_nth s i x none_behind) (e ∙ ap (λ (x : Layout). nth_in x (content x st i) p) (sym laid))
       ∙ basic_as i p (content (layout_of s) st i)
 
   -- slot k of overflow block j, which names list i
@@ -138,7 +143,7 @@ module _ (s : Settings) (g : Layout) (laid : layout_of s ≡ g) (st : State) whe
         ∙ ap (overflow_found s j k (overflow_at st.overflow j)) e)
 
     -- a list that does not have the block
-    unlisted : (v : Content) → content g st i ≡ some v → ltb 0 (occurs j v.blocks) ≡ false → (Ok None) ≡ retrieve_overflow s st j k
+    unlisted : (v : Content) → content g st i ≡ some v → ltb 0 (occurs j v.blocks) ≡ false → Ok None ≡ retrieve_overflow s st j k
     unlisted v e n = sym (rw n) ∙ overflow_as (some v) e
 
     -- a list that has it: the slot is in use if the counter says so
@@ -150,7 +155,7 @@ module _ (s : Settings) (g : Layout) (laid : layout_of s ≡ g) (st : State) whe
       abbrev used : List ℕ
       used = take (suc block.counter) block.slots
 
-      slot_held : ltb k (suc block.counter) ≡ true → on_nth s i (nth_of g used k) (λ m. (Ok None)) ≡ overflow_found s j k block (some v)
+      slot_held : ltb k (suc block.counter) ≡ true → on_nth s i (stands (nth_of g used k)) none_behind ≡ overflow_found s j k block (some v)
       slot_held q =
           let n = ltb-true k (suc block.counter) q in
           let here : k < length used = omega (arith, length-take (suc block.counter) block.slots) in
@@ -159,19 +164,19 @@ module _ (s : Settings) (g : Layout) (laid : layout_of s ≡ g) (st : State) whe
           ∙ ap (λ (y : ℕ). record_of s y (get_or block.slots k 0)) owner-is
           ∙ sym (rw (has, q))
 
-      slot_unused : ltb k (suc block.counter) ≡ false → on_nth s i (nth_of g used k) (λ m. (Ok None)) ≡ overflow_found s j k block (some v)
+      slot_unused : ltb k (suc block.counter) ≡ false → on_nth s i (stands (nth_of g used k)) none_behind ≡ overflow_found s j k block (some v)
       slot_unused q =
           let past : length used ≤ k = omega (arith, length-take (suc block.counter) block.slots, ltb-false k (suc block.counter) q) in
           past_none s g laid i used k past ∙ sym (rw (has, q))
 
-      slot_answer : on_nth s i (nth_of g used k) (λ m. (Ok None)) ≡ retrieve_overflow s st j k
+      slot_answer : on_nth s i (stands (nth_of g used k)) none_behind ≡ retrieve_overflow s st j k
       slot_answer = cases (ltb k (suc block.counter)) slot_held slot_unused ∙ overflow_as (some v) list_is
 
 -- ---- spots
 
 module _ (g : Layout) (t : List ℕ) where
   -- what is read at a spot
-  module _ (answers : Settings → Result (Option Record) Refusal) (r : Spot) (v : Stands g t answers r) (x : Spot) (e : r ≡ x) where
+  module _ (answers : Settings → RecordAnswer) (r : Result Spot Damage) (v : Stands g t answers r) (x : Result Spot Damage) (e : r ≡ x) where
     pub spot_readable : Readable g t x
     spot_readable = subst (Readable g t) e v.readable
 
@@ -179,18 +184,18 @@ module _ (g : Layout) (t : List ℕ) where
     spot_answer s laid = sym (ap (at_spot g t s) e) ∙ v.are s laid
 
   -- slot number n
-  pub number_basic : (r : Spot) (n : ℕ) → n < basic_capacity g → Stands g t (λ s. retrieve_basic s (decode g t) (n / g.sib) (n % g.sib)) r
+  pub number_basic : (r : Result Spot Damage) (n : ℕ) → n < basic_capacity g → Stands g t (λ s. retrieve_basic s (decode g t) (n / g.sib) (n % g.sib)) r
       → Stands g t (λ s. retrieve_in s (decode g t) n) r
   number_basic r n h v = record { are = λ s laid. v.are s laid ∙ in_basic s g laid (decode g t) n h; readable = v.readable }
 
-  pub number_overflow : (r : Spot) (n b : ℕ) → b ≡ basic_capacity g → b ≤ n → Stands g t (λ s. retrieve_overflow s (decode g t) ((n - b) / g.sio) ((n - b) % g.sio)) r
+  pub number_overflow : (r : Result Spot Damage) (n b : ℕ) → b ≡ basic_capacity g → b ≤ n → Stands g t (λ s. retrieve_overflow s (decode g t) ((n - b) / g.sio) ((n - b) % g.sio)) r
       → Stands g t (λ s. retrieve_in s (decode g t) n) r
   number_overflow r n b e h v = record { are = λ s laid. v.are s laid ∙ in_overflow s g laid (decode g t) n b e h; readable = v.readable }
 
   -- place j of the slots `run`, which are of list i
-  module _ (F : Proper g) (run : Slots) (R : SlotsWithin g t run) (i : ListNumber) (l : i.0 < g.lists) (j : SlotNumber) (answers : Settings → Result (Option Record) Refusal)
-      (is : (s : Settings) → layout_of s ≡ g → on_nth s i.0 (nth_of g (slots_in g t run) j.0) (λ m. (Ok None)) ≡ answers s) where
-    past_row : run.count ≤ j.0 → Stands g t answers spot.Empty
+  module _ (F : Proper g) (run : Slots) (R : SlotsWithin g t run) (i : ListNumber) (l : i.0 < g.lists) (j : SlotNumber) (answers : Settings → RecordAnswer)
+      (is : (s : Settings) → layout_of s ≡ g → on_nth s i.0 (stands (nth_of g (slots_in g t run) j.0)) none_behind ≡ answers s) where
+    past_row : run.count ≤ j.0 → Stands g t answers (Ok spot.Empty)
     past_row h =
         record {
           are = λ s laid. sym (past_none s g laid i.0 (slots_in g t run) j.0 (omega (arith, slots_length g t run))) ∙ is s laid;
@@ -198,7 +203,7 @@ module _ (g : Layout) (t : List ℕ) where
         }
 
     module _ (h : j.0 < run.count) where
-      under_row : Stands g t answers (spot.Under i run j)
+      under_row : Stands g t answers (Ok (spot.Under i run j))
       under_row =
           record {
             are = λ s laid. sym (here_record s g laid i.0 (slots_in g t run) j.0 (omega (arith, slots_length g t run))) ∙ is s laid;
@@ -206,7 +211,7 @@ module _ (g : Layout) (t : List ℕ) where
           }
 
       -- behind the displaced bits it is read as it stands
-      in_row : (at : ℕ) → at ≡ run.start + j.0 * g.slot → run.start + run.displaced ≤ at → Stands g t answers (spot.Slot i at)
+      in_row : (at : ℕ) → at ≡ run.start + j.0 * g.slot → run.start + run.displaced ≤ at → Stands g t answers (Ok (spot.Slot i at))
       in_row at e o =
           let q = slot_inside g t run j.0 h in
           let f : FieldWithin t run at g.slot =
@@ -221,24 +226,24 @@ module _ (g : Layout) (t : List ℕ) where
 -- ---- a slot of a basic block
 
 module _ (g : Layout) (t : List ℕ) (T : Table g t) (i : ListNumber) (l : i.0 < g.lists) (p : SlotNumber) where
-  pub basic_damaged : content g (decode g t) i.0 ≡ none → Stands g t (λ s. retrieve_basic s (decode g t) i.0 p.0) spot.Damage
+  pub basic_damaged : content g (decode g t) i.0 ≡ none → Stands g t (λ s. retrieve_basic s (decode g t) i.0 p.0) (Err (record {}))
   basic_damaged e =
       record {
-        are = λ s laid. basic_answer s g laid (decode g t) i.0 p.0 nth.Damage (nth_damaged g t T i.0 l p.0 e);
+        are = λ s laid. basic_answer s g laid (decode g t) i.0 p.0 (Err (record {})) (nth_damaged g t T i.0 l p.0 e);
         readable = tt;
       }
 
   -- of a list without overflow blocks
   module _ (c : ℕ) (ec : c ≡ (basic_at (decode g t).basic i.0).counter) (low : c ≤ g.sib) where
     short_row : (s : Settings) → layout_of s ≡ g
-        → on_nth s i.0 (nth_of g (slots_in g t (basic_run g i.0 c)) p.0) (λ m. (Ok None)) ≡ retrieve_basic s (decode g t) i.0 p.0
+        → on_nth s i.0 (stands (nth_of g (slots_in g t (basic_run g i.0 c)) p.0)) none_behind ≡ retrieve_basic s (decode g t) i.0 p.0
     short_row s laid = basic_answer s g laid (decode g t) i.0 p.0 _ (nth_short g t T i.0 l p.0 (basic_run g i.0 c) c ec low refl)
 
-    pub short_empty : c ≤ p.0 → Stands g t (λ s. retrieve_basic s (decode g t) i.0 p.0) spot.Empty
+    pub short_empty : c ≤ p.0 → Stands g t (λ s. retrieve_basic s (decode g t) i.0 p.0) (Ok spot.Empty)
     unfolding basic_run
     short_empty h = past_row g t T.proper (basic_run g i.0 c) (basic_run_within g t T i.0 c l low) i l p _ short_row h
 
-    pub short_slot : (at : ℕ) → at ≡ basic_slot g i.0 p.0 → p.0 < c → Stands g t (λ s. retrieve_basic s (decode g t) i.0 p.0) (spot.Slot i at)
+    pub short_slot : (at : ℕ) → at ≡ basic_slot g i.0 p.0 → p.0 < c → Stands g t (λ s. retrieve_basic s (decode g t) i.0 p.0) (Ok (spot.Slot i at))
     unfolding basic_run basic_slot
     short_slot at e h = in_row g t T.proper (basic_run g i.0 c) (basic_run_within g t T i.0 c l low) i l p _ short_row h at e (omega arith)
 
@@ -250,7 +255,7 @@ module _ (g : Layout) (t : List ℕ) (T : Table g t) (i : ListNumber) (l : i.0 <
       pub displaced : run.displaced ≡ g.link
       pub within : SlotsWithin g t run
       pub are : (s : Settings) → layout_of s ≡ g
-          → on_nth s i.0 (nth_of g (slots_in g t run) p.0) (λ m. (Ok None)) ≡ retrieve_basic s (decode g t) i.0 p.0
+          → on_nth s i.0 (stands (nth_of g (slots_in g t run) p.0)) none_behind ≡ retrieve_basic s (decode g t) i.0 p.0
 
     -- the blocks start at h and end with z
     pub long_row : (h z : ℕ) (over : Overflows g (decode g t) i.0 h) (last_is : z ≡ last_from g i.0 g.nob (decode g t).overflow h) (sound : z < g.nob)
@@ -265,10 +270,10 @@ module _ (g : Layout) (t : List ℕ) (T : Table g t) (i : ListNumber) (l : i.0 <
           are = λ s laid. basic_answer s g laid (decode g t) i.0 p.0 _ (nth_displaced g t T i.0 l h z over last_is sound p.0 run d ed er low);
         }
 
-    pub long_under : LongRow → Stands g t (λ s. retrieve_basic s (decode g t) i.0 p.0) (spot.Under i run p)
+    pub long_under : LongRow → Stands g t (λ s. retrieve_basic s (decode g t) i.0 p.0) (Ok (spot.Under i run p))
     long_under r = under_row g t T.proper run r.within i l p _ r.are r.holds
 
-    pub long_slot : LongRow → (at : ℕ) → at ≡ basic_slot g i.0 p.0 → run.start + g.link ≤ at → Stands g t (λ s. retrieve_basic s (decode g t) i.0 p.0) (spot.Slot i at)
+    pub long_slot : LongRow → (at : ℕ) → at ≡ basic_slot g i.0 p.0 → run.start + g.link ≤ at → Stands g t (λ s. retrieve_basic s (decode g t) i.0 p.0) (Ok (spot.Slot i at))
     unfolding basic_slot
     long_slot r at e o =
         in_row g t T.proper run r.within i l p _ r.are r.holds at (omega (arith, r.start)) (omega (arith, r.displaced))
@@ -281,31 +286,41 @@ pub record Listed (g : Layout) (t : List ℕ) (i j : ℕ) (x : Bool) : Type 0 wh
   pub is : content g (decode g t) i ≡ some list
   pub has : ltb 0 (occurs j list.blocks) ≡ x
 
+-- a list with overflow blocks from h on that was followed to its end
+pub list_listed : (g : Layout) (t : List ℕ) (T : Table g t) (i : ℕ) → i < g.lists → (h : ℕ) → Overflows g (decode g t) i h
+    → last_from g i g.nob (decode g t).overflow h < g.nob → (j : ℕ) (x : Bool) → has_block g g.nob (decode g t).overflow h j ≡ x → Listed g t i j x
+list_listed g t T i l h over low j x e =
+    record {
+      list = _;
+      is = list_content g t T i l h _ over refl low;
+      has = has_own g (decode g t).overflow j (list_own g t T i l h _ over refl low) x e;
+    }
+
 module _ (g : Layout) (t : List ℕ) (i : ListNumber) (j : ℕ) (k : SlotNumber) (owner-is : i.0 ≡ (overflow_at (decode g t).overflow j).owner) where
-  pub list_damaged : content g (decode g t) i.0 ≡ none → Stands g t (λ s. retrieve_overflow s (decode g t) j k.0) spot.Damage
+  pub list_damaged : content g (decode g t) i.0 ≡ none → Stands g t (λ s. retrieve_overflow s (decode g t) j k.0) (Err (record {}))
   list_damaged e = record { are = λ s laid. overflow_as s g laid (decode g t) i.0 j k.0 owner-is none e; readable = tt }
 
   -- the list does not have the block
-  pub not_listed : Listed g t i.0 j false → Stands g t (λ s. retrieve_overflow s (decode g t) j k.0) spot.Empty
+  pub not_listed : Listed g t i.0 j false → Stands g t (λ s. retrieve_overflow s (decode g t) j k.0) (Ok spot.Empty)
   not_listed v = record { are = λ s laid. unlisted s g laid (decode g t) i.0 j k.0 owner-is v.list v.is v.has; readable = tt }
 
-  pub no_blocks : (basic_at (decode g t).basic i.0).counter ≤ g.sib → Stands g t (λ s. retrieve_overflow s (decode g t) j k.0) spot.Empty
+  pub no_blocks : (basic_at (decode g t).basic i.0).counter ≤ g.sib → Stands g t (λ s. retrieve_overflow s (decode g t) j k.0) (Ok spot.Empty)
   no_blocks h = not_listed (record { list = _; is = content_short g (decode g t) i.0 h; has = refl })
 
   -- it has the block: the counter decides
   module _ (T : Table g t) (l : i.0 < g.lists) (jl : j < g.nob) (kl : k.0 < g.sio) (v : Listed g t i.0 j true) (c : ℕ) (ec : c ≡ (overflow_at (decode g t).overflow j).counter) where
     block_row : (s : Settings) → layout_of s ≡ g
-        → on_nth s i.0 (nth_of g (slots_in g t (overflow_run g j c)) k.0) (λ m. (Ok None)) ≡ retrieve_overflow s (decode g t) j k.0
+        → on_nth s i.0 (stands (nth_of g (slots_in g t (overflow_run g j c)) k.0)) none_behind ≡ retrieve_overflow s (decode g t) j k.0
     block_row s laid =
-        ap (λ (xs : List ℕ). on_nth s i.0 (nth_of g xs k.0) (λ m. (Ok None)))
+        ap (λ (xs : List ℕ). on_nth s i.0 (stands (nth_of g xs k.0)) none_behind)
         (ap (λ (n : ℕ). slots_in g t (overflow_run g j n)) ec ∙ overflow_slots_in g t T j (overflow_at (decode g t).overflow j).counter jl)
         ∙ slot_answer s g laid (decode g t) i.0 j k.0 owner-is v.list v.is v.has (sized g t T j jl) kl
 
-    pub block_empty : c < k.0 → Stands g t (λ s. retrieve_overflow s (decode g t) j k.0) spot.Empty
+    pub block_empty : c < k.0 → Stands g t (λ s. retrieve_overflow s (decode g t) j k.0) (Ok spot.Empty)
     unfolding overflow_run
     block_empty h = past_row g t T.proper (overflow_run g j c) (overflow_run_within g t T j c jl) i l k _ block_row (omega arith)
 
-    pub block_slot_lem : (at : ℕ) → at ≡ overflow_slot g j k.0 → k.0 ≤ c → Stands g t (λ s. retrieve_overflow s (decode g t) j k.0) (spot.Slot i at)
+    pub block_slot_lem : (at : ℕ) → at ≡ overflow_slot g j k.0 → k.0 ≤ c → Stands g t (λ s. retrieve_overflow s (decode g t) j k.0) (Ok (spot.Slot i at))
     unfolding overflow_run overflow_slot
     block_slot_lem at e h = in_row g t T.proper (overflow_run g j c) (overflow_run_within g t T j c jl) i l k _ block_row (omega arith) at e (omega arith)
 
@@ -315,7 +330,7 @@ module _ (s : Settings) (t : List ℕ) (n : ℕ) where
   abbrev number_due : List Due
   number_due = due (not (ltb n (capacity (layout_of s)))) refusal.Slot ∷ []
 
-  abbrev found : Result (Option Record) Refusal
+  abbrev found : RecordAnswer
   found = retrieve_in s (decode (layout_of s) t) n
 
   pub call_illegal : legal s ≡ false → Err refusal.Settings ≡ retrieve_call s t n

@@ -14,8 +14,8 @@ ghost use Rattle.table_record.specs.RecordSteps.{Ready, Stands};
 
 use crate::found;
 use keys::{BlockNumber, Key, ListNumber, SlotNumber};
-use settings::{Laid, Layout, Refusal, Settings};
-use table::RecordAnswer;
+use settings::{Layout, Refusal, Settings};
+use table::{Damage, Record};
 use table_read::blocks::{basic_counter, basic_front, basic_head, overflow_link, owned_front};
 use table_read::lists::{displaced_run, follow, list_has_block};
 use table_read::numbers::basic_capacity;
@@ -23,7 +23,6 @@ use table_read::places::{basic_slot, overflow_slot};
 use table_read::slots::{Slots, entry_in, label_in};
 
 // Where the slot of a number stands: at a bit, as it stands; among slots whose first bits are displaced; or it is not in use.
-// The slots of a damaged list stand nowhere.
 #[derive(Clone, Copy)]
 pub enum Spot {
     Slot {
@@ -36,25 +35,20 @@ pub enum Spot {
         slot: SlotNumber,
     },
     Empty,
-    Damage,
 }
 
-// The key and the label in slot number n (clauses 6.18, 6.19), or "none" if it is not in use.
-pub fn retrieve(s: Settings, t: &[u8], n: u64) -> RecordAnswer
+// The key and the label in slot number n (clauses 6.18, 6.19), or none if it is not in use.
+pub fn retrieve(s: Settings, t: &[u8], n: u64) -> Result<Option<Record>, Refusal>
     ensures { result ≡ retrieve_call s t.now n }
 {
-    match s.layout() {
-        Laid::Layout(g) => {
-            if t.len() < g.bytes {
-                return RecordAnswer::Refused(Refusal::Short);
-            }
-            if n >= slot_count(g) {
-                return RecordAnswer::Refused(Refusal::Slot);
-            }
-            retrieve_in(s, t, g, n)
-        }
-        Laid::Refused(why) => RecordAnswer::Refused(why),
+    let g = s.layout()?;
+    if t.len() < g.bytes {
+        return Err(Refusal::Short);
     }
+    if n >= slot_count(g) {
+        return Err(Refusal::Slot);
+    }
+    retrieve_in(s, t, g, n)
 }
 
 // How many slots the table has.
@@ -67,29 +61,28 @@ fn slot_count(g: Layout) -> u64
 
 // The same of a table, and of a number that a slot has. The spot is found first and read here alone: what reads it is then
 // called from one place, and is inlined.
-fn retrieve_in(s: Settings, t: &[u8], g: Layout, n: u64) -> RecordAnswer
+fn retrieve_in(s: Settings, t: &[u8], g: Layout, n: u64) -> Result<Option<Record>, Refusal>
     requires { Ready s g t.now × (n < capacity g) }
     ensures { result ≡ retrieve_in s (decode g t.now) n }
 {
-    match spot_of(t, g, n) {
+    match spot_of(t, g, n)? {
         Spot::Slot { list, at } => {
             let entry = key_at(t, at, g.bie);
             let label = bits::get(t, at + g.bie, g.val) as u32;
-            found(s, list, entry, label)
+            Ok(Some(found(s, list, entry, label)))
         }
-        Spot::Under { list, run, slot } => found(
-            s,
-            list,
-            entry_in(&t[..], g, run, slot),
-            label_in(&t[..], g, run, slot),
-        ),
-        Spot::Empty => RecordAnswer::None,
-        Spot::Damage => RecordAnswer::Refused(Refusal::Damage),
+        Spot::Under { list, run, slot } => {
+            let entry = entry_in(&t[..], g, run, slot);
+            let label = label_in(&t[..], g, run, slot);
+            Ok(Some(found(s, list, entry, label)))
+        }
+        Spot::Empty => Ok(None),
     }
 }
 
-// Where slot number n stands. The numbers have less than 32 bits, in which a division is faster.
-fn spot_of(t: &[u8], g: Layout, n: u64) -> Spot
+// Where slot number n stands; the slots of a damaged list stand nowhere. The numbers have less than 32 bits, in which a
+// division is faster.
+fn spot_of(t: &[u8], g: Layout, n: u64) -> Result<Spot, Damage>
     requires { Table g t.now × (n < capacity g) }
     ensures { Stands g t.now (λ s. retrieve_in s (decode g t.now) n) result }
 {
@@ -115,7 +108,7 @@ fn spot_of(t: &[u8], g: Layout, n: u64) -> Spot
 }
 
 // Where slot p of the basic block of list i stands.
-fn in_basic(t: &[u8], g: Layout, i: ListNumber, p: SlotNumber) -> Spot
+fn in_basic(t: &[u8], g: Layout, i: ListNumber, p: SlotNumber) -> Result<Spot, Damage>
     requires { Table g t.now × (i.0 < g.lists) × (p.0 < g.sib) }
     ensures { Stands g t.now (λ s. retrieve_basic s (decode g t.now) i.0 p.0) result }
 {
@@ -124,40 +117,38 @@ fn in_basic(t: &[u8], g: Layout, i: ListNumber, p: SlotNumber) -> Spot
         return in_long(t, g, i, p, count);
     }
     if p.0 >= count {
-        return Spot::Empty;
+        return Ok(Spot::Empty);
     }
-    Spot::Slot {
+    Ok(Spot::Slot {
         list: i,
         at: basic_slot(g, i, p),
-    }
+    })
 }
 
 // The same of a list whose counter says that there is more than its basic block. It is followed to its end first.
-fn in_long(t: &[u8], g: Layout, i: ListNumber, p: SlotNumber, count: usize) -> Spot
+fn in_long(t: &[u8], g: Layout, i: ListNumber, p: SlotNumber, count: usize) -> Result<Spot, Damage>
     requires { Table g t.now × (i.0 < g.lists) × (p.0 < g.sib) × (count ≡ (basic_at (decode g t.now).basic i.0).counter) × (g.sib < count) }
     ensures { Stands g t.now (λ s. retrieve_basic s (decode g t.now) i.0 p.0) result }
 {
     if count > g.sib + 1 {
-        return Spot::Damage;
+        return Err(Damage);
     }
-    let Ok(last) = follow(t, g, i, BlockNumber(basic_head(t, g, i))) else {
-        return Spot::Damage;
-    };
+    let last = follow(t, g, i, BlockNumber(basic_head(t, g, i)))?;
     let at = basic_slot(g, i, p);
     let run = displaced_run(g, i, overflow_link(t, g, last));
     if at < run.start + g.link {
-        return Spot::Under {
+        return Ok(Spot::Under {
             list: i,
-            run: run,
+            run,
             slot: p,
-        };
+        });
     }
-    Spot::Slot { list: i, at: at }
+    Ok(Spot::Slot { list: i, at })
 }
 
 // Where slot k of overflow block j stands. The list that the block names is followed to its end first; the block is in use
 // if it is one of that list's.
-fn in_overflow(t: &[u8], g: Layout, j: BlockNumber, k: SlotNumber) -> Spot
+fn in_overflow(t: &[u8], g: Layout, j: BlockNumber, k: SlotNumber) -> Result<Spot, Damage>
     requires { Table g t.now × (j.0 < g.nob) × (k.0 < g.sio) }
     ensures { Stands g t.now (λ s. retrieve_overflow s (decode g t.now) j.0 k.0) result }
 {
@@ -165,25 +156,23 @@ fn in_overflow(t: &[u8], g: Layout, j: BlockNumber, k: SlotNumber) -> Spot
     let i = fields.owner;
     let front = basic_front(t, g, i);
     if front.counter <= g.sib {
-        return Spot::Empty;
+        return Ok(Spot::Empty);
     }
     if front.counter > g.sib + 1 {
-        return Spot::Damage;
+        return Err(Damage);
     }
     let first = BlockNumber(front.link);
-    let Ok(_) = follow(t, g, i, first) else {
-        return Spot::Damage;
-    };
+    follow(t, g, i, first)?;
     if !list_has_block(t, g, first, j) {
-        return Spot::Empty;
+        return Ok(Spot::Empty);
     }
     if k.0 > fields.front.counter {
-        return Spot::Empty;
+        return Ok(Spot::Empty);
     }
-    Spot::Slot {
+    Ok(Spot::Slot {
         list: i,
         at: overflow_slot(g, j, k),
-    }
+    })
 }
 
 // The n bits from bit `at` on, as they stand. The same as in table_cursor: each serves one place and is inlined there.
