@@ -14,7 +14,7 @@ use Rattle.text_read.specs.theory.Answers.{unread}
 use Rattle.text_run.specs.Run.{run}
 use Rattle.text_run.specs.Answers.{taking, taken_of}
 use Rattle.text_run.specs.theory.Run.{Stops, run_stops, run_take, run_front}
-use Rattle.std.specs.declared.result.Result.{Result}
+use Rattle.text_run.specs.declared.Taken.{Taken}
 
 -- a legal text is taken whatever stops it
 pub taken_stops : (s t : List ℕ) (k : Key) → reading_of s ≡ Ok k → Stops t → taken_of (s ++ t) ≡ Ok (record { key = k; bytes = length s })
@@ -42,8 +42,8 @@ taken_legal s k n e = go (reading_of (run s)) refl e
 
     go : (p : Result Key Refusal) → reading_of (run s) ≡ p → taking (length (run s)) p ≡ Ok (record { key = k; bytes = n }) → Legal s k n
     go (Ok j) r e =
-        let t : (let u : Result Taken Refusal = record { key = j; bytes = length (run s) } in u) ≡ record { key = k; bytes = n } = cc in
-        of_run (r ∙ ap Ok (ap (λ (u : Result Taken Refusal). u.key) t)) (ap (λ (u : Result Taken Refusal). u.bytes) t)
+        let t : (let u : Taken = record { key = j; bytes = length (run s) } in u) ≡ record { key = k; bytes = n } = cc in
+        of_run (r ∙ ap Ok (ap (λ (u : Taken). u.key) t)) (ap (λ (u : Taken). u.bytes) t)
     go (Err why) r e = absurd (let z : ◌≡◌ {A = ℕ} 0 1 = cc in omega arith)
 
 -- "still refuse 4 if bytes follow the run": such a text is not legal as a whole
