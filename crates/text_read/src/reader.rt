@@ -40,6 +40,7 @@ fn ended(value: u64, next: usize, class: u64, end: u64) -> Option<Numeral>
 
 // x if the second byte of a field is no digit, else y if the third is none, else z. All three are computed already, so that
 // the choice is compiled to no jump: one on the length of a group is badly predicted.
+#[tactic(auto, unfolding(crate::specs::ReaderSteps::by_length))]
 fn by_length(b: u64, c: u64, x: u64, y: u64, z: u64) -> u64
     ensures { result ≡ by_length b c x y z }
 {
@@ -53,6 +54,7 @@ fn by_length(b: u64, c: u64, x: u64, y: u64, z: u64) -> u64
 }
 
 // The group in the field from `at` on, by the classes of the five bytes from there: none is looked up twice.
+#[tactic(auto, using(crate::proofs::Fields::digits_below, crate::proofs::Fields::five_most, crate::proofs::Fields::three_most))]
 fn group_of(text: &[u8], at: usize, a: u64, b: u64, c: u64, d: u64, e: u64) -> Option<Numeral>
     requires { Five text.now at a b c d e × (at ≤ length text.now) }
     ensures { result ≡ group_in (until colon (drop at text.now)) at }

@@ -2,43 +2,13 @@
 use Prim.Native.Nat.{◌≤◌}
 use mathlib.Core.Path.{◌∙◌, sym}
 use native.Mathlib.Omega.{arith}
-use Rattle.text_read.proofs.Fields.{digits_below, digit_above, five_most, three_most, group_none, group_short, group_four}
+use Rattle.text_read.proofs.Fields.{digits_below, digit_above, five_most, group_none, group_short, group_four}
 use Rattle.text_read.proofs.reader.group_of.Goals as goal
 use Rattle.text_read.proofs.reader.group_of.Goals.{Else-a-gt15}
 
 most : (c : Else-a-gt15) → (c.args.b ≤ 18) × (c.args.c ≤ 18)
 most c =
     five_most c.args.text.now c.args.at c.args.a c.args.b c.args.c c.args.d c.args.e c.requires.0
-
-pub overflow_mul-a : goal.overflow_mul-a
-overflow_mul-a c =
-    let l = digits_below c.args.a c.args.b c.args.c c.args.d c.if-a-b-lt16.true in
-    omega (arith, l.0, l.1, l.2, l.3)
-
-pub overflow_add-a : goal.overflow_add-a
-overflow_add-a c =
-    let l = digits_below c.args.a c.args.b c.args.c c.args.d c.if-a-b-lt16.true in
-    omega (arith, l.0, l.1, l.2, l.3)
-
-pub overflow_mul-a-then-a-b-lt16 : goal.overflow_mul-a-then-a-b-lt16
-overflow_mul-a-then-a-b-lt16 c =
-    let l = digits_below c.args.a c.args.b c.args.c c.args.d c.if-a-b-lt16.true in
-    omega (arith, l.0, l.1, l.2, l.3)
-
-pub overflow_add-a-then-a-b-lt16 : goal.overflow_add-a-then-a-b-lt16
-overflow_add-a-then-a-b-lt16 c =
-    let l = digits_below c.args.a c.args.b c.args.c c.args.d c.if-a-b-lt16.true in
-    omega (arith, l.0, l.1, l.2, l.3)
-
-pub overflow_mul-a-then-a-b-lt16-2 : goal.overflow_mul-a-then-a-b-lt16-2
-overflow_mul-a-then-a-b-lt16-2 c =
-    let l = digits_below c.args.a c.args.b c.args.c c.args.d c.if-a-b-lt16.true in
-    omega (arith, l.0, l.1, l.2, l.3)
-
-pub overflow_add-a-then-a-b-lt16-2 : goal.overflow_add-a-then-a-b-lt16-2
-overflow_add-a-then-a-b-lt16-2 c =
-    let l = digits_below c.args.a c.args.b c.args.c c.args.d c.if-a-b-lt16.true in
-    omega (arith, l.0, l.1, l.2, l.3)
 
 pub returns-then-a-b-lt16 : goal.returns-then-a-b-lt16
 returns-then-a-b-lt16 c =
@@ -48,22 +18,6 @@ returns-then-a-b-lt16 c =
 pub returns-then-a-gt15 : goal.returns-then-a-gt15
 returns-then-a-gt15 c =
     sym (group_none c.args.text.now c.args.at c.args.a c.args.b c.args.c c.args.d c.args.e c.requires.0 c.if-a-gt15.true)
-
-pub overflow_add-a-2 : goal.overflow_add-a-2
-overflow_add-a-2 c = omega (arith, (most (goal.at.overflow_add-a-2 c).Else-a-gt15).0)
-
-pub overflow_add-a-3 : goal.overflow_add-a-3
-overflow_add-a-3 c = omega (arith, (most (goal.at.overflow_add-a-3 c).Else-a-gt15).0)
-
-pub overflow_mul-a-4 : goal.overflow_mul-a-4
-overflow_mul-a-4 c = omega (arith, (most (goal.at.overflow_mul-a-4 c).Else-a-gt15).0)
-
-pub overflow_add-a-4 : goal.overflow_add-a-4
-overflow_add-a-4 c = omega (arith, (most (goal.at.overflow_add-a-4 c).Else-a-gt15).0, (most (goal.at.overflow_add-a-4 c).Else-a-gt15).1)
-
-pub overflow_add-at-2 : goal.overflow_add-at-2
-overflow_add-at-2 c =
-    omega (arith, c.by_length-count.ensures, three_most c.args.b c.args.c)
 
 pub returns : goal.returns
 returns c =
