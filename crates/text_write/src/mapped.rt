@@ -64,7 +64,9 @@ fn digits_and_dot(byte: u32) -> u64
     (0x2e303030 + byte * 65536 - byte / 10 * 655104 - byte / 100 * 2559) as u64
 }
 
-// A byte in decimal that ends before `end`. Its dot would be the fifth byte, and is not stored.
+// A byte in decimal that ends before `end`. Its dot would be the fifth byte, and is not stored. It stays beside the next
+// one, which has a dot: the two stores begin at other places, and one function of both would take the place, the factor and
+// the text as parameters.
 fn put_decimal(text: &mut [u8], end: usize, byte: u32)
     requires { (4 ≤ end) × (end ≤ length text.old) × (byte < 256) }
     ensures { PutsBack (decimal_text byte) end text.old text.new }
