@@ -1,7 +1,7 @@
 // The text of an address under ::ffff:0:0/96, which ends in four decimals. It is put where it stays, from its end to its
 // start, and every store lies within it: of each decimal three digits are stored, and what comes to the left of it is
 // stored over its leading zeros.
-ghost use Rattle.std.specs.Prelude.{◌+◌, ◌/◌, ◌%◌, ◌<◌, ◌≤◌, [], ◌∷◌, ◌++◌, ◌≡◌, length};
+ghost use Rattle.std.specs.Prelude.{◌+◌, ◌/◌, ◌%◌, ◌^◌, ◌<◌, ◌≤◌, [], ◌∷◌, ◌++◌, ◌≡◌, length};
 ghost use Rattle.text_write.specs.Ascii.{ascii};
 ghost use Rattle.text_write.specs.Decimal.{decimal_text};
 ghost use Rattle.text_write.specs.Writing.{is_mapped, mapped_text};
@@ -18,6 +18,13 @@ pub(crate) fn is_mapped(key: Key) -> bool
         return false;
     }
     key.low / 4294967296 == 0xffff
+}
+
+// The last four bytes of an address, as one number.
+fn last_four(low: u64) -> u32
+    ensures { result ≡ low % 2 ^ 32 }
+{
+    (low % 4294967296) as u32
 }
 
 // Where the four decimals of a text end.
@@ -42,7 +49,7 @@ fn decimal_end(at: usize, byte: u32) -> usize
 pub(crate) fn decimal_ends(low: u64) -> Ends
     ensures { EndsOf low result }
 {
-    let x = (low % 4294967296) as u32;
+    let x = last_four(low);
     let first = decimal_end(6, x / 16777216);
     let second = decimal_end(first, x / 65536 % 256);
     let third = decimal_end(second, x / 256 % 256);
@@ -64,7 +71,9 @@ fn digits_and_dot(byte: u32) -> u64
     (0x2e303030 + byte * 65536 - byte / 10 * 655104 - byte / 100 * 2559) as u64
 }
 
-// A byte in decimal that ends before `end`. Its dot would be the fifth byte, and is not stored.
+// A byte in decimal that ends before `end`. Its dot would be the fifth byte, and is not stored. It stays beside the next
+// one, which has a dot: the two stores begin at other places, and one function of both would take the place, the factor and
+// the text as parameters.
 fn put_decimal(text: &mut [u8], end: usize, byte: u32)
     requires { (4 ≤ end) × (end ≤ length text.old) × (byte < 256) }
     ensures { PutsBack (decimal_text byte) end text.old text.new }
@@ -94,7 +103,7 @@ pub(crate) fn put_mapped(text: &mut [u8], low: u64, ends: Ends) -> usize
     requires { EndsOf low ends × (ends.last ≤ length text.old) }
     ensures { Puts (mapped_text low) result text.old text.new result × (result ≡ length (mapped_text low)) }
 {
-    let x = (low % 4294967296) as u32;
+    let x = last_four(low);
     put_decimal(text, ends.last, x % 256);
     put_with_dot(text, ends.third, x / 256 % 256);
     put_with_dot(text, ends.second, x / 65536 % 256);

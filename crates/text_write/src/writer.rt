@@ -51,7 +51,9 @@ fn digit_count(group: u16) -> u32
     (35 - u32::leading_zeros(u32::from(group) / 2 * 2 + 1)) / 4
 }
 
-// A group and a colon. The group is moved up, so that its first digit that counts comes first.
+// A group and a colon. The group is moved up, so that its first digit that counts comes first. `text` and `at` stay two
+// parameters: the contracts say what stands in the lent bytes and what has not changed, and a struct that holds a borrow of
+// them would say the same of its fields.
 fn put_group(text: &mut [u8], at: usize, group: u16) -> usize
     requires { at + 5 ≤ length text.old }
     ensures { Puts (take at text.old ++ (group_text group ++ 58 ∷ [])) (at + 5) text.old text.new result }

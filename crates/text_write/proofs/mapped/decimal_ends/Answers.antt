@@ -12,17 +12,17 @@ within n h = (count_within n h).1
 
 pub decimal_end-second-requires : goal.decimal_end-second-requires
 decimal_end-second-requires c =
-    let x : ℕ = c.args.low % 2 ^ 32 in
+    let x : ℕ = c.last_four-x.result in
     (omega (arith, c.decimal_end-first.ensures, within (x / 2 ^ 24) (omega arith)), omega arith)
 
 pub decimal_end-third-requires : goal.decimal_end-third-requires
 decimal_end-third-requires c =
-    let x : ℕ = c.args.low % 2 ^ 32 in
+    let x : ℕ = c.last_four-x.result in
     (omega (arith, c.decimal_end-first.ensures, c.decimal_end-second.ensures, within (x / 2 ^ 24) (omega arith), within (x / 2 ^ 16 % 256) (omega arith)), omega arith)
 
 pub decimal_end-last-requires : goal.decimal_end-last-requires
 decimal_end-last-requires c =
-    let x : ℕ = c.args.low % 2 ^ 32 in (
+    let x : ℕ = c.last_four-x.result in (
       omega (
         arith,
         c.decimal_end-first.ensures,

@@ -15,8 +15,9 @@ returns c =
     let e = c.requires.0 in
     let size = ends_size e in
     let back =
-    four_back (decimal_text (x / 16777216)) (decimal_text (x / 65536 % 256)) (decimal_text (x / 256 % 256)) (decimal_text (x % 256)) _ _ _ c.put_decimal.ensures
-    c.put_with_dot.ensures c.put_with_dot-2.ensures c.put_with_dot-3.ensures e.second e.third e.last
+    four_back (decimal_text (x / 16777216)) (decimal_text (x / 65536 % 256)) (decimal_text (x / 256 % 256)) (decimal_text (x % 256)) _ _ _
+    (rw c.last_four-x.ensures at c.put_decimal.ensures) (rw c.last_four-x.ensures at c.put_with_dot.ensures)
+    (rw c.last_four-x.ensures at c.put_with_dot-2.ensures) (rw c.last_four-x.ensures at c.put_with_dot-3.ensures) e.second e.third e.last
     in
     (front_back back c.put_prefix.ensures refl (whole c.args.low) (sym size), size)
   where

@@ -2,15 +2,9 @@
 use native.Mathlib.Omega.{arith}
 use mathlib.Core.Path.{ap, ◌∙◌}
 use Prim.Native.Nat.{ℕ, ◌+◌, ◌*◌, ◌/◌, ◌%◌}
-use lib.Bits.{bit_and, and_le_r}
+use lib.Bits.{bit_and}
 use Rattle.text_write.specs.theory.Digits.{characters_are}
 use Rattle.text_write.proofs.writer.characters.Goals as goal
-
-pub overflow_mul-result : goal.overflow_mul-result
-overflow_mul-result c = let m = and_le_r ((c.digits-x.result + 101058054) / 16) 16843009 in omega arith
-
-pub overflow_add-result-3 : goal.overflow_add-result-3
-overflow_add-result-3 c = let m = and_le_r ((c.digits-x.result + 101058054) / 16) 16843009 in omega arith
 
 pub returns : goal.returns
 returns c =
