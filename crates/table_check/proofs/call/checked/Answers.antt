@@ -3,7 +3,7 @@ use Rattle.std.specs.Prelude.{Ok}
 use mathlib.Core.Path.{◌≡◌, sym, ap, ◌∙◌}
 use mathlib.Core.Bool.{Bool, true, false, cond}
 use mathlib.Core.List.{◌++◌}
-use Prim.Native.Nat.{ℕ, ◌+◌, ◌/◌, ◌≤◌}
+use Prim.Native.Nat.{ℕ, ◌+◌, ◌/◌}
 use native.Mathlib.Omega.{arith}
 use lib.ListN.{length, take, drop, replicate, length-take}
 use Rattle.settings.specs.Reply.{Gives}
@@ -20,15 +20,6 @@ returns-then-t-g c =
 pub returns-then-marks-need : goal.returns-then-marks-need
 returns-then-marks-need c =
     checked_few c.args.g c.args.t.now c.args.marks.now (omega arith) (omega arith)
-
-pub slice_bounds-audited-end-2 : goal.slice_bounds-audited-end-2
-slice_bounds-audited-end-2 c =
-    let h : (c.args.g.nob + 7) / 8 ≤ length c.args.marks.now = omega arith in
-    simp length-take (omega arith)
-
-pub audited-requires : goal.audited-requires
-audited-requires c =
-    (c.requires, omega arith, simp length-take (omega arith))
 
 -- the marks of the blocks are zero, and those behind them as they were
 after : (k : After-audited) → k.audited.new.marks ++ drop ((k.args.g.nob + 7) / 8) k.args.marks.now ≡ marks_after k.args.g k.args.marks.now

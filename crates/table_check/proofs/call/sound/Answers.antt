@@ -56,14 +56,6 @@ pub returns-then-not-all_marked : goal.returns-then-not-all_marked
 returns-then-not-all_marked c =
     ap (λ (q : Bool). q && fill_zero c.args.g c.args.t.now) (sym c.if-not-all_marked.true) ∙ ends (goal.at.returns-then-not-all_marked c).After-all_marked
 
-pub overflow_sub-fill : goal.overflow_sub-fill
-overflow_sub-fill c =
-    omega (arith, c.requires.0.bytes_is)
-
-pub zeros-requires : goal.zeros-requires
-zeros-requires c =
-    (omega (arith, c.requires.0.bytes_is, c.requires.1), omega (arith, c.requires.0.bytes_is, c.requires.0.bytes_high))
-
 pub returns : goal.returns
 unfolding fill_zero
 returns c =

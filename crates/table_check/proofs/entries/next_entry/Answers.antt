@@ -5,9 +5,6 @@ use Rattle.keys.specs.Key.{key_of}
 use Rattle.table_read.specs.theory.Reads.{restored_bytes_out}
 use Rattle.table_check.proofs.entries.next_entry.Goals as goal
 
-pub key_at-requires : goal.key_at-requires
-key_at-requires c = let v = c.requires.0 in (v.ends, v.near, c.requires.1)
-
 pub returns : goal.returns
 returns c =
     let a = c.args in

@@ -8,7 +8,7 @@ use Rattle.table.specs.theory.Written.{join_fits}
 use Rattle.table_read.specs.Places.{BlockIn}
 use Rattle.table_read.specs.theory.Places.{over_in}
 use Rattle.table_store.specs.Stores.{emptied}
-use Rattle.table_store.specs.theory.Fronts.{front_small, stored_emptied}
+use Rattle.table_store.specs.theory.Fronts.{stored_emptied}
 use Rattle.table_store.proofs.fields.empty_block.Goals as goal
 use Rattle.table_store.proofs.fields.empty_block.Goals.{Start}
 
@@ -20,20 +20,11 @@ block s = over_in s.args.g s.args.t.now s.requires.0 _ (omega arith) s.args.j.0 
 owner_fits : (s : Start) → s.args.i.0 < 2 ^ s.args.g.owner
 owner_fits s = omega (arith, s.requires.3, s.requires.0.proper.owner_holds)
 
-pub join-both-requires : goal.join-both-requires
-join-both-requires c =
-    let a = c.args in
-    let F = c.requires.0.proper in
-    (omega (arith, F.owner_high), omega (arith, front_small a.l a.i.0 a.g.link a.g.owner c.requires.2 (owner_fits (goal.at.join-both-requires c).Start) F.link_high (omega (arith, F.owner_high))))
-
 pub counter_at-requires : goal.counter_at-requires
 counter_at-requires c = let b = (block (goal.at.counter_at-requires c).Start).fields in record { near = b.near; fits = omega (arith, b.fits) }
 
 pub link_at-requires : goal.link_at-requires
 link_at-requires c = let b = (block (goal.at.link_at-requires c).Start).fields in record { near = b.near; fits = omega (arith, b.fits) }
-
-pub overflow_add-g : goal.overflow_add-g
-overflow_add-g c = omega (arith, (block (goal.at.overflow_add-g c).Start).numbers)
 
 pub clear_and_put-requires : goal.clear_and_put-requires
 clear_and_put-requires c =

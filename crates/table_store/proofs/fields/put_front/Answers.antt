@@ -5,14 +5,8 @@ use native.Mathlib.Omega.{arith}
 use Rattle.bits.specs.Put.{put_field}
 use Rattle.table.specs.Decode.{block_at}
 use Rattle.table.specs.theory.Written.{join_fits}
-use Rattle.table_store.specs.theory.Fronts.{front_small, front_put}
+use Rattle.table_store.specs.theory.Fronts.{front_put}
 use Rattle.table_store.proofs.fields.put_front.Goals as goal
-
-pub join-both-requires : goal.join-both-requires
-join-both-requires c =
-    let a = c.args in
-    let f = c.requires.0 in
-    (omega (arith, f.numbers), front_small a.n a.l a.b.counter a.link c.requires.1 c.requires.2 f.short f.numbers)
 
 pub put_short-requires : goal.put_short-requires
 put_short-requires c =

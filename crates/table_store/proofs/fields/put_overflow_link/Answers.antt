@@ -17,10 +17,10 @@ block s = over_in s.args.g s.args.t.now s.requires.0 s.args.g.link (omega arith)
 pub link_at-requires : goal.link_at-requires
 link_at-requires c = let b = (block (goal.at.link_at-requires c).Start).fields in record { near = b.near; fits = omega (arith, b.fits) }
 
-pub put-requires : goal.put-requires
-put-requires c =
-    let b = block (goal.at.put-requires c).Start in
-    record { within = omega (arith, b.room, b.fields.fits, b.numbers, c.link_at.ensures); v_bound = c.requires.2 }
+pub put-requires-clause-within : goal.put-requires-clause-within
+put-requires-clause-within c =
+    let b = block (goal.at.put-requires-clause-within c).Start in
+    omega (arith, b.room, b.fields.fits, b.numbers, c.link_at.ensures)
 
 pub returns : goal.returns
 unfolding link_put link_at

@@ -17,9 +17,6 @@ unfolding place_from
 returns-then-p-g c =
     c.basic_slot.ensures ∙ sym (rw (lt-ltb c.args.p c.args.g.sib c.if-p-g.true))
 
-pub block_slot_of-s-requires : goal.block_slot_of-s-requires
-block_slot_of-s-requires c = (c.requires.0, c.requires.1.reaches c.if-p-g.false)
-
 -- the place is in a block of the table
 block_slot_low : (c : After-block_slot_of-s) → (c.block_slot_of-s.result.block.0 < c.args.g.nob) × (c.block_slot_of-s.result.slot.0 < c.args.g.sio)
 block_slot_low c =

@@ -1,16 +1,11 @@
 -- No bit of high is shifted out, and the bits of low that are not shifted out fit below it.
 use mathlib.Core.Path.{◌≡◌}
-use Prim.Native.Nat.{◌-◌, ◌*◌, ◌/◌, ◌%◌, ◌^◌}
+use Prim.Native.Nat.{◌-◌, ◌*◌, ◌%◌, ◌^◌}
 use native.Mathlib.Omega.{arith}
 use lib.Pow.{shl_exact}
 use Rattle.table_store.specs.theory.StoreLaws.{high_word}
 use Rattle.table_store.proofs.slots.above.Goals as goal
 use Rattle.table_store.proofs.slots.above.Goals.{Start}
-
-pub returns-then-val-eq0 : goal.returns-then-val-eq0
-returns-then-val-eq0 c =
-    let z : c.args.low / 18446744073709551616 ≡ 0 = omega arith in
-    rw (c.if-val-eq0.true, z) (omega arith)
 
 -- the shift of high loses nothing
 exact : (s : Start) → s.args.high * 2 ^ s.args.val % 2 ^ 64 ≡ s.args.high * 2 ^ s.args.val

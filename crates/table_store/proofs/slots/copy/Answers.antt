@@ -14,11 +14,6 @@ use Rattle.table_store.proofs.slots.copy.Goals.{After-get-low, After-get-low-2}
 pub put_wide-requires : goal.put_wide-requires
 put_wide-requires c = (omega arith, omega arith, omega arith, rw (zero-add, c.get-x.ensures) (field_lt _ _ _))
 
-pub returns-then-n-le64 : goal.returns-then-n-le64
-returns-then-n-le64 c =
-    let a = c.args in
-    c.put_wide.ensures ∙ ap (put_field a.t.now a.to a.n) (zero-add _ ∙ c.get-x.ensures)
-
 both : (c : After-get-low) → let a = c.args in
     c.get-high.result * 2 ^ 64 + c.get-low.result ≡ field a.t.now a.from a.n
 both c =
@@ -41,10 +36,6 @@ first c =
 
 pub put_wide-requires-2 : goal.put_wide-requires-2
 put_wide-requires-2 c = (omega arith, omega arith, omega arith, rw (zero-add, c.get-rest.ensures) (field_lt _ _ _))
-
-pub put_wide-requires-3 : goal.put_wide-requires-3
-put_wide-requires-3 c =
-    (omega arith, omega arith, omega arith, rw (first (goal.at.put_wide-requires-3 c).After-get-low-2) (field_lt _ _ _))
 
 pub returns : goal.returns
 returns c =

@@ -4,8 +4,6 @@ use mathlib.Core.List.{◌++◌}
 use Prim.Native.Nat.{ℕ, ◌+◌, ◌-◌, ◌*◌, ◌/◌, ◌%◌}
 use native.Mathlib.Omega.{arith}
 use lib.ListN.{length, take, drop, set, length-set}
-use lib.Pow.{pow_pos}
-use borrow.Author.Rules.{rules}
 use Rattle.bits.specs.Bytes.{Bytes}
 use Rattle.bits.specs.Put.{put_field}
 use Rattle.bits.specs.theory.Puts.{put_bytes, put_length}
@@ -13,9 +11,6 @@ use Rattle.bits.specs.theory.Zeros.{zeros_put}
 use Rattle.table_store.specs.theory.StoreLaws.{clear_first, clear_last, clear_more}
 use Rattle.table_store.proofs.zeros.clear.Goals as goal
 use Rattle.table_store.proofs.zeros.clear.Goals.{After-zero_bytes}
-
-pub put-requires : goal.put-requires
-put-requires c = record { within = search rules; v_bound = pow_pos _ }
 
 begun_is : (c : After-zero_bytes) → let a = c.args in (let a = c.args in set a.t.now (a.off / 8) c.first_bits.result) ≡ put_field a.t.now a.off (8 - a.off % 8) 0
 begun_is c = let a = c.args in clear_first a.t.now a.off _ (omega arith) c.first_bits.ensures
@@ -45,20 +40,6 @@ long : (c : After-zero_bytes) → length ((let s = (let a = c.args in set a.t.no
     take i s ++ (c.zero_bytes.new.s ++ drop ((a.off + a.n) / 8 - i) (drop i s)))) ≡ length c.args.t.now
 long c = let a = c.args in ap length (most_is c) ∙ put_length a.t.now a.off (8 * ((a.off + a.n) / 8) - a.off) 0
 
-pub bounds-t-e : goal.bounds-t-e
-bounds-t-e c = omega (arith, long (goal.at.bounds-t-e c).After-zero_bytes)
-
-pub bounds-t-e-then-k-gt0 : goal.bounds-t-e-then-k-gt0
-bounds-t-e-then-k-gt0 c = omega (arith, long (goal.at.bounds-t-e-then-k-gt0 c).After-zero_bytes)
-
-pub shape_of-t-then-k-gt0 : goal.shape_of-t-then-k-gt0
-shape_of-t-then-k-gt0 c =
-    let a = c.args in
-    length-set ((let s = (let a = c.args in set a.t.now (a.off / 8) c.first_bits.result) in
-    let a = c.args in
-    let i = a.off / 8 + 1 in
-    take i s ++ (c.zero_bytes.new.s ++ drop ((a.off + a.n) / 8 - i) (drop i s)))) ((a.off + a.n) / 8) c.last_bits.result ∙ long (goal.at.shape_of-t-then-k-gt0 c).After-zero_bytes
-
 pub returns-then-k-gt0 : goal.returns-then-k-gt0
 returns-then-k-gt0 c =
     let a = c.args in
@@ -67,9 +48,6 @@ returns-then-k-gt0 c =
     let a = c.args in
     let i = a.off / 8 + 1 in
     take i s ++ (c.zero_bytes.new.s ++ drop ((a.off + a.n) / 8 - i) (drop i s)))) ((a.off + a.n) / 8) ((a.off + a.n) % 8) _ (omega (arith, long (goal.at.returns-then-k-gt0 c).After-zero_bytes)) (omega arith) c.last_bits.ensures)
-
-pub shape_of-t-else-k-gt0 : goal.shape_of-t-else-k-gt0
-shape_of-t-else-k-gt0 c = long (goal.at.shape_of-t-else-k-gt0 c).After-zero_bytes
 
 pub returns-else-k-gt0 : goal.returns-else-k-gt0
 returns-else-k-gt0 c =

@@ -2,19 +2,12 @@
 use mathlib.Core.Path.{◌≡◌, ap, ◌∙◌}
 use Prim.Native.Nat.{ℕ, ◌-◌, ◌%◌, ◌^◌}
 use native.Mathlib.Omega.{arith}
-use lib.Pow.{pow_pos, split}
 use Rattle.table_store.specs.theory.StoreLaws.{last_bits}
 use Rattle.table_store.proofs.zeros.last_bits.Goals as goal
 use Rattle.table_store.proofs.zeros.last_bits.Goals.{After-pow}
 
 is : (c : After-pow) → c.args.b % c.pow.result ≡ c.args.b % 2 ^ (8 - c.args.k)
 is c = ap (λ (q : ℕ). c.args.b % q) c.pow.ensures
-
-pub nonzero_rem-result : goal.nonzero_rem-result
-nonzero_rem-result c = rw c.pow.ensures (pow_pos _)
-
-pub overflow_cast-result-2 : goal.overflow_cast-result-2
-overflow_cast-result-2 c = omega (arith, is (goal.at.overflow_cast-result-2 c).After-pow, split c.args.b (8 - c.args.k))
 
 pub returns : goal.returns
 returns c = is (goal.at.returns c).After-pow ∙ last_bits c.args.b c.args.k (omega arith) (omega arith)
