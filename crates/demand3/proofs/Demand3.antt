@@ -20,7 +20,7 @@ agree_behaves s right {t = t} {T = T} {ps = ps} a (c ∷ cs) =
     (agree_holds s right a, w.answers, agree_behaves s right {t = (lent_call s t c).bytes} {T = w.after} {ps = (set_after s t ps c).after} w.agree cs)
 
 -- clause 8.2: beside a table that check finds sound, the set starts as the pairs rebuilt from it
-pub demand_three : (s : Settings) (t m : List ℕ) → Bytes t → (check_call s t m).answer ≡ (Ok true)
+pub demand_three : (s : Settings) (t m : List ℕ) → Bytes t → (check_call s t m).answer ≡ Ok true
     → (cs : List Lending) → Behaves s t (rebuilt_pairs s (held s t)) cs
 demand_three s t m bytes e cs =
     let o = sound_opened s t m e in

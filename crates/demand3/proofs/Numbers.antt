@@ -45,7 +45,7 @@ module _ {s : Settings} (right : Legal s) where
       ((λ n q. belongs_stays w.agree ((call_numbers a c).told n q) cs), agree_numbers {t = (lent_call s t c).bytes} {T = w.after} {ps = (set_after s t ps c).after} w.agree cs)
 
 -- beside a table that check finds sound
-pub numbers_good : (s : Settings) (t m : List ℕ) → Bytes t → (check_call s t m).answer ≡ (Ok true)
+pub numbers_good : (s : Settings) (t m : List ℕ) → Bytes t → (check_call s t m).answer ≡ Ok true
     → (cs : List Lending) → NumbersGood s t (rebuilt_pairs s (held s t)) cs
 numbers_good s t m bytes e cs =
     let o = sound_opened s t m e in

@@ -19,7 +19,7 @@ use Rattle.demand3.specs.Claim.{Lending, given}
 use Rattle.demand3.proofs.Lent.{call_is}
 use Rattle.demand3.proofs.Demand3.{demand_three}
 
-module _ (s : Settings) (t m : List ℕ) (bytes : Bytes t) (sound : (check_call s t m).answer ≡ (Ok true)) where
+module _ (s : Settings) (t m : List ℕ) (bytes : Bytes t) (sound : (check_call s t m).answer ≡ Ok true) where
   -- clause 8.9: with legal inputs only what the set refuses itself is refused
   pub refused_as_set : (c : Lending) (why : Refusal) → NoneDue (call_due s (length (take c.lent t)) (given c.call))
       → (table_call s (take c.lent t) c.call).answer ≡ Err why

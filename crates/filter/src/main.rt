@@ -17,7 +17,6 @@ use program_answers::TABLE_BYTES;
 use std::io;
 use std::io::ErrorKind;
 use streams::{Streams, fail, read_once, write_once};
-use text_read::ClassTable;
 
 // Writes all of buf. A write that takes a part of it, or that a signal interrupts, is gone on with; one that takes nothing
 // has failed. Nothing is promised of interrupted writes, so a counter that no run uses up shows that the loop ends.
@@ -88,13 +87,13 @@ const START: State = State {
 
 // Answers whole lines of buf[at..end] into out until that is full, or until they are all answered. Then what is left moves
 // to the start of buf: no more than a line, so that there is room for the next read.
-fn answer(classes: &ClassTable, buf: &mut [u8], t: &mut [u8], out: &mut [u8], s: State) -> State
+fn answer(buf: &mut [u8], t: &mut [u8], out: &mut [u8], s: State) -> State
     requires { Placed s buf.old × (program_bytes ≤ length t.old) × (answer_room ≤ length out.old) }
     ensures { Answered s buf.old t.old result buf.new t.new out.new }
 {
     let at = s.at;
     let end = s.end;
-    let r = program_stream::consume(classes, &buf[..end], at, s.skip, t, out);
+    let r = program_stream::consume(&buf[..end], at, s.skip, t, out);
     let from = r.at;
     let past = r.skip;
     if r.full {
@@ -175,20 +174,14 @@ fn read_more(io: &Streams, buf: &mut [u8], s: State) -> State
 
 // Reads and answers from a new table on, until the input ends, or until an error. Nothing is promised of what a read gives,
 // so here too a counter shows that the loop ends.
-fn answer_input(
-    io: &Streams,
-    classes: &ClassTable,
-    buf: &mut [u8],
-    t: &mut [u8],
-    out: &mut [u8],
-) -> State
+fn answer_input(io: &Streams, buf: &mut [u8], t: &mut [u8], out: &mut [u8]) -> State
     requires { (longest_line < length buf.old) × (program_bytes ≤ length t.old) × (answer_room ≤ length out.old) × (t.old ≡ new_table) }
     ensures { Ends result buf.new t.new }
 {
     let mut s = START;
     let mut turns = u64::MAX;
     while s.go & (turns > 0) {
-        s = answer(classes, buf, t, out, s);
+        s = answer(buf, t, out, s);
         let made = s.made;
         if !wrote(io, &out[..made]) {
             return s;
@@ -202,38 +195,31 @@ fn answer_input(
 }
 
 // The end of the input: the answer to a last line that lacks its line feed, written out.
-fn last_line(
-    io: &Streams,
-    classes: &ClassTable,
-    buf: &[u8],
-    t: &mut [u8],
-    out: &mut [u8],
-    s: State,
-) -> bool
+fn last_line(io: &Streams, buf: &[u8], t: &mut [u8], out: &mut [u8], s: State) -> bool
     requires { Placed s buf.now × Waits (unanswered s buf.now) × (program_bytes ≤ length t.old) × (answer_room ≤ length out.old) }
     ensures { Wrote (due t.old s.skip (unanswered s buf.now)) result }
 {
     let at = s.at;
     let end = s.end;
-    let n = program_stream::finish(classes, &buf[at..end], s.skip, t, out);
+    let n = program_stream::finish(&buf[at..end], s.skip, t, out);
     wrote(io, &out[..n])
 }
 
 // The whole run.
-fn run(io: &Streams, classes: &ClassTable, buf: &mut [u8], t: &mut [u8], out: &mut [u8])
+fn run(io: &Streams, buf: &mut [u8], t: &mut [u8], out: &mut [u8])
     requires { (longest_line < length buf.old) × (program_bytes ≤ length t.old) × (answer_room ≤ length out.old) × (t.old ≡ new_table) }
     ensures { Ran }
 {
-    let s = answer_input(io, classes, buf, t, out);
+    let s = answer_input(io, buf, t, out);
     if s.ended {
-        last_line(io, classes, buf, t, out, s);
+        last_line(io, buf, t, out, s);
     }
 }
 
 // The bytes of each of the two buffers.
 const BUFFER_BYTES: usize = 65536;
 
-// All memory of the run: the class table, the table, for which the settings ask TABLE_BYTES, and the buffers.
+// All memory of the run: the table, for which the settings ask TABLE_BYTES, and the buffers.
 fn main(rt: HostRuntime) {
     let io = Streams {
         input: rt.stdin(),
@@ -244,10 +230,9 @@ fn main(rt: HostRuntime) {
         fail(&io, "settings", io::Error::from(ErrorKind::InvalidInput));
         return;
     };
-    let classes = text_read::classes();
     let mut buf = [0u8; BUFFER_BYTES];
     let mut t = [0u8; TABLE_BYTES];
     let mut out = [0u8; BUFFER_BYTES];
-    table_make::make(s, &mut t);
-    run(&io, &classes, &mut buf, &mut t, &mut out);
+    let _made = table_make::make(s, &mut t);
+    run(&io, &mut buf, &mut t, &mut out);
 }

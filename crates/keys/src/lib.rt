@@ -18,13 +18,13 @@ pub struct Key {
 }
 
 // Lists, overflow blocks and slots are numbered separately, each from 0: a type for each.
-#[derive(Clone, Copy)]
+#[derive(Clone, Copy, PartialEq, Eq)]
 pub struct ListNumber(pub usize);
 
-#[derive(Clone, Copy)]
+#[derive(Clone, Copy, PartialEq, Eq)]
 pub struct BlockNumber(pub usize);
 
-#[derive(Clone, Copy)]
+#[derive(Clone, Copy, PartialEq, Eq)]
 pub struct SlotNumber(pub usize);
 
 // The free start: the first free overflow block, or nob. It is a block's number only where it is not nob.

@@ -99,6 +99,6 @@ module _ (s : Settings) (t : List ℕ) where
   undamaged e i h n = nothing (sym n ∙ (test_sound (layout_of s) e).state.undamaged i h)
 
   -- and so on every table that check finds sound, whatever marks it was lent
-  pub sound_record_nth : (m : List ℕ) → (check_call s t m).answer ≡ (Ok true) → (n : ℕ)
+  pub sound_record_nth : (m : List ℕ) → (check_call s t m).answer ≡ Ok true → (n : ℕ)
       → record_call s t n ≡ nth_record (rebuilt_pairs s (decode (layout_of s) t)) n
   sound_record_nth m e n = let o = sound_opened s t m e in record_nth o.0.right o.0.room (undamaged o.1) n

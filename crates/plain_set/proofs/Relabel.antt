@@ -182,7 +182,7 @@ module _ {s : Settings} (right : Legal s) {t : List ℕ} {T : List (List ℕ)} {
 
 -- On a table that check finds sound, with whatever inputs ------------------------------------------------------------------
 
-module _ (s : Settings) (t m : List ℕ) (bytes : Bytes t) (sound : (check_call s t m).answer ≡ (Ok true)) (l : ℕ) where
+module _ (s : Settings) (t m : List ℕ) (bytes : Bytes t) (sound : (check_call s t m).answer ≡ Ok true) (l : ℕ) where
   -- with a key or a text
   pub given_relabel : (o : Given)
       → RelabelsOnly s t (key_given o) l

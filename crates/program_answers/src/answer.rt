@@ -12,7 +12,6 @@ use keys::Key;
 use program_commands::{Request, parse, unread};
 use settings::Refusal;
 use table::{Said, Word};
-use text_read::ClassTable;
 
 // Room for any answer: an address of at most 39 bytes, a word, two numbers of at most ten digits.
 pub const ANSWER_MAX: usize = 80;
@@ -106,7 +105,7 @@ fn answer_key(q: Request, key: Key, t: &mut [u8], out: &mut [u8]) -> usize
 
 // The answer to a line, and what the line does to the table. Left free: the bytes of `out` behind the answer, since an
 // address is put with four digits a group where fewer count, and nobody reads them. Its length stays.
-pub fn answer_line(classes: &ClassTable, line: &[u8], t: &mut [u8], out: &mut [u8]) -> usize
+pub fn answer_line(line: &[u8], t: &mut [u8], out: &mut [u8]) -> usize
     requires { (program_bytes ≤ length t.old) × (answer_room ≤ length out.old) }
     ensures { Answered (line_reply t.old line.now) t.new out.new result }
 {
@@ -114,7 +113,7 @@ pub fn answer_line(classes: &ClassTable, line: &[u8], t: &mut [u8], out: &mut [u
         return refuse(Refusal::Line, out);
     };
     let end = q.end;
-    match text_read::read_by(classes, &line[2..end]) {
+    match text_read::read(&line[2..end]) {
         Ok(key) => answer_key(q, key, t, out),
         Err(_) => refuse(unread(line, end), out),
     }

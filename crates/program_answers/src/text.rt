@@ -3,16 +3,15 @@ ghost use Rattle.std.specs.Prelude.{◌+◌, ◌≤◌, ◌<◌, [], ◌∷◌, 
 ghost use Rattle.text_write.specs.Decimal.{decimal_text};
 ghost use Rattle.program_answers.specs.Steps.{Put};
 
+// Tried: `copy_from_slice` tests whether the two overlap, which takes five instructions more a word.
 pub(crate) fn put(text: &[u8], out: &mut [u8], at: usize) -> usize
     requires { at + length text.now ≤ length out.old }
     ensures { Put text.now out.old at out.new result }
 {
-    let mut i: usize = 0;
-    while i < text.len() {
+    for i in 0..text.len() {
         out[at + i] = text[i];
-        i += 1;
     }
-    at + i
+    at + text.len()
 }
 
 // The digit d.

@@ -12,7 +12,6 @@ use program_answers::ANSWER_MAX;
 use program_commands::LINE_MAX;
 use program_lines::Lines;
 use settings::Refusal;
-use text_read::ClassTable;
 
 // How far a turn has come in the input and in the output, whether the input begins inside a line that has
 // been answered, and whether there may be more lines.
@@ -26,7 +25,6 @@ pub struct Turn {
 
 // Answers the line input[at..e] into out from `made` on.
 fn answer_part(
-    classes: &ClassTable,
     input: &[u8],
     at: usize,
     e: usize,
@@ -40,7 +38,7 @@ fn answer_part(
     ensures t_after { t.new ≡ (line_reply t.old (take (e - at) (drop at input.now))).bytes }
     ensures out_after { take result out.new ≡ take made out.old ++ (line_reply t.old (take (e - at) (drop at input.now))).answer }
 {
-    made + program_answers::answer_line(classes, &input[at..e], t, &mut out[made..])
+    made + program_answers::answer_line(&input[at..e], t, &mut out[made..])
 }
 
 // Refuses a line into out from `made` on.
@@ -54,7 +52,6 @@ fn refuse_part(out: &mut [u8], made: usize) -> usize
 
 // The line that ends at e, unless it has been answered.
 fn line_turn(
-    classes: &ClassTable,
     input: &[u8],
     at: usize,
     e: usize,
@@ -75,7 +72,7 @@ fn line_turn(
             more: true,
         };
     }
-    let n = answer_part(classes, input, at, e, t, out, made);
+    let n = answer_part(input, at, e, t, out, made);
     Turn {
         at: e + 1,
         made: n,
@@ -116,7 +113,6 @@ fn rest_turn(input: &[u8], at: usize, skip: bool, out: &mut [u8], made: usize) -
 
 // One line, or the start of one that is too long: `end` is where the reader found the line's end.
 fn one_turn(
-    classes: &ClassTable,
     input: &[u8],
     at: usize,
     end: Option<usize>,
@@ -129,7 +125,7 @@ fn one_turn(
     ensures { Turned input.now at skip t.old out.old made result t.new out.new }
 {
     match end {
-        Some(e) => line_turn(classes, input, at, e, skip, t, out, made),
+        Some(e) => line_turn(input, at, e, skip, t, out, made),
         None => rest_turn(input, at, skip, out, made),
     }
 }
@@ -146,14 +142,7 @@ pub struct Step {
 // All whole lines from `at` on, until the output has no room for one more answer. Left free: where it stops when the
 // output is full (a line further at least, if there was room for an answer), the bytes of the output behind what was
 // made, which nobody reads, and the table's bytes: of these it is said what is due on them, whatever follows.
-pub fn consume(
-    classes: &ClassTable,
-    input: &[u8],
-    at: usize,
-    skip: bool,
-    t: &mut [u8],
-    out: &mut [u8],
-) -> Step
+pub fn consume(input: &[u8], at: usize, skip: bool, t: &mut [u8], out: &mut [u8]) -> Step
     requires at_in_bounds { at ≤ length input.now }
     requires room { program_bytes ≤ length t.old }
     ensures { Consumed input.now at skip t.old result t.new out.new }
@@ -167,7 +156,7 @@ pub fn consume(
     };
     while turn.more & (ANSWER_MAX <= out.len() - turn.made) {
         let end = l.next_line();
-        turn = one_turn(classes, l.src, l.at, end, turn.skip, t, out, turn.made);
+        turn = one_turn(l.src, l.at, end, turn.skip, t, out, turn.made);
         l = l.moved(turn.at);
     }
     Step {
@@ -181,7 +170,7 @@ pub fn consume(
 // The end of the input: a last line that lacks its line feed. Left free: the answer to an input with a line feed, which
 // `consume` never leaves, but that it fits; and, since the run ends here, the table and the bytes of the output behind
 // the answer, but for their lengths.
-pub fn finish(classes: &ClassTable, input: &[u8], skip: bool, t: &mut [u8], out: &mut [u8]) -> usize
+pub fn finish(input: &[u8], skip: bool, t: &mut [u8], out: &mut [u8]) -> usize
     requires { (program_bytes ≤ length t.old) × (answer_room ≤ length out.old) }
     ensures { Finished input.now skip t.old out.new result }
 {
@@ -191,7 +180,7 @@ pub fn finish(classes: &ClassTable, input: &[u8], skip: bool, t: &mut [u8], out:
     if input.len() == 0 {
         return 0;
     }
-    program_answers::answer_line(classes, input, t, out)
+    program_answers::answer_line(input, t, out)
 }
 
 // Moves buf[at..end] to the start of buf, and answers how many bytes that is. The bytes behind them stay.

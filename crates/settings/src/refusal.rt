@@ -4,20 +4,20 @@ ghost use Rattle.settings.specs.Refusal.{number_of};
 
 #[derive(Clone, Copy)]
 pub enum Refusal {
-    Settings,
-    Short,
-    Width,
-    Text,
-    Key,
-    Label,
-    Damage,
-    NoBlock,
-    Output,
-    Marks,
-    Line,
-    Known,
-    Page,
-    Slot,
+    Settings = 1,
+    Short = 2,
+    Width = 3,
+    Text = 4,
+    Key = 5,
+    Label = 6,
+    Damage = 7,
+    NoBlock = 8,
+    Output = 9,
+    Marks = 10,
+    Line = 11,
+    Known = 12,
+    Page = 13,
+    Slot = 14,
 }
 
 impl Refusal {
@@ -25,21 +25,6 @@ impl Refusal {
     pub fn number(self) -> u32
         ensures { result ≡ number_of self }
     {
-        match self {
-            Refusal::Settings => 1,
-            Refusal::Short => 2,
-            Refusal::Width => 3,
-            Refusal::Text => 4,
-            Refusal::Key => 5,
-            Refusal::Label => 6,
-            Refusal::Damage => 7,
-            Refusal::NoBlock => 8,
-            Refusal::Output => 9,
-            Refusal::Marks => 10,
-            Refusal::Line => 11,
-            Refusal::Known => 12,
-            Refusal::Page => 13,
-            Refusal::Slot => 14,
-        }
+        self as u32
     }
 }

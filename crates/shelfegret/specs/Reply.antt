@@ -1,10 +1,10 @@
 -- Each call's answer as C's one struct, with the number and the values of each case. Code 0 is
 -- accepted.
-use Rattle.std.specs.Prelude.{ℕ, Bool, Err, None, Ok, false, true, ⊤}
+use Rattle.std.specs.Prelude.{ℕ, Bool, false, true, ⊤, Ok, Err, Some, None}
 use Rattle.settings.specs.Refusal.{number_of}
 use Rattle.keys.specs.declared.Key.{Key}
 use Rattle.settings.specs.declared.refusal.Refusal.{Refusal}
-use Rattle.table.specs.Answer.{word_number, no_key, values_of, RecordAnswer, recorded}
+use Rattle.table.specs.Answer.{word_number, no_key, values_of, RecordAnswer}
 use Rattle.table.specs.Answer as table
 use Rattle.table.specs.declared.answers.Word.TheVariants as word
 use Rattle.text_calls.specs.declared.calls.TextAnswer.{TextAnswer}
@@ -23,10 +23,10 @@ saying word key label compared n = record { code = 0; word = word; key = key; la
 abbrev pub numbered : ℕ → Answer
 numbered n = record { code = 0; word = 0; key = no_key; label = 0; compared = 0; number = n }
 
--- the table's bytes
-abbrev pub size_reply : Result ℕ Refusal → Answer
-size_reply (Ok n) = numbered n
-size_reply (Err why) = refused_reply why
+-- the bytes of the table, of a text or of a page
+abbrev pub number_reply : Result ℕ Refusal → Answer
+number_reply (Ok n) = numbered n
+number_reply (Err why) = refused_reply why
 
 abbrev pub make_reply : Result ⊤ Refusal → Answer
 make_reply (Ok done) = numbered 0
@@ -58,13 +58,3 @@ check_reply (Err why) = refused_reply why
 abbrev pub read_reply : Result Key Refusal → Answer
 read_reply (Ok key) = saying 0 key 0 0 0
 read_reply (Err why) = refused_reply why
-
--- the text's length
-abbrev pub write_reply : Result ℕ Refusal → Answer
-write_reply (Ok n) = numbered n
-write_reply (Err why) = refused_reply why
-
--- the bytes of a page
-abbrev pub page_reply : Result ℕ Refusal → Answer
-page_reply (Ok n) = numbered n
-page_reply (Err why) = refused_reply why

@@ -1,17 +1,14 @@
 // Each call's own answer as the struct that C gets.
-ghost use Rattle.std.specs.Prelude.{◌≡◌, ◌+◌, ◌*◌, ◌/◌, ◌≤◌};
+ghost use Rattle.std.specs.Prelude.{◌≡◌};
 ghost use Rattle.table.specs.Answer.{word_number};
-ghost use Rattle.shelfegret.specs.Reply.{refused_reply, saying, numbered, size_reply, make_reply, answer_reply, record_reply, check_reply, read_reply, write_reply, page_reply};
+ghost use Rattle.shelfegret.specs.Reply.{refused_reply, saying, numbered, make_reply, answer_reply, record_reply, check_reply, read_reply, number_reply};
 
 use crate::Answer;
 use keys::Key;
-use settings::{Refusal, Size};
-use table::{CheckAnswer, MakeAnswer, RecordAnswer, Word};
-use text_read::Parsed;
-use text_sheet::PageAnswer;
-use text_write::Written;
+use settings::Refusal;
+use table::{Record, Said, Word};
 
-// Numbers of words; those of find, enter, relabel and delete are computed (`number_of`). 0 is no word.
+// Numbers of words; those of find, enter, relabel and delete are the enum's. 0 is no word.
 const NO_WORD: u32 = 0;
 
 const NONE: u32 = 4;
@@ -66,87 +63,73 @@ fn counted(number: usize) -> Answer
     }
 }
 
-pub(crate) fn sized(a: Size) -> Answer
-    ensures { result ≡ size_reply a }
+// The bytes of a table, of a text or of a page.
+pub(crate) fn measured(a: Result<usize, Refusal>) -> Answer
+    ensures { result ≡ number_reply a }
 {
     match a {
-        Size::Bytes(n) => counted(n),
-        Size::Refused(why) => refused(why),
+        Ok(n) => counted(n),
+        Err(why) => refused(why),
     }
 }
 
-pub(crate) fn made(a: MakeAnswer) -> Answer
+pub(crate) fn made(a: Result<(), Refusal>) -> Answer
     ensures { result ≡ make_reply a }
 {
     match a {
-        MakeAnswer::Made => counted(0),
-        MakeAnswer::Refused(why) => refused(why),
+        Ok(()) => counted(0),
+        Err(why) => refused(why),
     }
 }
 
-// A word's place among the words: the number that the enum is stored as, so that nothing is left of the `match`.
-fn place_of(word: Word) -> u32
-    ensures { (result ≤ 4) × (result + 1 + result / 4 * 3 ≡ word_number word) }
-{
-    match word {
-        Word::Added => 0,
-        Word::Held => 1,
-        Word::Gone => 2,
-        Word::None => 3,
-        Word::Relabelled => 4,
-    }
-}
-
-// A word's number: 1 to 4, and 8, since 5 to 7 are those of record and check. It is computed: a `match` with these numbers
-// would be a jump through a table, in every call.
+// A word's number.
 fn number_of(word: Word) -> u32
     ensures { result ≡ word_number word }
 {
-    let n = place_of(word);
-    n + 1 + n / 4 * 3
+    word as u32
 }
 
 // What find, enter, relabel and delete answer, for the key asked for.
-pub(crate) fn answered(key: Key, a: table::Answer) -> Answer
+pub(crate) fn answered(key: Key, a: Result<Said, Refusal>) -> Answer
     ensures { result ≡ answer_reply key a }
 {
     match a {
-        table::Answer::Said {
+        Ok(Said {
             word,
             label,
             compared,
             slot,
-        } => said(number_of(word), key, label, compared, slot),
-        table::Answer::Refused(why) => refused(why),
+        }) => said(number_of(word), key, label, compared, slot),
+        Err(why) => refused(why),
     }
 }
 
-pub(crate) fn recorded(a: RecordAnswer) -> Answer
+pub(crate) fn recorded(a: Result<Option<Record>, Refusal>) -> Answer
     ensures { result ≡ record_reply a }
 {
     match a {
-        RecordAnswer::Record { key, label } => said(RECORD, key, label, 0, 0),
-        RecordAnswer::None => said(NONE, NO_KEY, 0, 0, 0),
-        RecordAnswer::Refused(why) => refused(why),
+        Ok(Some(Record { key, label })) => said(RECORD, key, label, 0, 0),
+        Ok(None) => said(NONE, NO_KEY, 0, 0, 0),
+        Err(why) => refused(why),
     }
 }
 
-pub(crate) fn checked(a: CheckAnswer) -> Answer
+pub(crate) fn checked(a: Result<bool, Refusal>) -> Answer
     ensures { result ≡ check_reply a }
 {
     match a {
-        CheckAnswer::Sound => said(SOUND, NO_KEY, 0, 0, 0),
-        CheckAnswer::Unsound => said(UNSOUND, NO_KEY, 0, 0, 0),
-        CheckAnswer::Refused(why) => refused(why),
+        Ok(true) => said(SOUND, NO_KEY, 0, 0, 0),
+        Ok(false) => said(UNSOUND, NO_KEY, 0, 0, 0),
+        Err(why) => refused(why),
     }
 }
 
-pub(crate) fn parsed(a: Parsed) -> Answer
+pub(crate) fn parsed(a: Result<Key, Refusal>) -> Answer
     ensures { result ≡ read_reply a }
 {
     match a {
         // Field by field: a copy of both halves at once would wait until both have reached the cache.
-        Parsed::Key(key) => said(
+        Ok(key) => said(
             NO_WORD,
             Key {
                 high: key.high,
@@ -156,24 +139,6 @@ pub(crate) fn parsed(a: Parsed) -> Answer
             0,
             0,
         ),
-        Parsed::Refused(why) => refused(why),
-    }
-}
-
-pub(crate) fn written(a: Written) -> Answer
-    ensures { result ≡ write_reply a }
-{
-    match a {
-        Written::Length(n) => counted(n),
-        Written::Refused(why) => refused(why),
-    }
-}
-
-pub(crate) fn paged(a: PageAnswer) -> Answer
-    ensures { result ≡ page_reply a }
-{
-    match a {
-        PageAnswer::Bytes(n) => counted(n),
-        PageAnswer::Refused(why) => refused(why),
+        Err(why) => refused(why),
     }
 }

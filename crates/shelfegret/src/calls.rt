@@ -3,19 +3,19 @@ ghost use Rattle.std.specs.Prelude.{◌≡◌};
 ghost use Rattle.settings.specs.Made.{size_of};
 ghost use Rattle.settings.specs.Reply.{answering, Gives};
 ghost use Rattle.table.specs.Calls.{find, enter, relabel, delete, make_call, key_call, record_call, retrieve_call, check_call};
-ghost use Rattle.shelfegret.specs.Reply.{size_reply, make_reply, answer_reply, record_reply, check_reply};
+ghost use Rattle.shelfegret.specs.Reply.{number_reply, make_reply, answer_reply, record_reply, check_reply};
 
 use crate::Answer;
-use crate::answers::{answered, checked, made, recorded, sized};
+use crate::answers::{answered, checked, made, recorded, measured};
 use keys::Key;
 use settings::Settings;
 
 // The number of bytes that the table needs.
 #[unsafe(no_mangle)]
 pub extern "C" fn shelfegret_size(s: Settings) -> Answer
-    ensures { result ≡ size_reply (size_of s) }
+    ensures { result ≡ number_reply (size_of s) }
 {
-    sized(s.size())
+    measured(s.size())
 }
 
 // The table in the lent bytes becomes a new one; the answer has no word.

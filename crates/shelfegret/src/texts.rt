@@ -6,10 +6,10 @@ ghost use Rattle.text_read.specs.Answers.{reading_of};
 ghost use Rattle.text_write.specs.Answers.{write_call};
 ghost use Rattle.text_calls.specs.TextCalls.{text_call};
 ghost use Rattle.text_sheet.specs.Answers.{page_call};
-ghost use Rattle.shelfegret.specs.Reply.{read_reply, write_reply, text_reply, page_reply};
+ghost use Rattle.shelfegret.specs.Reply.{read_reply, number_reply, text_reply};
 
 use crate::Answer;
-use crate::answers::{answered, paged, parsed, written};
+use crate::answers::{answered, measured, parsed};
 use keys::Key;
 use settings::Settings;
 
@@ -78,15 +78,15 @@ pub extern "C" fn shelfegret_read_text(text: &[u8]) -> Answer
 // The length of the key's text, which is then the front of the lent bytes.
 #[unsafe(no_mangle)]
 pub extern "C" fn shelfegret_write_text(key: Key, out: &mut [u8]) -> Answer
-    ensures { Gives (answering write_reply (write_call key out.old)) result out.new }
+    ensures { Gives (answering number_reply (write_call key out.old)) result out.new }
 {
-    written(text_write::write(key, out))
+    measured(text_write::write(key, out))
 }
 
 // The number of bytes of the page.
 #[unsafe(no_mangle)]
 pub extern "C" fn shelfegret_page(s: Settings, t: &[u8], page: u64, out: &mut [u8]) -> Answer
-    ensures { Gives (answering page_reply (page_call s t.now page out.old)) result out.new }
+    ensures { Gives (answering number_reply (page_call s t.now page out.old)) result out.new }
 {
-    paged(text_sheet::page(s, t, page, out))
+    measured(text_sheet::page(s, t, page, out))
 }

@@ -74,4 +74,4 @@ module _ (s : Settings) (t : List ℕ) where
   check_call m =
       called Err m
       (settings_due s ∷ short_due s (length t) ∷ due (not (leb (mark_bytes (layout_of s)) (length m))) refusal.Marks ∷ [])
-      (reply (cond (table_sound (layout_of s) t) (Ok true) (Ok false)) (marks_after (layout_of s) m))
+      (reply (Ok (table_sound (layout_of s) t)) (marks_after (layout_of s) m))

@@ -3,8 +3,10 @@
 
 mod answers;
 mod damage;
+mod slot;
 mod step;
 
 pub use answers::{Record, Said, Word};
 pub use damage::Damage;
+pub use slot::Slot;
 pub use step::{Before, Step};

@@ -9,8 +9,7 @@ ghost use Rattle.table_check.specs.Answers.{Clear, Audited, checked_call};
 use crate::bytes::{all_marked, zeros};
 use crate::lists::{chain_sound, lists_sound};
 use bits::zero_bytes;
-use settings::{Laid, Layout, Refusal, Settings};
-use table::CheckAnswer;
+use settings::{Layout, Refusal, Settings};
 
 // Whether the table is sound; the marks are zero before.
 fn sound(t: &[u8], g: Layout, marks: &mut [u8]) -> bool
@@ -41,29 +40,24 @@ fn audited(t: &[u8], g: Layout, marks: &mut [u8]) -> bool
     answer
 }
 
-fn checked(t: &[u8], g: Layout, marks: &mut [u8]) -> CheckAnswer
+fn checked(t: &[u8], g: Layout, marks: &mut [u8]) -> Result<bool, Refusal>
     requires { Proper g }
     ensures { Gives (checked_call g t.now marks.old) result marks.new }
 {
     if t.len() < g.bytes {
-        return CheckAnswer::Refused(Refusal::Short);
+        return Err(Refusal::Short);
     }
     let need = (g.nob + 7) / 8;
     if marks.len() < need {
-        return CheckAnswer::Refused(Refusal::Marks);
+        return Err(Refusal::Marks);
     }
-    if audited(t, g, &mut marks[..need]) {
-        return CheckAnswer::Sound;
-    }
-    CheckAnswer::Unsound
+    Ok(audited(t, g, &mut marks[..need]))
 }
 
 // Whether the table is sound. The marks that it needs are zero afterwards, and the bytes behind them stay (clause 6.11).
-pub fn check(s: Settings, t: &[u8], marks: &mut [u8]) -> CheckAnswer
+pub fn check(s: Settings, t: &[u8], marks: &mut [u8]) -> Result<bool, Refusal>
     ensures { Gives (check_call s t.now marks.old) result marks.new }
 {
-    match s.layout() {
-        Laid::Layout(g) => checked(t, g, marks),
-        Laid::Refused(why) => CheckAnswer::Refused(why),
-    }
+    let g = s.layout()?;
+    checked(t, g, marks)
 }

@@ -17,7 +17,7 @@ use settings::Layout;
 use table::Step;
 use table_read::blocks::{overflow_front, step_of};
 use table_read::lists::overflow_run;
-use table_read::slots::{Slots, entry_at, scan, scan_displaced};
+use table_read::slots::{Slots, entry_at, key_at, scan, scan_displaced};
 
 // The same as `entry_at`, with a way of its own for entries behind the displaced bits, as most are. It serves one loop, and
 // is inlined there.
@@ -28,16 +28,7 @@ fn next_entry(t: &[u8], b: Slots, at: usize, n: usize) -> Key
     if at < b.start + b.displaced {
         return entry_at(&t[..], b, at, n);
     }
-    if n <= 64 {
-        return Key {
-            high: 0,
-            low: bits::get(t, at, n),
-        };
-    }
-    Key {
-        high: bits::get(t, at, n - 64),
-        low: bits::get(t, at + (n - 64), 64),
-    }
+    key_at(t, at, n)
 }
 
 // The first of `count` slots that holds the entry, where their first bits are what they count as; count if none does.

@@ -28,6 +28,10 @@ pub struct Owned {
     pub owner: ListNumber,
 }
 
+// What a basic and an overflow block have alike is one function over `Blocks` (`front_of`, `counter_of`, `link_of`). The pairs
+// above these are a line each: a trait over the two numbers would need ghost members for the limit, the blocks and each field,
+// and a law for each, and be longer. The same of the pairs in places.rt and numbers.rt.
+
 // The first bits of block i, in one load.
 fn front_of(t: &[u8], b: Blocks, i: usize, link: usize) -> Front
     requires { BlockIn t.now b i link }

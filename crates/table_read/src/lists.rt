@@ -25,7 +25,7 @@ pub fn follow(t: &[u8], g: Layout, i: ListNumber, first: BlockNumber) -> Result<
             return Err(Damage);
         }
         let fields = owned_front(t, g, b);
-        if fields.owner.0 != i.0 {
+        if fields.owner != i {
             return Err(Damage);
         }
         match step_of(fields.front, g.sio) {
@@ -90,6 +90,7 @@ pub fn block_slot_of(t: &[u8], g: Layout, first: BlockNumber, p: usize) -> Block
 {
     let mut b = first;
     let mut q = p;
+    // No `for`: the number of turns is p / sio, a division by a setting, which takes longer than the few turns.
     while q >= g.sio {
         let Step::Further(next) = step_of(overflow_front(t, g, b), g.sio) else {
             break;
@@ -110,7 +111,7 @@ pub fn list_has_block(t: &[u8], g: Layout, first: BlockNumber, f: BlockNumber) -
 {
     let mut b = first;
     for _ in 0..g.nob {
-        if b.0 == f.0 {
+        if b == f {
             return true;
         }
         let Step::Further(next) = step_of(overflow_front(t, g, b), g.sio) else {

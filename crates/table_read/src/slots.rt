@@ -78,7 +78,9 @@ fn holds(t: &[u8], at: usize, n: usize, high: u64, low: u64) -> bool
     bits::get(t, at, n - 64) == high
 }
 
-// The first slot from `from` on that holds the entry, slot by slot; their count if none does.
+// The first slot from `from` on that holds the entry, slot by slot; their count if none does. Here and below the slots, the
+// widths and the entry come one by one: in one struct, what a call reads of them would be loads of what was just stored, since
+// a function that is not inlined takes a struct in memory.
 #[tactic(auto, unfolding(keys::specs::Key::key_number))]
 fn scan_from(
     t: &[u8],
@@ -206,7 +208,26 @@ pub fn scan_displaced(
     SlotNumber(1 + j.0)
 }
 
-// The entry of n bits from bit `at` on, among the slots.
+// The key of n bits from bit `at` on, as they stand. It is always built in: its callers go through many slots, and a call
+// hands a key back through memory.
+#[inline(always)]
+pub fn key_at(t: &[u8], at: usize, n: usize) -> Key
+    requires { (at + n ≤ 8 * length t.now) × (at + n ≤ most_bits) × (n ≤ 128) }
+    ensures { result ≡ key_of (field t.now at n) }
+{
+    if n <= 64 {
+        return Key {
+            high: 0,
+            low: bits::get(t, at, n),
+        };
+    }
+    Key {
+        high: bits::get(t, at, n - 64),
+        low: bits::get(t, at + (n - 64), 64),
+    }
+}
+
+// The entry of n bits from bit `at` on, among the slots. Not by `key_at`: each part may be displaced bits.
 pub fn entry_at(t: &[u8], b: Slots, at: usize, n: usize) -> Key
     requires { FieldWithin t.now b at n × (n ≤ 128) }
     ensures { result ≡ key_of (field (restored_bytes t.now b) at n) }

@@ -6,16 +6,22 @@ ghost use Rattle.table_read.specs.Rows.{Row, Unlike, Passed};
 // Up to so many slots are looked at without a branch on the data.
 pub const FEW: usize = 10;
 
+// The three functions below take the same four parameters one by one: a struct of them would be made at each of the four calls
+// in `candidate`, and only taken apart again.
+
 // The first of n slots whose window is the one that is sought, where that of slot k begins at place at + k * step; n if none
 // is. It goes from the last slot to the first and never leaves early, so that the choice of r is a conditional move: with few
-// slots no branch depends on the data.
+// slots no branch depends on the data. The place goes down by itself: tried, with at + j * step in the loop LLVM multiplies
+// twice more before it.
 fn first<F: Fn(usize) -> bool>(at: usize, step: usize, n: usize, is_sought: F) -> usize
     requires { ((k : ℕ) → k < n → F.pre is_sought (at + k * step)) × (at + n * step ≤ 2 ^ 28) }
     ensures { Passed (F.post is_sought) at step n result }
 {
     let mut r = n;
+    let mut p = at + n * step;
     for j in (0..n).rev() {
-        if is_sought(at + j * step) {
+        p -= step;
+        if is_sought(p) {
             r = j;
         }
     }

@@ -1,5 +1,5 @@
 -- Relabel of a key: what find answered decides what it comes to.
-use Rattle.std.specs.Prelude.{Ok, Err}
+use Rattle.std.specs.Prelude.{Ok}
 use mathlib.Core.Path.{◌≡◌, refl, sym, ap, ap₂, subst, ◌∙◌}
 use mathlib.Core.List.{List}
 use Prim.Native.Nat.{ℕ, ◌-◌, ◌^◌, ◌<◌}
@@ -21,33 +21,18 @@ use Rattle.table.specs.Relabel.{relabel_followed, relabel_in}
 use Rattle.table.specs.Calls.{list_call, relabel, key_call}
 use Rattle.table.specs.theory.Positions.{position_held}
 use Rattle.table.specs.Answer.{said, Answer}
+use Rattle.table.specs.declared.answers.Said.{Said}
 use Rattle.table.specs.declared.answers.Word.{Word}
 use Rattle.table.specs.declared.answers.Word.TheVariants as word
 use Rattle.table_store.specs.Places.{Placed}
 use Rattle.table_store.specs.theory.StoreLaws.{stored_written}
 use Rattle.table_find.specs.declared.Sought.{Sought}
-use Rattle.table_find.specs.theory.SoughtLaws.{SoughtIn}
+use Rattle.table_find.specs.Seek.{open_of, sought_of}
+use Rattle.table_find.specs.theory.Seeks.{Opened, open_means}
+use Rattle.table_find.specs.theory.SoughtLaws.{SoughtIn, sought_means}
+use Rattle.table_find.specs.theory.Labels.{label_slot}
 use Rattle.table_find.specs.theory.Helds.{Other, find_held, other_stays}
-use Rattle.table_relabel.specs.Relabels.{relabelled, Relabelled}
-use Rattle.table_relabel.specs.FromFind.{place_found, answer_to}
-
--- ---- words
-
--- "held", or another answer, which has no place and stays
-pub data Told : Answer → Type 0 where
-  held : (l n x : ℕ) → Told (said word.Held l n x)
-  other : (a : Answer) → Other a → place_found a ≡ 0 → answer_to a ≡ a → Told a
-
-worded : (w : Word) (l n x : ℕ) → Told (said w l n x)
-worded word.Added l n x = other (said word.Added l n x) tt refl refl
-worded word.Held l n x = held l n x
-worded word.Gone l n x = other (said word.Gone l n x) tt refl refl
-worded word.None l n x = other (said word.None l n x) tt refl refl
-worded word.Relabelled l n x = other (said word.Relabelled l n x) tt refl refl
-
-pub told : (a : Answer) → Told a
-told (Ok r) = worded r.word r.label r.compared r.slot
-told (Err why) = other (Err why) tt refl refl
+use Rattle.table_relabel.specs.Relabels.{Relabellable, relabelled, Relabelled}
 
 -- ---- on a list
 
@@ -84,52 +69,47 @@ module _ (g : Layout) (st : State) (i e label : ℕ) where
 
 -- ---- by key, in a table that was opened for it
 
-module _ {s : Settings} {t : List ℕ} {key : Key} {g : Layout} {v : Sought} (S : SoughtIn s t key g v) (label : ℕ) (h : label < 2 ^ s.val) where
+-- v is what seeking the key gave, and the settings allow the label
+pub record Asked (s : Settings) (t : List ℕ) (key : Key) (g : Layout) (v : Sought) (label : ℕ) : Type 0 where
+  pub opened : Opened s (length t) key g
+  pub sought : SoughtIn s t key g v
+  pub low : label < 2 ^ s.val
+
+pub asked : (s : Settings) (t : List ℕ) (key : Key) (g : Layout) (v : Sought) (label : ℕ)
+    → (open_of s (length t) key ≡ Ok g) × (v ≡ sought_of s t key) × (label < 2 ^ s.val) → Asked s t key g v label
+asked s t key g v label r =
+    record { opened = open_means s key (length t) g r.0; sought = sought_means s t key g v r.0 r.1; low = r.2 }
+
+module _ {s : Settings} {t : List ℕ} {key : Key} {g : Layout} {v : Sought} {label : ℕ} (A : Asked s t key g v label) where
   abbrev list : ℕ
   list = v.place.list.0
 
-  abbrev sought : ℕ
-  sought = key_number v.place.entry
+  abbrev entry : ℕ
+  entry = key_number v.place.entry
 
-  call_is : key_call s t (relabel label) key ≡ replied g t (relabel_in g (decode g t) list sought label)
+  call_is : key_call s t (relabel label) key ≡ replied g t (relabel_in g (decode g t) list entry label)
   unfolding list_call
-  call_is = S.call_is (relabel label) ∙ rw (lt-ltb label (2 ^ s.val) h)
-
-  pub sought_held : (l n x : ℕ) → v.found ≡ said word.Held l n x → Found g (decode g t) list sought label l n x
-  sought_held l n x f = held_goes g (decode g t) list sought label l n x (sym S.found_is ∙ f)
+  call_is = A.sought.call_is (relabel label) ∙ rw (lt-ltb label (2 ^ s.val) A.low)
 
   pub other_gives : (a : Answer) → v.found ≡ a → Other a → Gives (key_call s t (relabel label) key) a t
   other_gives a e o =
-      let is : a ≡ find_in g (decode g t) list sought = sym e ∙ S.found_is in
-      rw (call_is, relabel_stays g (decode g t) list sought label (subst Other is o)) (record { answer = is; bytes = refl })
+      let is : a ≡ find_in g (decode g t) list entry = sym e ∙ A.sought.found_is in
+      rw (call_is, relabel_stays g (decode g t) list entry label (subst Other is o)) (record { answer = is; bytes = refl })
 
-  -- the entry is the n-th, and has the new label
-  pub relabelled_gives : Bytes t → (l n x : ℕ) → Found g (decode g t) list sought label l n x → (u : List ℕ)
-      → Relabelled g t u list (n - 1) label → Gives (key_call s t (relabel label) key) (said word.Relabelled l n x) u
-  relabelled_gives y l n x F u R = rw (call_is, F.goes) (record { answer = refl; bytes = stored_written S.table y R })
+  -- the entry was found
+  module _ {r : Said} (e : v.found ≡ Ok r) (w : r.word ≡ word.Held) where
+    found : Found g (decode g t) list entry label r.label r.compared r.slot
+    found =
+        held_goes g (decode g t) list entry label r.label r.compared r.slot
+        (sym A.sought.found_is ∙ e ∙ ap (λ (x : Word). said x r.label r.compared r.slot) w)
 
-  -- ---- by what find answered
+    pub some_compared : 0 < r.compared
+    some_compared = found.some_compared
 
-  -- the place of the entry that was found
-  pub found_placed : (a : Answer) → v.found ≡ a → (n : ℕ) → n ≡ place_found a → 0 < n → Placed g (decode g t) list (n - 1)
-  found_placed a e n q p = placed (told a) e q
-    where
-      placed : {a : Answer} → Told a → v.found ≡ a → n ≡ place_found a → Placed g (decode g t) list (n - 1)
-      placed (held l m x) e q = subst (λ (k : ℕ). Placed g (decode g t) list (k - 1)) (sym q) (sought_held l m x e).placed
-      placed (other a o z w) e q = absurd (omega (arith, z))
+    pub relabellable : Relabellable g t list (r.compared - 1) label
+    relabellable = record { table = A.sought.table; list = A.sought.list_below; placed = found.placed; fits = label_slot A.opened A.low }
 
-  -- the label is put in place n - 1
-  pub found_gives : Bytes t → (a : Answer) → v.found ≡ a → (n : ℕ) → n ≡ place_found a → 0 < n → (u : List ℕ) → Relabelled g t u list (n - 1) label
-      → Gives (key_call s t (relabel label) key) (answer_to a) u
-  found_gives y a e n q p u R = gives (told a) e q
-    where
-      gives : {a : Answer} → Told a → v.found ≡ a → n ≡ place_found a → Gives (key_call s t (relabel label) key) (answer_to a) u
-      gives (held l m x) e q = relabelled_gives y l m x (sought_held l m x e) u (subst (λ (k : ℕ). Relabelled g t u list (k - 1) label) q R)
-      gives (other a o z w) e q = absurd (omega (arith, z))
-
-  pub missing_gives : (a : Answer) → v.found ≡ a → place_found a ≡ 0 → Gives (key_call s t (relabel label) key) (answer_to a) t
-  missing_gives a e q = gives (told a) e q
-    where
-      gives : {a : Answer} → Told a → v.found ≡ a → place_found a ≡ 0 → Gives (key_call s t (relabel label) key) (answer_to a) t
-      gives (held l m x) e q = absurd (omega (arith, (sought_held l m x e).some_compared))
-      gives (other a o z w) e q = rw w (other_gives a e o)
+    -- and has the new label
+    pub held_gives : Bytes t → (u : List ℕ) → Relabelled g t u list (r.compared - 1) label
+        → Gives (key_call s t (relabel label) key) (said word.Relabelled r.label r.compared r.slot) u
+    held_gives y u d = rw (call_is, found.goes) (record { answer = refl; bytes = stored_written A.sought.table y d })

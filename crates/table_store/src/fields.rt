@@ -29,6 +29,8 @@ fn put_counter(t: &mut [u8], b: Blocks, i: usize, n: usize)
     bits::put_short(t, counter_at(b, i), b.counter, n as u64);
 }
 
+// Two names for `put_counter`: which blocks there are, and what of the state changes, only a contract for each can say. A
+// trait over both kinds would need a member for each of these, and a law that ties it to the bytes.
 pub fn put_basic_counter(t: &mut [u8], g: Layout, i: ListNumber, n: usize)
     requires { Table g t.old × (i.0 < g.lists) × (n < 2 ^ g.basic.counter) }
     ensures { t.new ≡ basic_counter_put g t.old i.0 n }
@@ -61,7 +63,7 @@ fn put_front(t: &mut [u8], b: Blocks, i: usize, link: usize, n: usize, l: usize)
 }
 
 // The counter of basic block i becomes n, and the first L bits of its slots h: a block's number, or the bits that it
-// displaced.
+// displaced. It and the next are two names for `put_front`, as those above: also their counters have other bounds.
 pub fn put_basic_front(t: &mut [u8], g: Layout, i: ListNumber, n: usize, h: usize)
     requires { Table g t.old × (i.0 < g.lists) × (n ≤ suc g.sib) × (h < 2 ^ g.link) }
     ensures { Stored g t.old t.new (over_basic i.0 (with_basic_front n h) (decode g t.old)) }

@@ -11,5 +11,6 @@ pub use fields::{
     put_overflow_front, put_overflow_link,
 };
 pub use places::store_at_place;
-pub use slots::{Slot, copy, get_slot, put_slot, store_over_displaced};
+pub use slots::{copy, get_slot, put_slot, store_over_displaced};
+pub use table::Slot;
 pub use zeros::{clear, clear_and_put};

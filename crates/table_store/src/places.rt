@@ -8,9 +8,10 @@ ghost use Rattle.table_store.specs.Stores.{Slotted, Stored};
 ghost use Rattle.table_store.specs.Places.{place_from, store_from, Storable};
 
 use crate::fields::put_overflow_link;
-use crate::slots::{Slot, put_slot, store_over_displaced};
+use crate::slots::{put_slot, store_over_displaced};
 use keys::{BlockNumber, ListNumber, SlotNumber};
 use settings::Layout;
+use table::Slot;
 use table_read::blocks::overflow_link;
 use table_read::lists::{block_slot_of, displaced_run};
 use table_read::places::{basic_slot, basic_slots, overflow_slot};

@@ -6,15 +6,8 @@ ghost use Rattle.bits.specs.Put.{put_field};
 ghost use Rattle.keys.specs.Key.{key_number};
 ghost use Rattle.table_store.specs.Stores.{StoredOver};
 
-use keys::Key;
-use table_read::slots::Slots;
-
-// What a slot holds.
-#[derive(Clone, Copy)]
-pub struct Slot {
-    pub entry: Key,
-    pub label: u32,
-}
+use table::Slot;
+use table_read::slots::{Slots, key_at};
 
 // The slot at bit `at`, as it stands: its entry, of bie bits, and its label, of val bits.
 pub fn get_slot(t: &[u8], at: usize, bie: usize, val: usize) -> Slot
@@ -22,21 +15,9 @@ pub fn get_slot(t: &[u8], at: usize, bie: usize, val: usize) -> Slot
     ensures { (key_number result.entry ≡ field t.now at bie) × (result.label ≡ field t.now (at + bie) val) }
 {
     let label = bits::get(t, at + bie, val) as u32;
-    if bie <= 64 {
-        let low = bits::get(t, at, bie);
-        return Slot {
-            entry: Key { high: 0, low: low },
-            label: label,
-        };
-    }
-    let high = bits::get(t, at, bie - 64);
-    let low = bits::get(t, at + (bie - 64), 64);
     Slot {
-        entry: Key {
-            high: high,
-            low: low,
-        },
-        label: label,
+        entry: key_at(t, at, bie),
+        label,
     }
 }
 
@@ -59,7 +40,8 @@ fn below(low: u64, val: usize, label: u32) -> u64
     (low << val) + label as u64
 }
 
-// A slot at bit `at`: its entry, of bie bits, and its label, of val bits. A slot of up to 128 bits is one store.
+// A slot at bit `at`: its entry, of bie bits, and its label, of val bits. A slot of up to 128 bits is one store. It takes
+// plain numbers: a `Slot` would have to lie in memory, whole, since this is called from several places and stays a function.
 pub fn put_slot(t: &mut [u8], at: usize, bie: usize, val: usize, high: u64, low: u64, label: u32)
     requires { (at + (bie + val) ≤ 8 * length t.old) × (at + (bie + val) ≤ most_bits) × (bie ≤ 128) × (val ≤ 32) × (high * 2 ^ 64 + low < 2 ^ bie) × (label < 2 ^ val) }
     ensures { t.new ≡ put_field t.old at (bie + val) ((high * 2 ^ 64 + low) * 2 ^ val + label) }

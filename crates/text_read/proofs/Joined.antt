@@ -10,20 +10,20 @@ use mathlib.Core.Bool.{Bool, true, false, cond, ◌&&◌}
 use mathlib.Core.List.{List, [], ◌∷◌, ◌++◌}
 use mathlib.Core.Option.{Option, none, some}
 use lib.ListN.{length, replicate}
-use lib.Dec.{leb, ltb, lit<}
-use borrow.Author.Tests.{ltb-true, leb-true, lt-ltb, le-ltb}
+use lib.Dec.{leb, ltb, eqb, lit<}
+use borrow.Author.Tests.{ltb-true, leb-true, lt-ltb, le-ltb, eq-eqb}
 use Rattle.laws.specs.Cases.{both_true}
 use Rattle.keys.specs.Key.{key_of}
 use Rattle.settings.specs.declared.refusal.Refusal.TheVariants as refusal
 use Rattle.text_read.specs.Class.{class_of}
 use Rattle.text_read.specs.Numerals.{digits, number, group}
-use Rattle.text_read.specs.Reading.{push, dotted, or_else, groups, filled, joined}
+use Rattle.text_read.specs.Reading.{filled, joined}
 use Rattle.text_read.specs.Answers.{keyed}
-use Rattle.text_read.specs.ReaderSteps.{number_of, made, Sized, dotted_from, filled_with, filled_by}
-use Rattle.text_read.specs.theory.Joined.{digit_more, Small, joined_append}
+use Rattle.text_read.specs.Gathered.{Gathered, made, Sized, filled_with}
+use Rattle.text_read.specs.ReaderSteps.{filled_by}
+use Rattle.text_read.specs.theory.Joined.{digit_more, joined_append}
 use Rattle.text_read.proofs.Fields.{digit_most}
-use Rattle.text_read.proofs.Splits.{halves, dotted_halves, dotted_below}
-use Rattle.text_read.specs.declared.reader.Groups.{Groups}
+use Rattle.text_read.specs.declared.groups.Groups.TheInside.{Inside}
 
 -- Each group is below 65,536 ----------------------------------------------------------------------------------------------
 
@@ -34,10 +34,6 @@ number_bound (x ∷ f) n v d h =
     let p = both_true (ltb (class_of x) 16) (digits 16 f) d in
     let e : n + suc (length f) ≡ n + 1 + length f = omega arith in
     rw e (number_bound f (n + 1) (v * 16 + class_of x) p.1 (digit_more 16 n v (class_of x) h (ltb-true (class_of x) 16 p.0)))
-
-abbrev pub AllSmall : Option (List ℕ) → Type 0
-AllSmall none = Unit {0}
-AllSmall (some l) = Small l
 
 abbrev One : Option ℕ → Type 0
 One none = Unit {0}
@@ -56,30 +52,6 @@ group_one f = go (digits 16 f && leb 1 (length f) && leb (length f) 4) refl
 
 pub group_small : (f : List ℕ) (v : ℕ) → group f ≡ some v → v < 65536
 group_small f v e = rw e at (group_one f)
-
-pub dotted_small : (t : List ℕ) → AllSmall (dotted t)
-dotted_small t = rw (dotted_halves t) (go (dotted_from 0 0 t) refl)
-  where
-    go : (o : Option ℕ) → dotted_from 0 0 t ≡ o → AllSmall (halves o)
-    go none e = tt
-    go (some w) e = (omega (arith, dotted_below t w e), (omega arith, tt))
-
-push_small : (o : Option ℕ) (r : Option (List ℕ)) → One o → AllSmall r → AllSmall (push o r)
-unfolding push
-push_small none r a b = tt
-push_small (some v) none a b = tt
-push_small (some v) (some l) a b = (a, b)
-
-pub groups_small : (end : Bool) (fs : List (List ℕ)) → AllSmall (groups end fs)
-unfolding groups
-groups_small end [] = tt
-groups_small end (f ∷ []) = go (group f) (group_one f) end
-  where
-    go : (o : Option ℕ) → One o → (d : Bool) → AllSmall (or_else o (cond d (dotted f) none))
-    go none k true = unfold or_else in dotted_small f
-    go none k false = unfold or_else in tt
-    go (some v) k d = unfold or_else in (k, tt)
-groups_small end (f ∷ g ∷ fs) = push_small (group f) (groups end (g ∷ fs)) (group_one f) (groups_small end (g ∷ fs))
 
 -- The number --------------------------------------------------------------------------------------------------------------
 
@@ -101,30 +73,20 @@ joined_zeros v (suc n) = joined_zeros (v * 65536 + 0) n ∙ rw (pow-suc, shift v
 
 -- Two halves ------------------------------------------------------------------------------------------------------------
 
-pub made_number : (v n : ℕ) → number_of (made v n) ≡ v
-unfolding made
-made_number v n = omega arith
+abbrev number_of : Inside → ℕ
+number_of g = g.high * 2 ^ 64 + g.low
 
-pub made_sized : (v n : ℕ) → v < 65536 ^ n → Sized (made v n)
-unfolding made
-made_sized v n h = record { fits = rw (made_number v n) h; half = omega arith }
+abbrev gathered_of : Inside → Gathered
+gathered_of g = made (number_of g) g.count
 
-low_only : (g : Groups) → number_of g < 2 ^ 64 → number_of g ≡ g.low
+abbrev Sound : Inside → Type 0
+Sound g = Sized g.high g.low g.count
+
+top_half : (r h l : ℕ) → h * 2 ^ 64 + l < r * 2 ^ 64 → h < r
+top_half r h l b = omega arith
+
+low_only : (g : Inside) → number_of g < 2 ^ 64 → number_of g ≡ g.low
 low_only g h = omega arith
-
--- the groups p are the groups g and the group x
-pub record Pushed (g : Groups) (x : ℕ) (p : Groups) : Type 0 where
-  pub number : number_of p ≡ number_of g * 65536 + x
-  pub count : p.count ≡ g.count + 1
-  pub sized : Sized p
-
-pub pushed_of : (g : Groups) (x : ℕ) (p : Groups) → Sized g → x < 65536 → p ≡ made (number_of g * 65536 + x) (g.count + 1) → Pushed g x p
-unfolding made
-pushed_of g x p h l e = record {
-  number = ap number_of e ∙ made_number (number_of g * 65536 + x) (g.count + 1);
-  count = ap (λ (q : Groups). q.count) e;
-  sized = rw e (made_sized (number_of g * 65536 + x) (g.count + 1) (digit_more 65536 g.count (number_of g) x h.fits l));
-}
 
 -- The gap ---------------------------------------------------------------------------------------------------------------
 
@@ -206,19 +168,51 @@ up (suc n) high low p w x f b h l e =
     let d : w < p = omega (arith, rw t at b) in
     record { fits = rw s at (digits_lt c d); number = rw t (low_up high low p w x (omega arith)) }
 
--- at most four groups before the gap, moved up by p: the high half has room for them and for the tail's high half
-pub record Raised (head tail : Groups) (p : ℕ) : Type 0 where
-  pub fits : head.low * p + tail.high < 2 ^ 64
-  pub answer : filled_with (number_of head) head.count (number_of tail) tail.count ≡ Ok (record { high = head.low * p + tail.high; low = tail.low })
+-- what groups make, by their halves: s and t are what the halves `head` and `tail` stand for
+module _ (s : Gathered) (head : Inside) (es : gathered_of head ≡ s) (sh : Sound head) where
+  pub eight_key : head.count ≡ 8 → cond (eqb s.count 8) (Ok (key_of s.number)) (Err refusal.Text) ≡ Ok (record { high = head.high; low = head.low })
+  eight_key e = rw (← es, eq-eqb head.count 8 e, key_halves (number_of head) head.high head.low sh.half refl)
 
-pub raised : (head tail : Groups) (p : ℕ) → Sized head → Sized tail → head.count ≤ 4 → head.count + tail.count ≤ 7 → tail.high < 2 ^ 64
-    → p ≡ 65536 ^ ((4 - head.count) % 4) → Raised head tail p
-raised head tail p sh st l m h e =
-    let u = up head.count head.high head.low p tail.high tail.low sh.fits (below head.count tail.count (number_of tail) st.fits m) h l e in
-    record {
-      fits = u.fits;
-      answer = filled_found (number_of head) head.count (number_of tail) tail.count (head.low * p + tail.high) tail.low (omega arith) st.half u.number;
-    }
+  module _ (t : Gathered) (tail : Inside) (et : gathered_of tail ≡ t) (st : Sound tail) where
+    pub filled_over : 7 < head.count + tail.count → filled_with s.number s.count t.number t.count ≡ Err refusal.Text
+    filled_over h = rw (← es, ← et) (filled_none (number_of head) head.count (number_of tail) tail.count h)
+
+    -- at most four groups, moved up by p: the high half has room for them and for the tail's high half
+    pub record Raised (p : ℕ) : Type 0 where
+      pub fits : head.low * p + tail.high < 2 ^ 64
+      pub answer : filled_with s.number s.count t.number t.count ≡ Ok (record { high = head.low * p + tail.high; low = tail.low })
+
+    pub raised : (p : ℕ) → s.count ≤ 4 → s.count + t.count ≤ 7 → p ≡ 65536 ^ ((4 - head.count) % 4) → Raised p
+    raised p l m e =
+        let n : head.count ≡ s.count = ap (λ (g : Gathered). g.count) es in
+        let k : tail.count ≡ t.count = ap (λ (g : Gathered). g.count) et in
+        let h : tail.high < 2 ^ 64 = top_half (65536 ^ 4) tail.high tail.low (digit_most 65536 tail.count 8 (number_of tail) (lit< tt) st.fits st.most) in
+        let u = up head.count head.high head.low p tail.high tail.low sh.fits (below head.count tail.count (number_of tail) st.fits (omega arith)) h (omega arith) e in
+        record {
+          fits = u.fits;
+          answer =
+              rw (← es, ← et)
+              (filled_found (number_of head) head.count (number_of tail) tail.count (head.low * p + tail.high) tail.low (omega arith) st.half u.number);
+        }
+
+    -- five to seven groups: there is room for the tail's, which are below 2^64, as the last of eight
+    pub record Pushed : Type 0 where
+      pub fits : tail.low < 65536 ^ (8 - head.count)
+      pub room : s.count + (8 - head.count) ≤ 8
+      pub answer : cond (eqb (s.count + (8 - head.count)) 8) (Ok (key_of (s.number * 65536 ^ (8 - head.count) + tail.low))) (Err refusal.Text) ≡ filled_with s.number s.count t.number t.count
+
+    pub pushed : 4 < head.count → head.count + tail.count ≤ 7 → Pushed
+    unfolding filled_with
+    pushed l m =
+        let n = head.count in
+        let w : number_of tail < 65536 ^ (8 - n) = below n tail.count (number_of tail) st.fits m in
+        let v : number_of tail ≡ tail.low = low_only tail (digit_most 65536 (8 - n) 4 (number_of tail) (lit< tt) w (omega arith)) in
+        let c : n + (8 - n) ≡ 8 = omega arith in
+        record {
+          fits = rw v at w;
+          room = rw (← es) (omega arith);
+          answer = rw (← es, ← et, eq-eqb (n + (8 - n)) 8 c, lt-ltb (n + tail.count) 8 (omega arith), v);
+        }
 
 across : (high low x q r : ℕ) → r * q ≡ 2 ^ 64 → (high * 2 ^ 64 + low) * q + x ≡ (high * q + low / r) * 2 ^ 64 + (low % r * q + x)
 across high low x q r h =
@@ -227,68 +221,36 @@ across high low x q r h =
     in
     omega (arith, add-mul (high * 2 ^ 64) low q, mul_right_comm high (2 ^ 64) q)
 
--- five to seven groups before the gap, moved up by q, of which the upper ones of the low half are low / r: both halves have room
-pub record Across (head tail : Groups) (q r : ℕ) : Type 0 where
-  pub some : 0 < r
-  pub high : head.high * q + head.low / r < 2 ^ 64
-  pub low : head.low % r * q + tail.low < 2 ^ 64
-  pub answer : filled_with (number_of head) head.count (number_of tail) tail.count ≡ Ok (record { high = head.high * q + head.low / r; low = head.low % r * q + tail.low })
-
-pub moved : (head tail : Groups) (q r : ℕ) → Sized head → Sized tail → 4 < head.count → head.count + tail.count ≤ 7
-    → q ≡ 65536 ^ (8 - head.count) → r ≡ 65536 ^ (head.count - 4) → Across head tail q r
-moved head tail q r sh st l m e k =
-    let n = head.count in
-    let i : n - 4 + (8 - n) ≡ 4 = omega arith in
-    let j : n ≡ n - 4 + 4 = omega arith in
-    let s : r * q ≡ 2 ^ 64 = rw (e, k, ← pow-add 65536 (n - 4) (8 - n), i) in
-    let t : 65536 ^ n ≡ r * 2 ^ 64 = ap (λ (x : ℕ). 65536 ^ x) j ∙ pow-add 65536 (n - 4) 4 ∙ rw k in
-    let a : head.high < r = omega (arith, rw t at sh.fits) in
-    let z : 0 < r = omega arith in
-    let b : head.low / r < q = (div-lt_iff_lt-mul z).1 (rw (mul_comm q r, s) sh.half) in
-    let w : number_of tail < 65536 ^ (8 - n) = below n tail.count (number_of tail) st.fits m in
-    let v : number_of tail ≡ tail.low = low_only tail (digit_most 65536 (8 - n) 4 (number_of tail) (lit< tt) w (omega arith)) in
-    let c : tail.low < q = rw (v, ← e) at w in
-    let d : head.low % r * q + tail.low < 2 ^ 64 = rw s at (digits_lt (mod-lt head.low z) c) in
-    record {
-      some = z;
-      high = rw s at (digits_lt a b);
-      low = d;
-      answer = filled_found (number_of head) n (number_of tail) tail.count (head.high * q + head.low / r) (head.low % r * q + tail.low) (omega arith) d (rw (v, ← e) (across head.high head.low tail.low q r s));
-    }
-
 -- More groups -----------------------------------------------------------------------------------------------------------
 
-made_of : (v n h l : ℕ) → l < 2 ^ 64 → v ≡ h * 2 ^ 64 + l → made v n ≡ record { high = h; low = l; count = n }
-unfolding made
-made_of v n h l b e =
-    let p : v / 2 ^ 64 ≡ h = omega arith in
-    let q : v % 2 ^ 64 ≡ l = omega arith in
-    rw (p, q)
-
--- n groups more, the number x, behind groups that are moved up by q; the upper ones of the low half are low / r: both halves have room
-pub record Moved (g : Groups) (n x q r : ℕ) : Type 0 where
+-- n groups more, the number x, behind groups s that are moved up by q; the upper ones of the low half are low / r: both halves have room
+pub record Moved (s : Gathered) (g : Inside) (n x q r : ℕ) : Type 0 where
   pub some : 0 < r
   pub high : g.high * q + g.low / r < 2 ^ 64
   pub low : g.low % r * q + x < 2 ^ 64
-  pub groups : made (number_of g * 65536 ^ n + x) (g.count + n) ≡ record { high = g.high * q + g.low / r; low = g.low % r * q + x; count = g.count + n }
+  pub sized : Sized (g.high * q + g.low / r) (g.low % r * q + x) (g.count + n)
+  pub groups : gathered_of (record { high = g.high * q + g.low / r; low = g.low % r * q + x; count = g.count + n }) ≡ made (s.number * 65536 ^ n + x) (s.count + n)
 
-pub moved_up : (g : Groups) (n x q r : ℕ) → Sized g → n ≤ 4 → g.count + n ≤ 8 → x < 65536 ^ n → q ≡ 65536 ^ n → r ≡ 65536 ^ (4 - n) → Moved g n x q r
-moved_up g n x q r z l m h e k =
+pub moved_up : (s : Gathered) (g : Inside) (n x q r : ℕ) → gathered_of g ≡ s → Sound g → n ≤ 4 → s.count + n ≤ 8 → x < 65536 ^ n
+    → q ≡ 65536 ^ n → r ≡ 65536 ^ (4 - n) → Moved s g n x q r
+moved_up s g n x q r es z l m h e k =
+    let c : g.count ≡ s.count = ap (λ (g : Gathered). g.count) es in
     let i : 4 - n + n ≡ 4 = omega arith in
     let j : 8 - n ≡ 4 - n + 4 = omega arith in
-    let s : r * q ≡ 2 ^ 64 = rw (e, k, ← pow-add 65536 (4 - n) n, i) in
+    let w : r * q ≡ 2 ^ 64 = rw (e, k, ← pow-add 65536 (4 - n) n, i) in
     let t : 65536 ^ (8 - n) ≡ r * 2 ^ 64 = ap (λ (y : ℕ). 65536 ^ y) j ∙ pow-add 65536 (4 - n) 4 ∙ rw k in
     let f : number_of g < r * 2 ^ 64 = rw t at (digit_most 65536 g.count (8 - n) (number_of g) (lit< tt) z.fits (omega arith)) in
     let a : g.high < r = omega arith in
     let o : 0 < r = omega arith in
-    let b : g.low / r < q = (div-lt_iff_lt-mul o).1 (rw (mul_comm q r, s) z.half) in
-    let c : x < q = rw e h in
-    let d : g.low % r * q + x < 2 ^ 64 = rw s at (digits_lt (mod-lt g.low o) c) in
+    let b : g.low / r < q = (div-lt_iff_lt-mul o).1 (rw (mul_comm q r, w) z.half) in
+    let u : x < q = rw e h in
+    let d : g.low % r * q + x < 2 ^ 64 = rw w at (digits_lt (mod-lt g.low o) u) in
+    let y : number_of g * 65536 ^ n + x ≡ (g.high * q + g.low / r) * 2 ^ 64 + (g.low % r * q + x) =
+    ap (λ (y : ℕ). number_of g * y + x) (sym e) ∙ across g.high g.low x q r w in
     record {
       some = o;
-      high = rw s at (digits_lt a b);
+      high = rw w at (digits_lt a b);
       low = d;
-      groups =
-          made_of (number_of g * 65536 ^ n + x) (g.count + n) (g.high * q + g.low / r) (g.low % r * q + x) d
-          (ap (λ (y : ℕ). number_of g * y + x) (sym e) ∙ across g.high g.low x q r s);
+      sized = record { fits = rw (← y, pow-add 65536 g.count n) (digits_lt z.fits h); half = d; most = omega arith };
+      groups = rw (← es, y);
     }

@@ -2,7 +2,7 @@
 use Rattle.std.specs.Prelude.{Result, Ok, Err, Option as Found, Some, None}
 use Rattle.keys.specs.declared.Key.{Key}
 use Rattle.settings.specs.declared.refusal.Refusal.{Refusal}
-use Prim.Native.Nat.{ℕ, suc, ◌+◌, ◌*◌, ◌/◌, ◌%◌, ◌^◌, ◌≤◌, ◌<◌}
+use Prim.Native.Nat.{ℕ, suc, ◌+◌, ◌*◌, ◌/◌, ◌%◌, ◌≤◌, ◌<◌}
 use native.Mathlib.Nat.{zero-add}
 use native.Mathlib.Omega.{arith}
 use mathlib.Core.Path.{◌≡◌, refl, sym, ap, ◌∙◌}
@@ -10,8 +10,8 @@ use mathlib.Core.Bool.{Bool, true, false, cond, ◌&&◌, and-false}
 use mathlib.Core.List.{List, [], ◌∷◌, ◌++◌}
 use mathlib.Core.Option.{Option, none, some}
 use lib.ListN.{length, drop, get_or, length-append, drop_of_length-le}
-use lib.Dec.{leb, eqb, lit<, lit≤}
-use borrow.Author.Tests.{eqb-true, eqb-false, leb-true, leb-false, eq-eqb, ne_eqb, le-ltb, le-leb, lt-leb}
+use lib.Dec.{leb, eqb}
+use borrow.Author.Tests.{eqb-true, eqb-false, leb-false, eq-eqb, ne_eqb, le-ltb, le-leb, lt-leb}
 use Rattle.laws.specs.Cases.{cases, both_true, never, cond_same}
 use Rattle.laws.specs.Lists.{drop_next}
 use Rattle.laws.specs.Options.{nothing}
@@ -21,15 +21,14 @@ use Rattle.text_read.specs.Class.{class_of, colon}
 use Rattle.text_read.specs.Numerals.{digits, group, decimal}
 use Rattle.text_read.specs.Reading.{split, push, decimals, two_groups, dotted, or_else, groups, part, Cut, whole, parted, behind, begins, tail, cut, eight, filled, groups_of_cut, groups_of_colons, joined}
 use Rattle.text_read.specs.Answers.{keyed, reading_of}
-use Rattle.text_read.specs.ReaderSteps.{until, dotted_from, number_of, made, Sized, to_end, to_gap, part_of_cut, part_from, mapped_or, part_at, filled_with, filled_by, after_gap, Fine, head_answer}
+use Rattle.text_read.specs.Gathered.{Gathered, made, filled_with}
+use Rattle.text_read.specs.ReaderSteps.{until, dotted_from, to_end, to_gap, part_of_cut, part_from, mapped_or, part_at, filled_by, after_gap, gathered, Fine, head_answer}
 use Rattle.text_read.proofs.Splits.{past, later, split_eq, until_all, past_class, alone, followed, Past, halves, dotted_halves, dotted_colon}
-use Rattle.text_read.specs.theory.Joined.{Small, joined_lt}
-use Rattle.text_read.proofs.Joined.{AllSmall, dotted_small, groups_small, made_number, made_sized, filled_key}
+use Rattle.text_read.proofs.Joined.{filled_key}
 use Rattle.text_read.specs.theory.Cuts.{behinds, behinds_nil, behind_behinds}
 use Rattle.text_read.specs.theory.Options.{push_none}
 use Rattle.text_read.specs.theory.Dotted.{dotted_none, read_dotted}
 use Rattle.text_read.proofs.Whole.{reading_bare, reading_colons, cut_undotted}
-use Rattle.text_read.specs.declared.reader.Groups.{Groups}
 use Rattle.text_read.specs.declared.reader.Part.{Part}
 use Rattle.text_read.specs.declared.reader.Part.TheVariants as answer
 
@@ -293,23 +292,17 @@ module _ (v n : ℕ) (t : List ℕ) (at : ℕ) where
   part_colons g e = rw (group_undotted t g e) (cond_same (eqb at 0) (part_from v n t at))
 
 -- no group in the first field: it is dotted, and these groups stand before it
-pub part_tail : (g b : Groups) (t : List ℕ) (at : ℕ) → group (until colon t) ≡ none → b ≡ cond (eqb at 0) (made 65535 6) g
-    → part_at (number_of g) g.count t at ≡ to_end (number_of b) b.count (dotted t)
+pub part_tail : (g b : Gathered) (t : List ℕ) (at : ℕ) → group (until colon t) ≡ none → b ≡ cond (eqb at 0) (made 65535 6) g
+    → part_at g.number g.count t at ≡ to_end b.number b.count (dotted t)
 unfolding part_at
 part_tail g b t at e f = cases (eqb at 0) (λ z. rw (f, z) (start (dotted t) refl)) (λ z. rw (f, z) plain)
   where
-    plain : part_from (number_of g) g.count t at ≡ to_end (number_of g) g.count (dotted t)
-    plain = part_dotted (number_of g) g.count t at e
+    plain : part_from g.number g.count t at ≡ to_end g.number g.count (dotted t)
+    plain = part_dotted g.number g.count t at e
 
-    start : (o : Option (List ℕ)) → dotted t ≡ o
-        → mapped_or o (part_from (number_of g) g.count t at) ≡ to_end (number_of (made 65535 6)) (made 65535 6).count o
+    start : (o : Option (List ℕ)) → dotted t ≡ o → mapped_or o (part_from g.number g.count t at) ≡ to_end 65535 6 o
     start none d = unfold mapped_or in (plain ∙ rw d (unfold to_end in refl))
-    start (some l) d = unfold mapped_or in rw (made_number 65535 6) (unfold made in refl)
-
-pub before_sized : (at : ℕ) (g : Groups) → Sized g → g.count ≤ 8
-    → let b = cond (eqb at 0) (made 65535 6) g in Sized b × (b.count ≤ 8)
-before_sized at g z h =
-    cases (eqb at 0) (λ e. rw e (made_sized 65535 6 (lit< tt), (unfold made in lit≤ tt))) (λ e. rw e (z, h))
+    start (some l) d = unfold mapped_or in refl
 
 -- by places: a group g in the field from i on, which ends at `end`
 module _ (v n : ℕ) (s : List ℕ) (i g end : ℕ) (e : group (until colon (drop i s)) ≡ some g) (p : Past colon s i end) where
@@ -365,87 +358,83 @@ tail_some v n t w e h = tail_halves v n t (some w) e ∙ (unfold to_end joined i
 
 -- What a part is ----------------------------------------------------------------------------------------------------------
 
--- groups to the end of the text, or to "::"
-module _ (v n : ℕ) (h : v < 65536 ^ n) where
-  made_fine : (l : List ℕ) → Small l → Sized (made (joined v l) (n + length l))
-  made_fine l k = made_sized (joined v l) (n + length l) (joined_lt l n v k h)
+-- groups to the end of the text
+end_fine : (v n last : ℕ) (o : Option (List ℕ)) → Fine last (to_end v n o)
+unfolding to_end
+end_fine v n last none = tt
+end_fine v n last (some l) = cases (leb (n + length l) 8) (λ e. rw e tt) (λ e. rw e tt)
 
-  end_fine : (last : ℕ) (o : Option (List ℕ)) → AllSmall o → Fine last (to_end v n o)
-  unfolding to_end
-  end_fine last none k = tt
-  end_fine last (some l) k = test (leb (n + length l) 8) refl
-    where
-      test : (b : Bool) → leb (n + length l) 8 ≡ b → Fine last (cond b (Some (answer.Whole (made (joined v l) (n + length l)))) None)
-      test true e = unfold made in (made_fine l k, leb-true (n + length l) 8 e)
-      test false e = tt
+-- or to "::"
+gap_fine : (v n last next : ℕ) (o : Option (List ℕ)) → 0 < next → next ≤ last → Fine last (to_gap v n next o)
+unfolding to_gap
+gap_fine v n last next none p q = tt
+gap_fine v n last next (some l) p q = cases (leb (n + length l) 8) (λ e. rw e (p, q)) (λ e. rw e tt)
 
-  gap_fine : (last next : ℕ) (o : Option (List ℕ)) → AllSmall o → 0 < next → next ≤ last → Fine last (to_gap v n next o)
-  unfolding to_gap
-  gap_fine last next none k p q = tt
-  gap_fine last next (some l) k p q = test (leb (n + length l) 8) refl
-    where
-      test : (b : Bool) → leb (n + length l) 8 ≡ b → Fine last (cond b (Some (answer.Gap (made (joined v l) (n + length l)) next)) None)
-      test true e = unfold made in (made_fine l k, leb-true (n + length l) 8 e, p, q)
-      test false e = tt
-
-pub part_fine : (t : List ℕ) (at : ℕ) → Fine (at + length t) (part_from 0 0 t at)
+part_fine : (t : List ℕ) (at : ℕ) → Fine (at + length t) (part_from 0 0 t at)
 unfolding part_from
 part_fine t at = go (cut t) refl
   where
     go : (q : Cut) → cut t ≡ q → Fine (at + length t) (part_of_cut 0 0 t at q)
-    go whole c = unfold part_of_cut in end_fine 0 0 (lit< tt) (at + length t) (groups true (split colon t)) (groups_small true (split colon t))
+    go whole c = unfold part_of_cut in end_fine 0 0 (at + length t) (groups true (split colon t))
     go (parted a r) c =
         unfold part_of_cut in
-        gap_fine 0 0 (lit< tt) (at + length t) (at + length a + 2) (groups false (split colon a)) (groups_small false (split colon a)) (omega arith) (omega (arith, (cut_drop t a r c).1))
+        gap_fine 0 0 (at + length t) (at + length a + 2) (groups false (split colon a)) (omega arith) (omega (arith, (cut_drop t a r c).1))
 
 pub start_fine : (s : List ℕ) → Fine (length s) (part_at 0 0 s 0)
 unfolding part_at
-start_fine s = go (dotted s) (dotted_small s)
+start_fine s = go (dotted s)
   where
-    go : (o : Option (List ℕ)) → AllSmall o → Fine (length s) (mapped_or o (part_from 0 0 s 0))
-    go none k = unfold mapped_or in (rw (zero-add (length s)) at (part_fine s 0))
-    go (some l) k = unfold mapped_or in end_fine 65535 6 (lit< tt) (length s) (some l) k
+    go : (o : Option (List ℕ)) → Fine (length s) (mapped_or o (part_from 0 0 s 0))
+    go none = unfold mapped_or in (rw (zero-add (length s)) at (part_fine s 0))
+    go (some l) = unfold mapped_or in end_fine 65535 6 (length s) (some l)
 
 -- What the parts make -----------------------------------------------------------------------------------------------------
 
--- the address, where the part behind "::" is this
-abbrev pub tail_answer : ℕ → ℕ → Found Part → Result Key Refusal
-tail_answer v n None = Err refusal.Text
-tail_answer v n (Some (answer.Gap g next)) = Err refusal.Text
-tail_answer v n (Some (answer.Whole g)) = filled_with v n (number_of g) g.count
+-- the groups of a part that goes to the end of the text
+abbrev pub whole_of : Found Part → Found Gathered
+whole_of None = None
+whole_of (Some (answer.Gap g next)) = None
+whole_of (Some (answer.Whole g)) = Some g
 
-filled_many : (v n w m : ℕ) → 8 < m → filled_with v n w m ≡ Err refusal.Text
-unfolding filled_with
-filled_many v n w m h = rw (le-ltb (n + m) 8 (omega arith))
+gathered_empty : gathered (part true []) ≡ Some (made 0 0)
+unfolding gathered part joined
+gathered_empty = refl
 
-after_empty : (v n : ℕ) → after_gap v n [] ≡ filled_with v n 0 0
-unfolding after_gap part filled_by joined
-after_empty v n = refl
-
-after_part : (v n : ℕ) (x : ℕ) (t : List ℕ) (at : ℕ) → after_gap v n (x ∷ t) ≡ tail_answer v n (part_from 0 0 (x ∷ t) at)
-unfolding after_gap part part_from
-after_part v n x t at = go (cut (x ∷ t)) refl
+gathered_part : (x : ℕ) (t : List ℕ) (at : ℕ) → gathered (part true (x ∷ t)) ≡ whole_of (part_from 0 0 (x ∷ t) at)
+unfolding part part_from
+gathered_part x t at = go (cut (x ∷ t)) refl
   where
-    go : (q : Cut) → cut (x ∷ t) ≡ q → filled_by v n (groups true (split colon (x ∷ t))) ≡ tail_answer v n (part_of_cut 0 0 (x ∷ t) at q)
-    go whole c = unfold part_of_cut in by (groups true (split colon (x ∷ t)))
-      where
-        by : (o : Option (List ℕ)) → filled_by v n o ≡ tail_answer v n (to_end 0 0 o)
-        by none = unfold filled_by to_end in refl
-        by (some l) = unfold filled_by to_end in test (leb (0 + length l) 8) refl
-          where
-            test : (b : Bool) → leb (0 + length l) 8 ≡ b
-                → filled_with v n (joined 0 l) (length l) ≡ tail_answer v n (cond b (Some (answer.Whole (made (joined 0 l) (0 + length l)))) None)
-            test true h = rw (made_number (joined 0 l) (0 + length l)) (unfold made in rw (zero-add (length l)))
-            test false h = filled_many v n (joined 0 l) (length l) (omega (arith, leb-false (0 + length l) 8 h))
-    go (parted a r) c = unfold part_of_cut in rw (gap_none true (x ∷ t) a r c) (by (groups false (split colon a)))
-      where
-        by : (o : Option (List ℕ)) → filled_by v n none ≡ tail_answer v n (to_gap 0 0 (at + length a + 2) o)
-        by none = unfold filled_by to_gap in refl
-        by (some l) = unfold filled_by to_gap in test (leb (0 + length l) 8)
-          where
-            test : (b : Bool) → Err refusal.Text ≡ tail_answer v n (cond b (Some (answer.Gap (made (joined 0 l) (0 + length l)) (at + length a + 2))) None)
-            test true = refl
-            test false = refl
+    ended : (o : Option (List ℕ)) → gathered o ≡ whole_of (to_end 0 0 o)
+    ended none = unfold gathered to_end in refl
+    ended (some l) = unfold gathered to_end in rw (zero-add (length l)) (cases (leb (length l) 8) (λ e. rw e) (λ e. rw e))
+
+    parting : (next : ℕ) (o : Option (List ℕ)) → None ≡ whole_of (to_gap 0 0 next o)
+    parting next none = unfold to_gap in refl
+    parting next (some l) = unfold to_gap in cases (leb (0 + length l) 8) (λ e. rw e) (λ e. rw e)
+
+    go : (q : Cut) → cut (x ∷ t) ≡ q → gathered (groups true (split colon (x ∷ t))) ≡ whole_of (part_of_cut 0 0 (x ∷ t) at q)
+    go whole c = unfold part_of_cut in ended (groups true (split colon (x ∷ t)))
+    go (parted a r) c =
+        unfold part_of_cut in
+        rw (gap_none true (x ∷ t) a r c) (unfold gathered in parting (at + length a + 2) (groups false (split colon a)))
+
+-- the address, where the groups behind "::" are these
+abbrev pub behind_answer : ℕ → ℕ → Found Gathered → Result Key Refusal
+behind_answer v n None = Err refusal.Text
+behind_answer v n (Some g) = filled_with v n g.number g.count
+
+pub after_behind : (v n : ℕ) (t : List ℕ) → after_gap v n t ≡ behind_answer v n (gathered (part true t))
+unfolding after_gap
+after_behind v n t = go (part true t)
+  where
+    many : (w m : ℕ) → 8 < m → filled_with v n w m ≡ Err refusal.Text
+    many w m h = unfold filled_with in rw (le-ltb (n + m) 8 (omega arith))
+
+    go : (o : Option (List ℕ)) → filled_by v n o ≡ behind_answer v n (gathered o)
+    go none = unfold filled_by gathered in refl
+    go (some l) =
+        unfold filled_by gathered in
+        cases (leb (length l) 8) (λ e. rw e) (λ e. rw e (many (joined 0 l) (length l) (leb-false (length l) 8 e)))
 
 keyed_if : (b : Bool) (l : List ℕ) → keyed (cond b (some l) none) ≡ cond b (Ok (key_of (joined 0 l))) (Err refusal.Text)
 unfolding keyed
@@ -459,7 +448,7 @@ head_whole s (some l) = keyed_if (eqb (length l) 8) l ∙ test (leb (0 + length 
   where
     test : (b : Bool) → leb (0 + length l) 8 ≡ b
         → cond (eqb (length l) 8) (Ok (key_of (joined 0 l))) (Err refusal.Text) ≡ head_answer s (cond b (Some (answer.Whole (made (joined 0 l) (0 + length l)))) None)
-    test true h = rw (made_number (joined 0 l) (0 + length l)) (unfold made in rw (zero-add (length l)))
+    test true h = rw (zero-add (length l))
     test false h = rw (ne_eqb (length l) 8 (λ e. omega (arith, leb-false (0 + length l) 8 h)))
 
 filled_over : (v n : ℕ) (o : Option (List ℕ)) → 8 < n → filled_by v n o ≡ Err refusal.Text
@@ -474,7 +463,7 @@ head_gap s l r c (some a) = filled_key a (part true r) ∙ test (leb (0 + length
   where
     test : (b : Bool) → leb (0 + length a) 8 ≡ b
         → filled_by (joined 0 a) (length a) (part true r) ≡ head_answer s (cond b (Some (answer.Gap (made (joined 0 a) (0 + length a)) (0 + length l + 2))) None)
-    test true h = rw (made_number (joined 0 a) (0 + length a), zero-add (length l), (cut_drop s l r c).0) (unfold made after_gap in rw (zero-add (length a)))
+    test true h = rw (zero-add (length l), (cut_drop s l r c).0, zero-add (length a)) (unfold after_gap in refl)
     test false h = filled_over (joined 0 a) (length a) (part true r) (omega (arith, leb-false (0 + length a) 8 h))
 
 cut_plain : (x : ℕ) (s : List ℕ) → (begins (x ∷ s) && begins (tail (x ∷ s))) ≡ false → cut (x ∷ s) ≡ behind x (cut s)
@@ -530,11 +519,11 @@ opens_long [] h = absurd (omega arith)
 opens_long (x ∷ []) h = absurd (omega arith)
 opens_long (x ∷ y ∷ s) h = refl
 
-module _ (v n : ℕ) (s : List ℕ) (at : ℕ) where
-  pub after_end : at ≡ length s → after_gap v n (drop at s) ≡ filled_with v n 0 0
-  after_end h =
+module _ (s : List ℕ) (at : ℕ) where
+  pub behind_end : at ≡ length s → gathered (part true (drop at s)) ≡ Some (made 0 0)
+  behind_end h =
       let l : length s ≤ at = omega arith in
-      rw (drop_of_length-le s l) (after_empty v n)
+      rw (drop_of_length-le s l) gathered_empty
 
-  pub after_here : at < length s → after_gap v n (drop at s) ≡ tail_answer v n (part_from 0 0 (drop at s) at)
-  after_here h = rw (drop_next s at 0 h) (after_part v n (get_or s at 0) (drop (at + 1) s) at)
+  pub behind_here : at < length s → gathered (part true (drop at s)) ≡ whole_of (part_from 0 0 (drop at s) at)
+  behind_here h = rw (drop_next s at 0 h) (gathered_part (get_or s at 0) (drop (at + 1) s) at)

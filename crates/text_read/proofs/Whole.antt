@@ -9,17 +9,16 @@ use Rattle.keys.specs.Key.{key_of}
 use Rattle.text_read.specs.Reading.{dotted, whole, parted, cut, groups_of_colons, mapped, first_of, groups_of, joined}
 use Rattle.text_read.specs.Grammar.{Dotted, four, bare}
 use Rattle.text_read.specs.Answers.{keyed, reading_of}
-use Rattle.text_read.specs.ReaderSteps.{made, to_end, head_answer}
+use Rattle.text_read.specs.ReaderSteps.{to_end, head_answer}
 use Rattle.text_read.proofs.Grammar.{spells_read, dotted_whole}
 use Rattle.text_read.specs.theory.Dotted.{read_dotted}
-use Rattle.text_read.proofs.Joined.{made_number}
 
 -- a dotted text: its two groups, behind six with the number ffff
 pub reading_bare : {s l : List ℕ} → Dotted s l → reading_of s ≡ head_answer s (to_end 65535 6 (some l))
 unfolding reading_of keyed to_end joined
 reading_bare (four {a = a} {b = b} {c = c} {d = d} p q r w) =
     let n : ℕ = (65535 * 65536 + (a * 256 + b)) * 65536 + (c * 256 + d) in
-    rw (spells_read (bare (four p q r w)), made_number n 8) (unfold made in ap (λ (m : ℕ). Ok (key_of m)) (omega arith))
+    rw (spells_read (bare (four p q r w))) (ap (λ (m : ℕ). Ok (key_of m)) (omega arith))
 
 first_none : (o : Option (List ℕ)) → first_of o (mapped none) ≡ o
 unfolding first_of mapped

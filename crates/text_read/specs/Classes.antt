@@ -1,10 +1,6 @@
--- Words of the contracts that speak of classes: the class table, and the classes of the bytes of a text.
-use Rattle.std.specs.Prelude.{◌≡◌, ℕ, ◌+◌, ◌<◌, cond, List, length, get_or, ltb}
+-- Words of the contracts that speak of the classes of a text's bytes.
+use Rattle.std.specs.Prelude.{◌≡◌, ℕ, ◌+◌, cond, List, length, get_or, ltb}
 use Rattle.text_read.specs.Class.{class_of, colon}
-
--- what the class table holds at each byte
-pub record Classes (table : List ℕ) : Type 0 where
-  pub right : (b : ℕ) → b < 256 → get_or table b 0 ≡ class_of b
 
 -- the class of the byte at i; the end of the text is as good as a byte of class e
 unfoldable pub class_at : ℕ → List ℕ → ℕ → ℕ

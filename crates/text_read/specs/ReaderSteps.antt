@@ -1,15 +1,15 @@
 -- Words of the contracts of the reader's parts: what each part answers, in terms of `Numerals` and `Reading`.
 use Rattle.keys.specs.declared.Key.{Key}
 use Rattle.settings.specs.declared.refusal.Refusal.{Refusal}
-use Rattle.std.specs.Prelude.{ℕ, ◌+◌, ◌-◌, ◌*◌, ◌/◌, ◌%◌, ◌^◌, ◌≤◌, ◌<◌, true, false, cond, List, [], ◌∷◌, length, drop, leb, ltb, eqb, Result, Ok, Err, Option as Found, Some, None}
+use Rattle.std.specs.Prelude.{ℕ, ◌+◌, ◌*◌, ◌≤◌, ◌<◌, true, false, cond, List, [], ◌∷◌, length, drop, leb, ltb, eqb, Result, Ok, Err, Option as Found, Some, None}
 use Rattle.std.proofs.Math.Option.{Option, none, some}
 use Rattle.keys.specs.Key.{key_of}
 use Rattle.settings.specs.declared.refusal.Refusal.TheVariants as refusal
 use Rattle.text_read.specs.Class.{class_of, colon, dot}
+use Rattle.text_read.specs.Gathered.{Gathered, made, filled_with}
 use Rattle.text_read.specs.Numerals.{group, decimal}
 use Rattle.text_read.specs.Reading.{split, decimals, dotted, groups, part, Cut, whole, parted, cut, joined}
 use Rattle.text_read.specs.declared.reader.Numeral.{Numeral}
-use Rattle.text_read.specs.declared.reader.Groups.{Groups}
 use Rattle.text_read.specs.declared.reader.Part.{Part}
 use Rattle.text_read.specs.declared.reader.Part.TheVariants as answer
 
@@ -52,18 +52,6 @@ dotted_from v n t = four v n (decimals (split dot t))
 
 -- Groups ----------------------------------------------------------------------------------------------------------------
 
-abbrev pub number_of : Groups → ℕ
-number_of g = g.high * 2 ^ 64 + g.low
-
--- n groups that stand for the number v
-unfoldable pub made : ℕ → ℕ → Groups
-made v n = record { high = v / 2 ^ 64; low = v % 2 ^ 64; count = n }
-
--- groups that stand for a number of as many digits to the base 65536
-pub record Sized (g : Groups) : Type 0 where
-  pub fits : number_of g < 65536 ^ g.count
-  pub half : g.low < 2 ^ 64
-
 -- the groups to the end of the text, of which n with the number v are read already: eight at most
 unfoldable pub to_end : ℕ → ℕ → Option (List ℕ) → Found Part
 to_end v n none = None
@@ -91,10 +79,6 @@ mapped_or (some l) p = to_end 65535 6 (some l)
 unfoldable pub part_at : ℕ → ℕ → List ℕ → ℕ → Found Part
 part_at v n t at = cond (eqb at 0) (mapped_or (dotted t) (part_from v n t at)) (part_from v n t at)
 
--- eight groups, of which n with the number v stand before "::", and m with the number w behind it
-unfoldable pub filled_with : ℕ → ℕ → ℕ → ℕ → Result Key Refusal
-filled_with v n w m = cond (ltb (n + m) 8) (Ok (key_of (v * 65536 ^ (8 - n) + w))) (Err refusal.Text)
-
 unfoldable pub filled_by : ℕ → ℕ → Option (List ℕ) → Result Key Refusal
 filled_by v n none = Err refusal.Text
 filled_by v n (some l) = filled_with v n (joined 0 l) (length l)
@@ -103,14 +87,19 @@ filled_by v n (some l) = filled_with v n (joined 0 l) (length l)
 unfoldable pub after_gap : ℕ → ℕ → List ℕ → Result Key Refusal
 after_gap v n t = filled_by v n (part true t)
 
+-- the groups of a part, eight at most
+unfoldable pub gathered : Option (List ℕ) → Found Gathered
+gathered none = None
+gathered (some l) = cond (leb (length l) 8) (Some (made (joined 0 l) (length l))) None
+
 -- the address of the text s, where its first part is this
 abbrev pub head_answer : List ℕ → Found Part → Result Key Refusal
 head_answer s None = Err refusal.Text
-head_answer s (Some (answer.Whole g)) = cond (eqb g.count 8) (Ok (key_of (number_of g))) (Err refusal.Text)
-head_answer s (Some (answer.Gap g next)) = after_gap (number_of g) g.count (drop next s)
+head_answer s (Some (answer.Whole g)) = cond (eqb g.count 8) (Ok (key_of g.number)) (Err refusal.Text)
+head_answer s (Some (answer.Gap g next)) = after_gap g.number g.count (drop next s)
 
--- groups of a part: eight at most; "::" ends within the text, and behind its start
+-- "::" ends within the text, and behind its start
 abbrev pub Fine : ℕ → Found Part → Type 0
 Fine last None = Unit {0}
-Fine last (Some (answer.Whole g)) = Sized g × (g.count ≤ 8)
-Fine last (Some (answer.Gap g next)) = Sized g × (g.count ≤ 8) × (0 < next) × (next ≤ last)
+Fine last (Some (answer.Whole g)) = Unit {0}
+Fine last (Some (answer.Gap g next)) = (0 < next) × (next ≤ last)

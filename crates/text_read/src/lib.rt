@@ -2,7 +2,7 @@
 #![tactic(auto)]
 
 mod class;
+mod groups;
 mod reader;
 
-pub use class::{ClassTable, classes};
-pub use reader::{read, read_by};
+pub use reader::read;

@@ -13,8 +13,8 @@ use Rattle.text_read.proofs.Lengths.{read_length}
 use Rattle.text_read.specs.theory.Answers.{unread}
 use Rattle.text_run.specs.Run.{run}
 use Rattle.text_run.specs.Answers.{taking, taken_of}
-use Rattle.text_run.specs.declared.Taken.{Taken}
 use Rattle.text_run.specs.theory.Run.{Stops, run_stops, run_take, run_front}
+use Rattle.text_run.specs.declared.Taken.{Taken}
 
 -- a legal text is taken whatever stops it
 pub taken_stops : (s t : List ℕ) (k : Key) → reading_of s ≡ Ok k → Stops t → taken_of (s ++ t) ≡ Ok (record { key = k; bytes = length s })

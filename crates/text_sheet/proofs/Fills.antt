@@ -18,6 +18,21 @@ spaces n = replicate n 32
 spaces_length : (n : ℕ) → length (spaces n) ≡ n
 spaces_length n = length-replicate n 32
 
+-- one more space
+space_behind : (t r : List ℕ) (k x i : ℕ) → length t + k ≡ i → set (t ++ (spaces k ++ x ∷ r)) i 32 ≡ t ++ (spaces (k + 1) ++ r)
+space_behind t r k x i h =
+    ap (λ (y : List ℕ). set y i 32) (sym (append_assoc t (spaces k) (x ∷ r)))
+    ∙ set_at (t ++ spaces k) x r 32 i (omega (arith, length-append t (spaces k), spaces_length k))
+    ∙ append_assoc t (spaces k) (32 ∷ r)
+    ∙ ap (λ (y : List ℕ). t ++ y) (sym (append_snoc (spaces k) 32 r) ∙ ap (λ (y : List ℕ). y ++ r) (replicate-append-replicate k 1 32))
+
+pub space_more : (l : List ℕ) (from i : ℕ) → from ≤ i → i < length l
+    → set (take from l ++ (spaces (i - from) ++ drop i l)) i 32 ≡ take from l ++ (spaces (i + 1 - from) ++ drop (i + 1) l)
+space_more l from i f h =
+    let n : i + 1 - from ≡ i - from + 1 = omega arith in
+    rw (drop_next l i 0 h, n)
+    (space_behind (take from l) (drop (i + 1) l) (i - from) (get_or l i 0) i (omega (arith, length-take-le from l (omega arith))))
+
 -- A number that ends before `end` -------------------------------------------------------------------------------------------
 
 -- its last digits are put, before i the others are to stand: those of v

@@ -15,7 +15,6 @@ use Rattle.table.specs.Follow.{content_of}
 use Rattle.table.specs.Calls.{held, check_call}
 use Rattle.table.specs.theory.Formed.{All, all_nil, all_cons, all_at, all_take, all_drop, all_append}
 use Rattle.table.specs.theory.Sound.{test_sound}
-use Rattle.table.specs.declared.answers.CheckAnswer.TheVariants as checking
 use Rattle.table_cursor.specs.Undamaged.{undamaged}
 use Rattle.table_cursor.specs.theory.Undamaged.{test_undamaged, undamaged_test}
 use Rattle.plain_set.specs.Rebuilt.{Pair, pair, slots_of, pairs_of, rebuilt_from, rebuilt_pairs}
@@ -87,7 +86,7 @@ module _ (s : Settings) (t : List ℕ) (right : Legal s) (wide : s.w ≡ 128) (r
       }
 
 -- and so of every table for addresses that check finds sound, whatever marks it was lent
-pub sound_sheet : (s : Settings) (t m : List ℕ) → s.w ≡ 128 → (check_call s t m).answer ≡ checking.Sound → Sheet s t
+pub sound_sheet : (s : Settings) (t m : List ℕ) → s.w ≡ 128 → (check_call s t m).answer ≡ Ok true → Sheet s t
 sound_sheet s t m w e =
     let o = sound_opened s t m e in
     sheet s t o.0.right w o.0.room (undamaged_test (layout_of s) t (λ i h n. nothing (sym n ∙ (test_sound (layout_of s) o.1).state.undamaged i h)))

@@ -9,7 +9,7 @@ ghost use Rattle.text_sheet.specs.Answers.{page_call};
 ghost use Rattle.text_sheet.specs.Steps.{page_after};
 
 use crate::rows::put_page;
-use settings::{Laid, Layout, Refusal, Settings};
+use settings::{Layout, Refusal, Settings};
 use table_cursor::{Survey, survey};
 
 // The heading and 40 rows.
@@ -43,19 +43,15 @@ fn surveyed(s: Settings, t: &[u8], g: Layout, page: u64, out: &mut [u8]) -> Resu
 pub fn page(s: Settings, t: &[u8], page: u64, out: &mut [u8]) -> Result<usize, Refusal>
     ensures { Gives (page_call s t.now page out.old) result out.new }
 {
-    match s.layout() {
-        Laid::Layout(g) => {
-            if t.len() < g.bytes {
-                return Err(Refusal::Short);
-            }
-            if s.w != 128 {
-                return Err(Refusal::Width);
-            }
-            if out.len() < PAGE_BYTES {
-                return Err(Refusal::Output);
-            }
-            surveyed(s, t, g, page, out)
-        }
-        Laid::Refused(why) => Err(why),
+    let g = s.layout()?;
+    if t.len() < g.bytes {
+        return Err(Refusal::Short);
     }
+    if s.w != 128 {
+        return Err(Refusal::Width);
+    }
+    if out.len() < PAGE_BYTES {
+        return Err(Refusal::Output);
+    }
+    surveyed(s, t, g, page, out)
 }

@@ -11,12 +11,14 @@ const COLUMNS: usize = 50;
 
 pub(crate) const ROW_BYTES: usize = 51;
 
-// Spaces from one place up to another.
+// Spaces from one place up to another. Tried: `fill` takes five instructions more a row.
 fn put_spaces(line: &mut [u8], from: usize, to: usize)
     requires { (from ≤ to) × (to ≤ length line.old) }
     ensures { line.new ≡ take from line.old ++ (replicate (to - from) 32 ++ drop to line.old) }
 {
-    line[from..to].fill(b' ');
+    for i in from..to {
+        line[i] = b' ';
+    }
 }
 
 // A number in decimal that ends before `end`, the last digit first. How many there are is known only at the end, so that

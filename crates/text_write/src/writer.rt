@@ -20,27 +20,24 @@ struct Run {
 }
 
 // The group at a place of the eight.
-fn group_at(key: Key, i: usize) -> u32
+fn group_at(key: Key, i: usize) -> u16
     requires { i < 8 }
-    ensures { (result ≡ get_or (key_groups key) i 0) × (result < 65536) }
+    ensures { result ≡ get_or (key_groups key) i 0 }
 {
-    if i < 4 {
-        return ((key.high >> (48 - 16 * i)) % 65536) as u32;
-    }
-    ((key.low >> (112 - 16 * i)) % 65536) as u32
+    let half = if i < 4 { key.high } else { key.low };
+    ((half >> (48 - 16 * (i % 4))) % 65536) as u16
 }
 
 // The four hexadecimal digits of a group, one a byte, the first in the lowest.
-fn digits(group: u32) -> u32
-    requires { group < 65536 }
+fn digits(group: u16) -> u32
     ensures { result ≡ packed (group / 4096) (group / 256 % 16) (group / 16 % 16) (group % 16) }
 {
+    let group = u32::from(group);
     group / 4096 + group / 256 % 16 * 256 + group / 16 % 16 * 65536 + group % 16 * 16777216
 }
 
 // A digit d in each byte becomes its character, 48 + d or 87 + d: only from 10 on does d + 6 reach 16.
-fn characters(group: u32) -> u32
-    requires { group < 65536 }
+fn characters(group: u16) -> u32
     ensures { result ≡ packed (hex_digit (group / 4096)) (hex_digit (group / 256 % 16)) (hex_digit (group / 16 % 16)) (hex_digit (group % 16)) }
 {
     let x = digits(group);
@@ -48,16 +45,15 @@ fn characters(group: u32) -> u32
 }
 
 // How many digits the text of a group has: one for every four bits that it needs, and one for 0.
-fn digit_count(group: u32) -> u32
-    requires { group < 65536 }
+fn digit_count(group: u16) -> u32
     ensures { result ≡ length (group_text group) }
 {
-    (35 - u32::leading_zeros(group / 2 * 2 + 1)) / 4
+    (35 - u32::leading_zeros(u32::from(group) / 2 * 2 + 1)) / 4
 }
 
 // A group and a colon. The group is moved up, so that its first digit that counts comes first.
-fn put_group(text: &mut [u8], at: usize, group: u32) -> usize
-    requires { (group < 65536) × (at + 5 ≤ length text.old) }
+fn put_group(text: &mut [u8], at: usize, group: u16) -> usize
+    requires { at + 5 ≤ length text.old }
     ensures { Puts (take at text.old ++ (group_text group ++ 58 ∷ [])) (at + 5) text.old text.new result }
 {
     let n = digit_count(group);

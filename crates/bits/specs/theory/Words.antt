@@ -1,8 +1,10 @@
 -- The laws behind a load and a store of eight bytes at once, and behind reading and writing byte by byte.
-use Rattle.std.specs.Prelude.{◌≡◌, refl, List, ℕ, ◌+◌, ◌*◌, ◌/◌, ◌%◌, ◌^◌, ◌≤◌, ◌<◌, length, get_or, set}
+use Rattle.std.specs.Prelude.{◌≡◌, refl, List, [], ◌∷◌, ℕ, suc, ◌+◌, ◌*◌, ◌/◌, ◌%◌, ◌^◌, ◌≤◌, ◌<◌, ◌++◌, length, get_or, set, take, drop}
 use Rattle.std.proofs.Common.{sym, ap, ◌∙◌, arith}
 use Rattle.std.proofs.Math.Pow.{mod-mod-pow}
 use Rattle.std.proofs.Math.Pow as P
+use mathlib.Core.List.{append_assoc}
+use lib.Seq.{drop-drop, sets, sets-eq}
 use Rattle.bits.specs.Bytes.{Bytes}
 use Rattle.bits.specs.Field.{field}
 use Rattle.bits.specs.Put.{replaced, put_field}
@@ -50,6 +52,24 @@ put_byte_more s off m j v b e l =
     ∙ ap (λ (p : ℕ). put_field (put_field s off m (v / 256)) p 8 (v % 256)) f
     ∙ put_in (put_field s off m (v / 256)) j 0 8 0 (v % 256) (rw put_length l) refl
     ∙ ap (set (put_field s off m (v / 256)) j) (replaced_all _ _ (put_bytes s off m (v / 256) b j) ∙ omega arith)
+
+-- ---- bytes put in the middle at once are stored one by one
+
+pub put_sets : (s vs : List ℕ) (i k : ℕ) → k ≡ length vs → i + length vs ≤ length s → take i s ++ (vs ++ drop k (drop i s)) ≡ sets s i vs
+put_sets s vs i k e h =
+    rw e
+    (ap (λ (r : List ℕ). take i s ++ (vs ++ r)) (drop-drop (length vs) i s)
+    ∙ sym (append_assoc (take i s) vs (drop (i + length vs) s))
+    ∙ sym (sets-eq vs s i h))
+
+-- a number's four low bytes put there at once, the lowest first
+pub put_four : (s : List ℕ) (i x k : ℕ) → k ≡ 4 → i + 4 ≤ length s
+    → take i s ++ ((x % 256 ∷ x / 256 % 256 ∷ x / 65536 % 256 ∷ x / 16777216 % 256 ∷ []) ++ drop k (drop i s)) ≡ set_four s i x
+put_four s i x k e h =
+    let p1 : suc i ≡ i + 1 = omega arith in
+    let p2 : suc (i + 1) ≡ i + 2 = omega arith in
+    let p3 : suc (i + 2) ≡ i + 3 = omega arith in
+    put_sets s (x % 256 ∷ x / 256 % 256 ∷ x / 65536 % 256 ∷ x / 16777216 % 256 ∷ []) i k e h ∙ rw (p1, p2, p3) refl
 
 -- ---- eight bytes
 
@@ -139,6 +159,25 @@ module _ (s : List ℕ) (i : ℕ) (b : Bytes s) where
         put_byte_more s (8 * i) 0 i (w / 72057594037927936) b (omega arith) (omega arith),
         put_zero,
       )
+
+  -- a number's eight bytes put there at once, the highest first
+  pub put_word : (w k : ℕ) → k ≡ 8 → i + 8 ≤ length s
+      → take i s
+      ++ ((w / 72057594037927936 % 256 ∷ w / 281474976710656 % 256 ∷ w / 1099511627776 % 256 ∷ w / 4294967296 % 256 ∷ w / 16777216 % 256 ∷ w / 65536 % 256 ∷ w / 256 % 256 ∷ w % 256 ∷ [])
+      ++ drop k (drop i s))
+      ≡ put_field s (8 * i) 64 w
+  put_word w k e h =
+      let p1 : suc i ≡ i + 1 = omega arith in
+      let p2 : suc (i + 1) ≡ i + 2 = omega arith in
+      let p3 : suc (i + 2) ≡ i + 3 = omega arith in
+      let p4 : suc (i + 3) ≡ i + 4 = omega arith in
+      let p5 : suc (i + 4) ≡ i + 5 = omega arith in
+      let p6 : suc (i + 5) ≡ i + 6 = omega arith in
+      let p7 : suc (i + 6) ≡ i + 7 = omega arith in
+      put_sets s
+      (w / 72057594037927936 % 256 ∷ w / 281474976710656 % 256 ∷ w / 1099511627776 % 256 ∷ w / 4294967296 % 256 ∷ w / 16777216 % 256 ∷ w / 65536 % 256 ∷ w / 256 % 256 ∷ w % 256 ∷ [])
+      i k e h
+      ∙ rw (p1, p2, p3, p4, p5, p6, p7) (sym (put_eight w h))
 
   -- a number swapped round and its bytes set lowest first
   pub store_word : (w x : ℕ) → i + 8 ≤ length s → x ≡ swapped w

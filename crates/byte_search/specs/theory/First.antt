@@ -1,7 +1,6 @@
 -- The laws of where the first byte stands.
-use Rattle.std.specs.Prelude.{◌≡◌, List, [], ◌∷◌, Bool, true, false, ℕ, ◌+◌, ◌≤◌, ◌<◌, length, get_or, drop}
-use Rattle.std.proofs.Common.{arith, length-drop, drop_of_length-le, drop-cons, lit≤}
-use Rattle.laws.specs.Cases.{cases}
+use Rattle.std.specs.Prelude.{◌≡◌, List, Bool, true, false, ℕ, ◌+◌, ◌≤◌, ◌<◌, length, get_or}
+use Rattle.std.proofs.Common.{arith, drop_of_length-le, drop-cons}
 use Rattle.laws.specs.Lists.{drop_next}
 use Rattle.byte_search.specs.First.{before, first_from}
 
@@ -19,14 +18,3 @@ module _ (p : ℕ → Bool) (s : List ℕ) (i : ℕ) where
   pub over : length s ≤ i → first_from p s i ≡ i
   unfolding before first_from
   over h = rw (drop_of_length-le s h) (omega arith)
-
--- ---- bounds
-
-pub before_le : (p : ℕ → Bool) (s : List ℕ) → before p s ≤ length s
-unfolding before
-before_le p [] = lit≤ tt
-before_le p (x ∷ s) = cases (p x) (λ t. rw t (omega arith)) (λ t. rw t (omega (arith, before_le p s)))
-
-pub first_le : (p : ℕ → Bool) (s : List ℕ) (at : ℕ) → at ≤ length s → first_from p s at ≤ length s
-unfolding first_from
-first_le p s at h = omega (arith, before_le p (drop at s), length-drop at s)

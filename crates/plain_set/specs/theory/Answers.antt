@@ -37,17 +37,17 @@ module _ (s : Settings) (t : List ℕ) where
       (λ why e. absurd (let z : ◌≡◌ {A = ℕ} 0 1 = cc in omega arith))
       (λ d e. opened [] d)
 
-  pub sound_opened : (m : List ℕ) → (check_call s t m).answer ≡ (Ok true) → Opened × (table_sound (layout_of s) t ≡ true)
+  pub sound_opened : (m : List ℕ) → (check_call s t m).answer ≡ Ok true → Opened × (table_sound (layout_of s) t ≡ true)
   unfolding check_call
   sound_opened m =
       let marks : Due = due (not (leb (mark_bytes (layout_of s)) (length m))) refusal.Marks in
-      let on : Reply (Result Bool Refusal) = reply (cond (table_sound (layout_of s) t) (Ok true) (Ok false)) (marks_after (layout_of s) m) in
+      let on : Reply (Result Bool Refusal) = reply (Ok (table_sound (layout_of s) t)) (marks_after (layout_of s) m) in
       by_dues (λ choose.
-      (choose (Reply (Result Bool Refusal)) (λ why. reply (Err why) m) on).answer ≡ (Ok true)
+      (choose (Reply (Result Bool Refusal)) (λ why. reply (Err why) m) on).answer ≡ Ok true
       → Opened × (table_sound (layout_of s) t ≡ true))
       (settings_due s ∷ short_due s (length t) ∷ marks ∷ [])
       (λ why e. absurd (let z : ◌≡◌ {A = ℕ} 0 1 = cc in omega arith))
       (λ d e. (
         opened (marks ∷ []) d,
-        cases (table_sound (layout_of s) t) (λ q. q) (λ q. let f = rw q at e in absurd (let z : ◌≡◌ {A = ℕ} 0 1 = cc in omega arith)),
+        let q : table_sound (layout_of s) t ≡ true = cc in q,
       ))

@@ -1,4 +1,5 @@
 -- The tests one by one; behind them the marks of the blocks are a part of those lent.
+use Rattle.std.specs.Prelude.{Ok}
 use mathlib.Core.Path.{◌≡◌, sym, ap, ◌∙◌}
 use mathlib.Core.Bool.{Bool, true, false, cond}
 use mathlib.Core.List.{◌++◌}
@@ -7,7 +8,6 @@ use native.Mathlib.Omega.{arith}
 use lib.ListN.{length, take, drop, replicate, length-take}
 use Rattle.settings.specs.Reply.{Gives}
 use Rattle.table.specs.Check.{mark_bytes, marks_after}
-use Rattle.table.specs.declared.answers.CheckAnswer.TheVariants as checking
 use Rattle.table_check.specs.Answers.{checked_call}
 use Rattle.table_check.proofs.Answers.{checked_short, checked_few, checked_done}
 use Rattle.table_check.proofs.call.checked.Goals as goal
@@ -37,15 +37,7 @@ after k =
     let e : length (take ((k.args.g.nob + 7) / 8) k.args.marks.now) ≡ (k.args.g.nob + 7) / 8 = simp length-take (omega arith) in
     ap (◌++ drop ((k.args.g.nob + 7) / 8) k.args.marks.now) (k.audited.ensures.marks ∙ ap (λ (n : ℕ). replicate n 0) e)
 
-done : (k : After-audited) (r : Bool) → k.audited.result ≡ r → let s = k.args in
-    Gives (checked_call s.g s.t.now s.marks.now)
-    (cond r checking.Sound checking.Unsound)
-    (k.audited.new.marks ++ drop ((s.g.nob + 7) / 8) s.marks.now)
-done k r e =
-    checked_done k.args.g k.args.t.now k.args.marks.now (omega arith) (omega arith) r (sym e ∙ k.audited.ensures.answer) _ (after k)
-
-pub returns-then-audited : goal.returns-then-audited
-returns-then-audited c = done (goal.at.returns-then-audited c).After-audited true c.if-audited.true
-
 pub returns : goal.returns
-returns c = done (goal.at.returns c).After-audited false c.if-audited.false
+returns c =
+    let k = (goal.at.returns c).After-audited in
+    checked_done c.args.g c.args.t.now c.args.marks.now (omega arith) (omega arith) _ c.audited.ensures.answer _ (after k)

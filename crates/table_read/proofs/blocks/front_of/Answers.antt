@@ -1,18 +1,11 @@
 -- The counter is the first bits of the field that was read, and the link its last bits.
 use mathlib.Core.Path.{◌≡◌, ap, ap₂, ◌∙◌}
 use Prim.Native.Nat.{ℕ, ◌+◌, ◌/◌, ◌%◌}
-use lib.Pow.{pow_pos}
 use Rattle.bits.specs.Field.{field}
 use Rattle.bits.specs.theory.Fields.{first_field, last_field}
 use Rattle.table.specs.Decode.{block_at}
 use Rattle.table_read.proofs.blocks.front_of.Goals as goal
 use Rattle.table_read.proofs.blocks.front_of.Goals.{After-get_short-both}
-
-pub nonzero_div-result : goal.nonzero_div-result
-nonzero_div-result c = rw c.pow-all.ensures (pow_pos c.args.link)
-
-pub nonzero_rem-result : goal.nonzero_rem-result
-nonzero_rem-result c = rw c.pow-all.ensures (pow_pos c.args.link)
 
 -- both fields as one
 both : (c : After-get_short-both) → let s = c.args in c.get_short-both.result ≡ field s.t.now (block_at s.b s.i) (s.b.counter + s.link)

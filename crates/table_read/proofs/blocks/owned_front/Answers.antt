@@ -1,8 +1,7 @@
 -- The counter is the first bits of the field that was read, the owner its last, and the link stands between them.
 use mathlib.Core.Path.{◌≡◌, ap₂, ◌∙◌}
-use Prim.Native.Nat.{ℕ, ◌+◌, ◌/◌, ◌%◌, ◌^◌}
+use Prim.Native.Nat.{ℕ, ◌+◌, ◌/◌, ◌%◌}
 use native.Mathlib.Omega.{arith}
-use lib.Pow.{pow_pos}
 use Rattle.bits.specs.Field.{field}
 use Rattle.bits.specs.theory.Fields.{first_field, last_field}
 use Rattle.table.specs.Decode.{block_at}
@@ -10,16 +9,10 @@ use Rattle.table_read.specs.Places.{BlockIn}
 use Rattle.table_read.specs.theory.Places.{over_in}
 use Rattle.table_read.specs.theory.Reads.{overflow_counter_field, link_field, owner_field}
 use Rattle.table_read.proofs.blocks.owned_front.Goals as goal
-use Rattle.table_read.proofs.blocks.owned_front.Goals.{After-get_short-all, After-shared_slice_known-1, Start}
+use Rattle.table_read.proofs.blocks.owned_front.Goals.{After-get_short-all, Start}
 
 block : (s : Start) → BlockIn s.args.t.now s.args.g.overflow s.args.j.0 (s.args.g.link + s.args.g.owner)
 block s = over_in s.args.g s.args.t.now s.requires.0 (s.args.g.link + s.args.g.owner) (omega arith) s.args.j.0 s.requires.1
-
-pub pow-owner-requires : goal.pow-owner-requires
-pow-owner-requires c = omega (arith, c.requires.0.proper.owner_high)
-
-pub pow-link-requires : goal.pow-link-requires
-pow-link-requires c = omega (arith, c.requires.0.proper.link_high)
 
 pub counter_at-requires : goal.counter_at-requires
 counter_at-requires c =
@@ -41,23 +34,13 @@ all c =
     c.get_short-all.ensures
     ∙ ap₂ (λ (x n : ℕ). field s.t.now x n) c.counter_at.ensures e
 
--- the number that the owner, or the link, is cut off by
-owner_pow : (c : After-get_short-all) → c.pow-owner.result ≡ 2 ^ c.args.g.owner
-owner_pow c = c.pow-owner.ensures
-
-link_pow : (c : After-get_short-all) → c.pow-link.result ≡ 2 ^ c.args.g.link
-link_pow c = c.pow-link.ensures
-
-pub nonzero_div-both : goal.nonzero_div-both
-nonzero_div-both c = rw (owner_pow (goal.at.nonzero_div-both c).After-get_short-all) (pow_pos c.args.g.owner)
-
 pub returns : goal.returns
 returns c =
     let g = c.args.g in
     let t = c.args.t.now in
     let at = block_at g.overflow c.args.j.0 in
-    let both = ap₂ (λ (x y : ℕ). x / y) (all (goal.at.returns c).After-get_short-all) (owner_pow (goal.at.returns c).After-get_short-all) ∙ first_field t at (g.overflow.counter + g.link) g.owner in (
-      ap₂ (λ (x y : ℕ). x / y) both (link_pow (goal.at.returns c).After-get_short-all) ∙ first_field t at g.overflow.counter g.link ∙ overflow_counter_field g t c.requires.0 c.args.j.0 c.requires.1,
-      ap₂ (λ (x y : ℕ). x % y) both (link_pow (goal.at.returns c).After-get_short-all) ∙ last_field t at g.overflow.counter g.link ∙ link_field g t c.requires.0 c.args.j.0 c.requires.1,
-      ap₂ (λ (x y : ℕ). x % y) (all (goal.at.returns c).After-get_short-all) (owner_pow (goal.at.returns c).After-get_short-all) ∙ last_field t at (g.overflow.counter + g.link) g.owner ∙ owner_field g t c.requires.0 c.args.j.0 c.requires.1,
+    let both = ap₂ (λ (x y : ℕ). x / y) (all (goal.at.returns c).After-get_short-all) c.pow-owner.ensures ∙ first_field t at (g.overflow.counter + g.link) g.owner in (
+      ap₂ (λ (x y : ℕ). x / y) both c.pow-link.ensures ∙ first_field t at g.overflow.counter g.link ∙ overflow_counter_field g t c.requires.0 c.args.j.0 c.requires.1,
+      ap₂ (λ (x y : ℕ). x % y) both c.pow-link.ensures ∙ last_field t at g.overflow.counter g.link ∙ link_field g t c.requires.0 c.args.j.0 c.requires.1,
+      ap₂ (λ (x y : ℕ). x % y) (all (goal.at.returns c).After-get_short-all) c.pow-owner.ensures ∙ last_field t at (g.overflow.counter + g.link) g.owner ∙ owner_field g t c.requires.0 c.args.j.0 c.requires.1,
     )

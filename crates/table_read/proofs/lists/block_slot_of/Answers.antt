@@ -5,7 +5,7 @@ use native.Mathlib.Omega.{arith}
 use Rattle.table.specs.Decode.{decode}
 use Rattle.table_read.specs.theory.Reads.{sized}
 use Rattle.table.specs.theory.Ways.{told_further, told_other}
-use Rattle.table_read.specs.theory.BlockSlots.{chain_low, going_first, going_here, going_on, going_full}
+use Rattle.table_read.specs.theory.BlockSlots.{chain_low, going_first, going_on, going_full}
 use Rattle.table_read.proofs.lists.block_slot_of.Goals as goal
 
 pub loop-q-init : goal.loop-q-init
@@ -22,11 +22,6 @@ loop-q-preserved c =
     rw (e.link, c.overflow_front.ensures.1)
     (going_on c.args.g (decode c.args.g c.args.t.now).overflow (sized c.args.g c.args.t.now c.requires.0)
     c.args.first.0 c.args.p c.loop-q.b.0 c.loop-q.q c.loop-q.invariant (omega arith))
-
-pub returns-after-loop-q : goal.returns-after-loop-q
-returns-after-loop-q c =
-    let s = c.args in
-    going_here s.g (decode s.g s.t.now).overflow s.first.0 s.p c.loop-q.b.0 c.loop-q.q c.loop-q.invariant (omega arith)
 
 -- a block before the place is full
 pub returns-in_default : goal.returns-in_default

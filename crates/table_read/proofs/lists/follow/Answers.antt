@@ -2,6 +2,8 @@
 use mathlib.Core.Path.{◌≡◌, sym, ap, ◌∙◌}
 use Prim.Native.Nat.{◌+◌, ◌-◌}
 use native.Mathlib.Omega.{arith}
+use borrow.Author.Tests.{eqb-true, eqb-false}
+use Rattle.std.proofs.lemmas.Bool.{not-true, not-false}
 use Rattle.std.specs.Prelude.{Err}
 use Rattle.table.specs.State.{overflow_at}
 use Rattle.table.specs.Decode.{decode}
@@ -11,9 +13,6 @@ use Rattle.table_read.specs.theory.Walks.{last_high, last_out, last_other, last_
 use Rattle.table_read.specs.theory.Lasts.{last_block, last_none}
 use Rattle.table_read.proofs.lists.follow.Goals as goal
 use Rattle.table_read.proofs.lists.follow.Goals.{After-step_of, At-loop}
-
-pub loop-init : goal.loop-init
-loop-init c = let e : c.args.g.nob - 0 ≡ c.args.g.nob = omega arith in rw e
 
 -- damage, where the last block from b on is no block
 none_here : (m : At-loop) → let g = m.args.g in
@@ -28,14 +27,14 @@ returns-then-b-g c =
     let g = c.args.g in
     none_here (goal.at.returns-then-b-g c).At-loop (last_high g ((let s = c.args in (decode s.g s.t.now).overflow)) ((c.args.i.0)) (g.nob - c.loop.counter) c.loop.b.0 (omega arith))
 
-pub returns-then-fields-i : goal.returns-then-fields-i
-returns-then-fields-i c =
+pub returns-then-ne : goal.returns-then-ne
+returns-then-ne c =
     let g = c.args.g in
-    none_here (goal.at.returns-then-fields-i c).At-loop (last_other g ((let s = c.args in (decode s.g s.t.now).overflow)) ((c.args.i.0)) (g.nob - c.loop.counter) c.loop.b.0 (λ e. omega (arith, c.owned_front-fields.ensures.2, c.if-fields-i.true)))
+    none_here (goal.at.returns-then-ne c).At-loop (last_other g ((let s = c.args in (decode s.g s.t.now).overflow)) ((c.args.i.0)) (g.nob - c.loop.counter) c.loop.b.0 (λ e. eqb-false _ _ (not-true _ (sym c.ne.ensures ∙ c.if-ne.true)) (omega (arith, c.owned_front-fields.ensures.2))))
 
 -- the block is the list's own
 own : (w : After-step_of) → (overflow_at ((let s = w.args in (decode s.g s.t.now).overflow)) w.loop.b.0).owner ≡ (w.args.i.0)
-own w = omega (arith, w.owned_front-fields.ensures.2, w.if-fields-i.false)
+own w = omega (arith, w.owned_front-fields.ensures.2, eqb-true _ _ (not-false _ (sym w.ne.ensures ∙ w.if-ne.false)))
 
 pub returns-in-Last : goal.returns-in-Last
 returns-in-Last c =

@@ -6,9 +6,6 @@ use Rattle.table_read.specs.Places.{overflow_slot}
 use Rattle.table_read.specs.theory.Places.{over_fields}
 use Rattle.table_read.proofs.places.overflow_slot.Goals as goal
 
-pub overflow_add-g : goal.overflow_add-g
-overflow_add-g c = omega (arith, c.requires.0.link_high, c.requires.0.owner_high)
-
 pub slot_at-requires : goal.slot_at-requires
 slot_at-requires c =
     over_fields c.args.g c.requires.0 c.args.j.0 _ c.requires.1 (omega (arith, mul-le-mul_right c.args.g.slot c.requires.2))

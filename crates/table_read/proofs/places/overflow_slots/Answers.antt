@@ -4,9 +4,6 @@ use Rattle.table.specs.Decode.{overflow_slots}
 use Rattle.table_read.specs.theory.Places.{over_fields}
 use Rattle.table_read.proofs.places.overflow_slots.Goals as goal
 
-pub overflow_add-g : goal.overflow_add-g
-overflow_add-g c = omega (arith, c.requires.0.link_high, c.requires.0.owner_high)
-
 pub slots_at-requires : goal.slots_at-requires
 slots_at-requires c = over_fields c.args.g c.requires.0 c.args.j.0 _ c.requires.1 (omega arith)
 

@@ -2,7 +2,6 @@
 use mathlib.Core.Path.{sym, ap, ◌∙◌}
 use Prim.Native.Nat.{ℕ, ◌+◌, ◌-◌, ◌%◌, ◌^◌, ◌≤◌, ◌<◌}
 use native.Mathlib.Omega.{arith}
-use lib.Pow.{pow_pos}
 use Rattle.keys.specs.Key.{key_number}
 use Rattle.keys.specs.theory.Halves.{mod_low}
 use Rattle.table_read.specs.Steps.{restored_bytes, FieldWithin}
@@ -23,9 +22,6 @@ last_within s m h =
       fits = v.fits;
     }
 
-pub nonzero_rem-entry : goal.nonzero_rem-entry
-nonzero_rem-entry c = rw c.pow.ensures (pow_pos _)
-
 pub returns-then-get_short-entry : goal.returns-then-get_short-entry
 unfolding key_number
 returns-then-get_short-entry c =
@@ -33,7 +29,7 @@ returns-then-get_short-entry c =
     let m : ℕ = c.min-m.result in
     let h : m ≤ a.bie = omega (arith, c.min-m.ensures) in
     let i : m ≤ 63 = omega (arith, c.min-m.ensures) in
-    let l : a.entry.low < 2 ^ 64 = omega (arith, c.struct_known-3-1.given) in
+    let l : a.entry.low < 2 ^ 64 = omega arith in
     sym (last_differ (restored_bytes a.t.now a.b) a.b.start a.bie m (key_number a.entry) h
     (λ q. c.if-get_short-entry.true
     (c.get_short.ensures
@@ -41,6 +37,3 @@ returns-then-get_short-entry c =
     ∙ q
     ∙ mod_low a.entry.high l i
     ∙ ap (λ (x : ℕ). a.entry.low % x) (sym c.pow.ensures))))
-
-pub returns : goal.returns
-returns c = c.same_entry.ensures

@@ -1,22 +1,17 @@
 -- A field of at most 64 bits is the number's low half; of more, its last 64 bits are, and the others its high half.
-use mathlib.Core.Path.{sym, ap, ap₂, ◌∙◌}
+use mathlib.Core.Path.{sym, ap, ◌∙◌}
 use Prim.Native.Nat.{ℕ}
 use native.Mathlib.Omega.{arith}
 use lib.Dec.{eqb}
 use Rattle.keys.specs.Key.{key_number}
 use Rattle.keys.specs.declared.Key.{Key}
-use Rattle.table_read.specs.theory.Reads.{entry_low, entry_differs, entry_halves}
+use Rattle.table_read.specs.theory.Reads.{entry_differs, entry_halves}
 use Rattle.table_read.proofs.slots.holds.Goals as goal
 use Rattle.table_read.proofs.slots.holds.Goals.{Start}
 
 -- the number as a key
 key : Start → Key
 key s = record { high = s.args.high; low = s.args.low }
-
-pub returns-then-n-le64 : goal.returns-then-n-le64
-unfolding key_number key
-returns-then-n-le64 c =
-    ap₂ eqb c.get.ensures (sym (entry_low (key (goal.at.returns-then-n-le64 c).Start) c.args.n (omega arith) c.requires.3))
 
 pub returns-then-get-low : goal.returns-then-get-low
 unfolding key_number key

@@ -1,7 +1,6 @@
 -- The label is the last bits of the slot, which is within the slots.
 use mathlib.Core.Path.{sym, ◌∙◌}
 use Prim.Native.Nat.{◌+◌, ◌*◌, ◌≤◌}
-use native.Mathlib.Omega.{arith}
 use Rattle.bits.specs.theory.Fields.{field_fits}
 use Rattle.table_read.specs.Steps.{restored_bytes}
 use Rattle.table_read.specs.theory.Reads.{slot_inside, label_in_lem}
@@ -10,22 +9,6 @@ use Rattle.table_read.proofs.slots.label_in.Goals.{Start}
 
 inside : (s : Start) → s.args.b.start + s.args.j.0 * s.args.g.slot + s.args.g.slot ≤ s.args.b.start + s.args.b.count * s.args.g.slot
 inside s = slot_inside s.args.g s.args.t.now s.args.b s.args.j.0 s.requires.2
-
-pub overflow_mul-j : goal.overflow_mul-j
-overflow_mul-j c =
-    omega (arith, inside (goal.at.overflow_mul-j c).Start, c.requires.1.near)
-
-pub overflow_add-b : goal.overflow_add-b
-overflow_add-b c =
-    omega (arith, inside (goal.at.overflow_add-b c).Start, c.requires.1.near)
-
-pub overflow_add-b-2 : goal.overflow_add-b-2
-overflow_add-b-2 c =
-    omega (arith, inside (goal.at.overflow_add-b-2 c).Start, c.requires.1.near, c.requires.0.slot_is)
-
-pub restored-requires : goal.restored-requires
-restored-requires c =
-    omega (arith, inside (goal.at.restored-requires c).Start, c.requires.1, c.requires.0.slot_is, c.requires.0.val_high)
 
 pub overflow_cast-result : goal.overflow_cast-result
 overflow_cast-result c =

@@ -13,11 +13,11 @@ returns-then-n-le64 c =
 
 pub returns-then-restored-entry : goal.returns-then-restored-entry
 returns-then-restored-entry c =
-    sym (entry_differs (restored_bytes c.args.t.now c.args.b) c.args.at c.args.n c.args.entry (omega arith) (omega (arith, c.struct_known-2-1.given))
+    sym (entry_differs (restored_bytes c.args.t.now c.args.b) c.args.at c.args.n c.args.entry (omega arith) (omega arith)
     (λ q. c.if-restored-entry.true (c.restored-2.ensures ∙ q)))
 
 pub returns : goal.returns
 returns c =
     ap (λ (x : ℕ). eqb x c.args.entry.high) c.restored-3.ensures
-    ∙ entry_halves (restored_bytes c.args.t.now c.args.b) c.args.at c.args.n c.args.entry (omega arith) (omega (arith, c.struct_known-2-1.given))
+    ∙ entry_halves (restored_bytes c.args.t.now c.args.b) c.args.at c.args.n c.args.entry (omega arith) (omega arith)
     (sym c.restored-2.ensures ∙ c.if-restored-entry.false)

@@ -6,7 +6,7 @@ use Rattle.text_write.specs.theory.Digits.{count_is}
 use Rattle.text_write.proofs.writer.digit_count.Goals as goal
 
 pub overflow_sub-result : goal.overflow_sub-result
-overflow_sub-result c = omega (arith, leading_le 32 (c.args.group / 2 * 2 + 1))
+overflow_sub-result c = omega (arith, leading_le 32 (c.from.result / 2 * 2 + 1))
 
 pub returns : goal.returns
-returns c = count_is c.args.group c.requires
+returns c = rw c.from.ensures (count_is c.args.group (omega arith))

@@ -1,7 +1,7 @@
 -- The characters of the group that was moved up begin with its text: `moved_is`.
 use mathlib.Core.Path.{◌≡◌, refl, ap, ◌∙◌}
 use mathlib.Core.List.{List, [], ◌∷◌, ◌++◌, append_assoc}
-use Prim.Native.Nat.{ℕ, ◌+◌, ◌/◌, ◌%◌, ◌≤◌}
+use Prim.Native.Nat.{ℕ, ◌+◌, ◌-◌, ◌*◌, ◌^◌, ◌/◌, ◌%◌, ◌≤◌}
 use native.Mathlib.Omega.{arith}
 use lib.ListN.{length, take}
 use Rattle.text_write.specs.Writing.{group_text}
@@ -22,15 +22,18 @@ put : (c : After-put_four) →
 put c =
     let o = c.args.text.now in
     let n = c.digit_count-n.result in
-    let m = moved c.args.group n in
-    let small = (moved_is c.args.group c.digit_count-n.result c.requires.0 c.digit_count-n.ensures).0 in
+    let g = c.args.group in
+    let m = moved g n in
+    let is = moved_is g n (omega arith) c.digit_count-n.ensures in
+    let small = is.0 in
+    let e : g * 2 ^ (16 - 4 * n) % 65536 ≡ m = omega arith in
     let u : unpacked c.characters.result ≡ four m =
-    ap unpacked c.characters.ensures
+    ap unpacked (rw e at c.characters.ensures)
     ∙ unpacked_hex (m / 4096) (m / 256 % 16) (m / 16 % 16) (m % 16) (omega arith) (omega arith) (omega arith) (omega arith)
     in
     filled_less o c.put_four.new.text (unpacked c.characters.result) c.args.at n 4 (omega (arith, c.requires)) (count c.args.group c.digit_count-n.result c.digit_count-n.ensures).1 c.put_four.ensures.is
     ∙ ap (λ (l : List ℕ). take c.args.at o ++ take n l) u
-    ∙ ap (λ (l : List ℕ). take c.args.at o ++ l) (moved_is c.args.group c.digit_count-n.result c.requires.0 c.digit_count-n.ensures).1
+    ∙ ap (λ (l : List ℕ). take c.args.at o ++ l) is.1
 
 pub overflow_mul-n : goal.overflow_mul-n
 overflow_mul-n c = omega (arith, count c.args.group c.digit_count-n.result c.digit_count-n.ensures)
@@ -38,8 +41,8 @@ overflow_mul-n c = omega (arith, count c.args.group c.digit_count-n.result c.dig
 pub overflow_sub-n : goal.overflow_sub-n
 overflow_sub-n c = omega (arith, count c.args.group c.digit_count-n.result c.digit_count-n.ensures)
 
-pub characters-requires : goal.characters-requires
-characters-requires c = (moved_is c.args.group c.digit_count-n.result c.requires.0 c.digit_count-n.ensures).0
+pub overflow_shl-group : goal.overflow_shl-group
+overflow_shl-group c = omega (arith, count c.args.group c.digit_count-n.result c.digit_count-n.ensures)
 
 pub bounds-text-end : goal.bounds-text-end
 bounds-text-end c =

@@ -22,7 +22,7 @@ loop-i-preserved c =
       is =
           one_step (take c.loop-i.end c.loop-i.text) (take c.put_group-end.result c.put_group-end.new.text) (group_text (get_or g i 0) ++ 58 ∷ [])
           (closed_text (drop i (take a.to g))) (closed_text (drop (i + 1) (take a.to g)))
-          (c.put_group-end.ensures.is ∙ ap (λ (x : ℕ). take c.loop-i.end c.loop-i.text ++ (group_text x ++ 58 ∷ [])) c.group_at.ensures.0)
+          (c.put_group-end.ensures.is ∙ ap (λ (x : ℕ). take c.loop-i.end c.loop-i.text ++ (group_text x ++ 58 ∷ [])) c.group_at.ensures)
           (closed_next g i a.to h w)
           ∙ c.loop-i.invariant.is;
       kept =

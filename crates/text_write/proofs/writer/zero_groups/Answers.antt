@@ -23,7 +23,7 @@ loop-i-preserved c =
     let i = c.loop-i.i - 1 in
     let e : c.loop-i.i ≡ i + 1 = omega arith in
     let m : c.loop-i.marks * 2 + c.from.result ≡ run_marks 1 (drop i g) =
-    rw (c.from.ensures, c.group_at.ensures.0, c.loop-i.invariant.1) (sym (marks_step g i c.loop-i.i e (omega (arith, eight k))))
+    rw (c.from.ensures, c.group_at.ensures, c.loop-i.invariant.1) (sym (marks_step g i c.loop-i.i e (omega (arith, eight k))))
     in
     let p : length (drop i g) ≤ 8 = omega (arith, length-drop i g, eight k) in
     let q = pow_mono p in
