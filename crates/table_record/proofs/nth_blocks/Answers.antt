@@ -15,11 +15,6 @@ here : (k : At-loop-q) → let a = k.args in
     OneStep a.g (decode a.g a.t.now).overflow (a.g.nob - k.loop-q._q) k.loop-q.b.0
 here k = one_step _ _ _ _ k.loop-q.invariant.0
 
-pub loop-q-init : goal.loop-q-init
-loop-q-init c =
-    let e : c.args.g.nob - 0 ≡ c.args.g.nob = omega arith in
-    (rw e c.requires.1, rw e)
-
 pub overflow_front-front-requires : goal.overflow_front-front-requires
 overflow_front-front-requires c = (c.requires.0, (here (goal.at.overflow_front-front-requires c).At-loop-q).low)
 
@@ -68,6 +63,3 @@ loop-q-preserved c =
           c.loop-q.invariant.0 n c.overflow_run-run.ensures c.loop-q.m c.if-m-count.false (omega (arith, on.full))
           ∙ c.loop-q.invariant.1),
     )
-
-pub returns : goal.returns
-returns c = absurd (omega (arith, (here (goal.at.returns c).At-loop-q).fuel))
