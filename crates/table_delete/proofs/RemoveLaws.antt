@@ -183,22 +183,23 @@ module _ {g : Layout} {t : List ℕ} (T : Table g t) {i p : ℕ} {P : Placed g (
   removed_shut q = record { state = st; is = R.is ∙ ap ended (told true q); stored = stored_none T }
 
   -- its block is not freed, or can be
-  module _ (q : cannot_free g n st ≡ false) (x : ℕ) (a : List ℕ) (s : Stored g t a (filled_with x)) where
-    kept : Kept g st i (filled_with x)
-    kept = store_keeps g st i b e.last.0 p x
-
+  module _ (q : cannot_free g n st ≡ false) where
     -- a slot stored keeps the last block's counter, and the free start
-    pub shrinkable : Shrinkable g (decode g a) e.last.0
-    shrinkable =
-        subst (λ (u : State). Shrinkable g u e.last.0) (sym s.state)
-        (shrinkable_kept g st i (filled_with x) kept e.last.0 (record { low = R.low; few = R.few; free = told false q }))
+    module _ (l x : ℕ) (a : List ℕ) (s : Stored g t a (store_from g i b l p x st)) where
+      kept : Kept g st i (store_from g i b l p x st)
+      kept = store_keeps g st i b l p x
 
-    pub counter_kept : n ≡ (overflow_at (decode g a).overflow e.last.0).counter
-    counter_kept = en ∙ sym (ap (λ (u : State). (overflow_at u.overflow e.last.0).counter) s.state ∙ kept.counters e.last.0)
+      pub shrinkable : Shrinkable g (decode g a) e.last.0
+      shrinkable =
+          subst (λ (u : State). Shrinkable g u e.last.0) (sym s.state)
+          (shrinkable_kept g st i (store_from g i b l p x st) kept e.last.0 (record { low = R.low; few = R.few; free = told false q }))
 
-    pub removed_open : (at : ℕ) → at ≡ overflow_slot g e.last.0 n → x ≡ field t at g.slot → (u : List ℕ)
-        → Stored g a u (shrink_at g i e.last.0 e.before (decode g a)) → Removed g t u i p true
-    removed_open at ea ex u r =
+      pub counter_kept : n ≡ (overflow_at (decode g a).overflow e.last.0).counter
+      counter_kept = en ∙ sym (ap (λ (u : State). (overflow_at u.overflow e.last.0).counter) s.state ∙ kept.counters e.last.0)
+
+    pub removed_open : (at x : ℕ) → at ≡ overflow_slot g e.last.0 n → x ≡ field t at g.slot → (a u : List ℕ)
+        → Stored g t a (filled_with x) → Stored g a u (shrink_at g i e.last.0 e.before (decode g a)) → Removed g t u i p true
+    removed_open at x ea ex a u s r =
         let z : x ≡ last_slot st e.last.0 =
         ex ∙ ap (λ (y : ℕ). field t y g.slot) (ea ∙ ap (overflow_slot g e.last.0) en)
         ∙ sym (overflow_slot_is g t T e.last.0 (overflow_at st.overflow e.last.0).counter R.low R.few) in

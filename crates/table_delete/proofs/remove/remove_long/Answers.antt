@@ -76,8 +76,8 @@ shrink-requires c =
     let d = c.store_at_place.ensures in (
       d.table,
       c.requires.1,
-      shrinkable c.requires.0 w n.result n.ensures q _ _ d,
-      counter_kept c.requires.0 w n.result n.ensures q _ _ d,
+      shrinkable c.requires.0 w n.result n.ensures q _ _ _ d,
+      counter_kept c.requires.0 w n.result n.ensures q _ _ _ d,
       w.prior_low,
     )
 
@@ -88,5 +88,5 @@ pub returns : goal.returns
 returns c =
     let p = c.overflow_slot-at in
     removed_open c.requires.0 (way (goal.at.returns c).After-end_of-end) _ c.overflow_counter-n.ensures
-    (sym c.cannot_free.ensures ∙ c.if-cannot_free.false) _ _ c.store_at_place.ensures
-    p.result p.ensures (value_is (goal.at.returns c).After-get_slot-moved) _ c.shrink.ensures
+    (sym c.cannot_free.ensures ∙ c.if-cannot_free.false) p.result _ p.ensures (value_is (goal.at.returns c).After-get_slot-moved) _ _
+    c.store_at_place.ensures c.shrink.ensures
