@@ -9,7 +9,8 @@ pub enum Step {
     Damage,
 }
 
-// What stands before the last overflow block of a list: its basic block, or another overflow block.
+// What stands before the last overflow block of a list: its basic block, or another overflow block. No Option: before a list's
+// first overflow block stands its basic block, which is something.
 #[derive(Clone, Copy)]
 pub enum Before {
     Basic,

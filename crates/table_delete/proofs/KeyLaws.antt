@@ -1,5 +1,6 @@
 -- Delete of a key: what find answered decides what it comes to.
-use Rattle.std.specs.Prelude.{Err}
+use Rattle.std.specs.Prelude.{Ok, Err, is_ok, ⊤}
+use Rattle.std.specs.declared.result.Result.{Result}
 use mathlib.Core.Path.{◌≡◌, refl, sym, ap, ap₂, subst, ◌∙◌}
 use mathlib.Core.Bool.{Bool, true, false, cond}
 use mathlib.Core.List.{List}
@@ -22,7 +23,10 @@ use Rattle.table.specs.Done.{damage, done, unchanged, answered, replied}
 use Rattle.table.specs.Delete.{delete_followed, delete_in}
 use Rattle.table.specs.Calls.{list_call, delete, key_call}
 use Rattle.table.specs.Answer.{said, Answer}
+use Rattle.table.specs.declared.answers.Said.{Said}
+use Rattle.table.specs.declared.answers.Word.{Word}
 use Rattle.table.specs.declared.answers.Word.TheVariants as word
+use Rattle.table.specs.declared.damage.Damage.{Damage}
 use Rattle.table_store.specs.Stores.{Stored}
 use Rattle.table_store.specs.Places.{Placed}
 use Rattle.table_store.specs.theory.StoreLaws.{stored_none, stored_as, stored_written}
@@ -67,40 +71,53 @@ module _ {s : Settings} {t : List ℕ} {key : Key} {g : Layout} {v : Sought} (S 
   abbrev list : ℕ
   list = v.place.list.0
 
-  abbrev sought : ℕ
-  sought = key_number v.place.entry
+  abbrev entry : ℕ
+  entry = key_number v.place.entry
 
-  call_is : key_call s t delete key ≡ replied g t (delete_in g (decode g t) list sought)
+  call_is : key_call s t delete key ≡ replied g t (delete_in g (decode g t) list entry)
   unfolding list_call
   call_is = S.call_is delete
 
-  pub sought_held : (l n x : ℕ) → v.found ≡ said word.Held l n x → Found g (decode g t) list sought l n
-  sought_held l n x h = held_goes g (decode g t) list sought l n x (sym S.found_is ∙ h)
-
   pub other_gives : (a : Answer) → v.found ≡ a → Other a → Gives (key_call s t delete key) a t
   other_gives a e h =
-      let is : a ≡ find_in g (decode g t) list sought = sym e ∙ S.found_is in
-      rw (call_is, delete_stays g (decode g t) list sought (subst Other is h)) (record { answer = is; bytes = refl })
+      let is : a ≡ find_in g (decode g t) list entry = sym e ∙ S.found_is in
+      rw (call_is, delete_stays g (decode g t) list entry (subst Other is h)) (record { answer = is; bytes = refl })
 
-  -- the entry is the n-th, and was removed, unless its block could not be freed
-  module _ (y : Bytes t) (l n : ℕ) (F : Found g (decode g t) list sought l n) (u : List ℕ) (r : Bool) (R : Removed g t u list (n - 1) r) where
-    ends : (x : Bool) → r ≡ x
-        → key_call s t delete key ≡ replied g t (answered (said word.Gone l n 0) (cond x (done R.state) damage))
-    ends x e =
-        call_is
-        ∙ ap (replied g t)
-        (F.goes ∙ ap (answered (said word.Gone l n 0)) (R.is ∙ ap (λ (b : Bool). cond b (done R.state) damage) e))
+  -- the entry was found
+  module _ {r : Said} (e : v.found ≡ Ok r) (w : r.word ≡ word.Held) where
+    found : Found g (decode g t) list entry r.label r.compared
+    found =
+        held_goes g (decode g t) list entry r.label r.compared r.slot
+        (sym S.found_is ∙ e ∙ ap (λ (x : Word). said x r.label r.compared r.slot) w)
 
-    stored : (x : Bool) → r ≡ x → Stored g t u (cond x R.state (decode g t))
-    stored x e = stored_as (cond x R.state (decode g t)) R.stored (ap (λ (b : Bool). cond b R.state (decode g t)) e)
+    pub some_compared : 0 < r.compared
+    some_compared = found.some_compared
 
-    pub gone_gives : r ≡ true → Gives (key_call s t delete key) (said word.Gone l n 0) u
-    gone_gives e = rw (ends true e) (record { answer = refl; bytes = stored_written S.table y (stored true e) })
+    pub placed : Placed g (decode g t) list (r.compared - 1)
+    placed = found.placed
 
-    pub damage_gives : r ≡ false → Gives (key_call s t delete key) (Err refusal.Damage) u
-    damage_gives e =
-        rw (ends false e)
-        (record {
-          answer = refl;
-          bytes = stored_written S.table y (stored false e) ∙ sym (stored_written S.table y (stored_none S.table));
-        })
+    -- and was removed, unless its block could not be freed
+    module _ (y : Bytes t) {u : List ℕ} (x : Result ⊤ Damage) (R : Removed g t u list (r.compared - 1) (is_ok x)) where
+      ends : (b : Bool) → is_ok x ≡ b
+          → key_call s t delete key ≡ replied g t (answered (said word.Gone r.label r.compared 0) (cond b (done R.state) damage))
+      ends b q =
+          call_is
+          ∙ ap (replied g t)
+          (found.goes ∙ ap (answered (said word.Gone r.label r.compared 0)) (R.is ∙ ap (λ (c : Bool). cond c (done R.state) damage) q))
+
+      stored : (b : Bool) → is_ok x ≡ b → Stored g t u (cond b R.state (decode g t))
+      stored b q = stored_as (cond b R.state (decode g t)) R.stored (ap (λ (c : Bool). cond c R.state (decode g t)) q)
+
+      pub gone_gives : {z : ⊤} → x ≡ Ok z → Gives (key_call s t delete key) (said word.Gone r.label r.compared 0) u
+      gone_gives q =
+          let k = ap is_ok q in
+          rw (ends true k) (record { answer = refl; bytes = stored_written S.table y (stored true k) })
+
+      pub damage_gives : {d : Damage} → x ≡ Err d → Gives (key_call s t delete key) (Err refusal.Damage) u
+      damage_gives q =
+          let k = ap is_ok q in
+          rw (ends false k)
+          (record {
+            answer = refl;
+            bytes = stored_written S.table y (stored false k) ∙ sym (stored_written S.table y (stored_none S.table));
+          })

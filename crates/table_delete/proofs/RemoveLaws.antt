@@ -15,7 +15,7 @@ use Rattle.table.specs.Updates.{over_basic, with_basic_counter}
 use Rattle.table.specs.Decode.{decode}
 use Rattle.table.specs.Table.{Table, Within}
 use Rattle.table.specs.Follow.{last_of, gather}
-use Rattle.table.specs.Delete.{prior_of, basic_slot_off, shrink_at, shrink}
+use Rattle.table.specs.Delete.{prior_of, basic_slot_off, shrink_at, shrink, cannot_free}
 use Rattle.table_read.specs.BlockSlots.{blocks_from, Reaches}
 use Rattle.table.specs.Done.{Done, damage, done}
 use Rattle.table.specs.Store.{slot_in, store_at}
@@ -25,9 +25,9 @@ use Rattle.table.specs.theory.Formed.{basics}
 use Rattle.table_store.specs.Stores.{basic_counter_put, slot_put, Stored}
 use Rattle.table_store.specs.Places.{Placed, store_from}
 use Rattle.table_store.specs.theory.StoreLaws.{basic_twice, stored_none, stored_then, stored_as, stored_basic_counter, stored_basic_slot}
-use Rattle.table_store.specs.theory.PlaceLaws.{overflow_slot_is, basic_slot_is, short_used, short_place, long_place, store_is, store_keeps}
-use Rattle.table_delete.specs.DeleteSteps.{end_in, cannot_free_at, removal_of, removal, Removed}
-use Rattle.table_delete.proofs.DeleteLaws.{get_or_end, last_slot_lem, free_kept, prior_low}
+use Rattle.table_store.specs.theory.PlaceLaws.{Kept, overflow_slot_is, basic_slot_is, short_used, short_place, long_place, store_is, store_keeps}
+use Rattle.table_delete.specs.DeleteSteps.{end_in, cannot_free_at, Shrinkable, removal_of, removal, Removed}
+use Rattle.table_delete.proofs.DeleteLaws.{get_or_end, last_slot_lem, free_kept, shrinkable_kept, prior_low}
 use Rattle.table_read.specs.Places.{basic_slot, overflow_slot}
 use Rattle.table_delete.specs.declared.shrink.End.{End}
 use Rattle.table.specs.declared.step.Before.TheVariants as prior
@@ -157,32 +157,57 @@ module _ (g : Layout) (t : List ℕ) (T : Table g t) where
             m);
       }
 
--- ---- a removal from a list with overflow blocks
+-- ---- a removal from a list with overflow blocks: e is their end, and n the last one's counter
 
-module _ (g : Layout) (t : List ℕ) (T : Table g t) (i p : ℕ) (P : Placed g (decode g t) i p)
-    (sz : (j : ℕ) → j < g.nob → length (overflow_at (decode g t).overflow j).slots ≡ g.sio) (h : g.sib < (basic_at (decode g t).basic i).counter)
-    (b : ℕ) (e : End) (R : Route g (decode g t) i p P sz h b e) where
+module _ {g : Layout} {t : List ℕ} (T : Table g t) {i p : ℕ} {P : Placed g (decode g t) i p}
+    {sz : (j : ℕ) → j < g.nob → length (overflow_at (decode g t).overflow j).slots ≡ g.sio} {h : g.sib < (basic_at (decode g t).basic i).counter}
+    {b : ℕ} {e : End} (R : Route g (decode g t) i p P sz h b e) (n : ℕ) (en : n ≡ (overflow_at (decode g t).overflow e.last.0).counter) where
+  abbrev st : State
+  st = decode g t
+
+  -- the state once the slot x went into the hole
+  abbrev filled_with : ℕ → State
+  filled_with x = store_from g i b e.last.0 p x st
+
   abbrev ended : Bool → Done
-  ended r =
-      cond r damage
-      (done (shrink_at g i e.last.0 e.before (store_from g i b e.last.0 p (last_slot (decode g t) e.last.0) (decode g t))))
+  ended r = cond r damage (done (shrink_at g i e.last.0 e.before (filled_with (last_slot st e.last.0))))
 
-  pub removed_shut : (r : Bool) → r ≡ cannot_free_at g e.last.0 (decode g t) → r ≡ true → Removed g t t i p false
-  removed_shut r er q = record { state = decode g t; is = R.is ∙ ap ended (sym er ∙ q); stored = stored_none T }
+  told : (r : Bool) → cannot_free g n st ≡ r → cannot_free_at g e.last.0 st ≡ r
+  told r q = ap (λ (m : ℕ). cannot_free g m st) (sym en) ∙ q
 
-  pub removed_open : (r : Bool) → r ≡ cannot_free_at g e.last.0 (decode g t) → r ≡ false → (n at x : ℕ)
-      → n ≡ (overflow_at (decode g t).overflow e.last.0).counter → at ≡ overflow_slot g e.last.0 n → x ≡ field t at g.slot → (a u : List ℕ)
-      → Stored g t a (store_from g i b e.last.0 p x (decode g t)) → Stored g a u (shrink_at g i e.last.0 e.before (decode g a)) → Removed g t u i p true
-  removed_open r er q n at x en ea ex a u s₁ s₂ =
-      let st = decode g t in
-      let z : x ≡ last_slot (decode g t) e.last.0 =
-      ex ∙ ap (λ (y : ℕ). field t y g.slot) (ea ∙ ap (overflow_slot g e.last.0) en)
-      ∙ sym (overflow_slot_is g t T e.last.0 (overflow_at (decode g t).overflow e.last.0).counter R.low R.few) in
-      record {
-        state = shrink_at g i e.last.0 e.before (store_from g i b e.last.0 p (last_slot (decode g t) e.last.0) (decode g t));
-        is = R.is ∙ ap ended (sym er ∙ q);
-        stored =
-            stored_as (shrink_at g i e.last.0 e.before (store_from g i b e.last.0 p (last_slot (decode g t) e.last.0) (decode g t)))
-            (stored_then (shrink_at g i e.last.0 e.before) s₁ s₂)
-            (ap (λ (y : ℕ). shrink_at g i e.last.0 e.before (store_from g i b e.last.0 p y (decode g t))) z);
-      }
+  -- the last block has the slot that its counter names
+  pub slot_there : n < g.sio
+  slot_there = omega (arith, R.few)
+
+  pub removed_shut : cannot_free g n st ≡ true → Removed g t t i p false
+  removed_shut q = record { state = st; is = R.is ∙ ap ended (told true q); stored = stored_none T }
+
+  -- its block is not freed, or can be
+  module _ (q : cannot_free g n st ≡ false) where
+    -- a slot stored keeps the last block's counter, and the free start
+    module _ (l x : ℕ) (a : List ℕ) (s : Stored g t a (store_from g i b l p x st)) where
+      kept : Kept g st i (store_from g i b l p x st)
+      kept = store_keeps g st i b l p x
+
+      pub shrinkable : Shrinkable g (decode g a) e.last.0
+      shrinkable =
+          subst (λ (u : State). Shrinkable g u e.last.0) (sym s.state)
+          (shrinkable_kept g st i (store_from g i b l p x st) kept e.last.0 (record { low = R.low; few = R.few; free = told false q }))
+
+      pub counter_kept : n ≡ (overflow_at (decode g a).overflow e.last.0).counter
+      counter_kept = en ∙ sym (ap (λ (u : State). (overflow_at u.overflow e.last.0).counter) s.state ∙ kept.counters e.last.0)
+
+    pub removed_open : (at x : ℕ) → at ≡ overflow_slot g e.last.0 n → x ≡ field t at g.slot → (a u : List ℕ)
+        → Stored g t a (filled_with x) → Stored g a u (shrink_at g i e.last.0 e.before (decode g a)) → Removed g t u i p true
+    removed_open at x ea ex a u s r =
+        let z : x ≡ last_slot st e.last.0 =
+        ex ∙ ap (λ (y : ℕ). field t y g.slot) (ea ∙ ap (overflow_slot g e.last.0) en)
+        ∙ sym (overflow_slot_is g t T e.last.0 (overflow_at st.overflow e.last.0).counter R.low R.few) in
+        let w = shrink_at g i e.last.0 e.before (filled_with (last_slot st e.last.0)) in
+        record {
+          state = w;
+          is = R.is ∙ ap ended (told false q);
+          stored =
+              stored_as w (stored_then (shrink_at g i e.last.0 e.before) s r)
+              (ap (λ (y : ℕ). shrink_at g i e.last.0 e.before (filled_with y)) z);
+        }

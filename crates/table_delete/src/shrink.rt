@@ -35,14 +35,12 @@ pub(crate) fn end_of(t: &[u8], g: Layout, first: BlockNumber) -> End
 {
     let mut b = first;
     let mut before = Before::Basic;
-    let mut k: usize = 0;
-    while k < g.nob {
+    for _ in 0..g.nob {
         let Step::Further(next) = step_of(overflow_front(t, g, b), g.sio) else {
-            return End { last: b, before };
+            break;
         };
         before = Before::Block(b);
         b = next;
-        k += 1;
     }
     End { last: b, before }
 }

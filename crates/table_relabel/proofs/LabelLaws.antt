@@ -1,4 +1,5 @@
 -- A label stored alone is the slot stored whole, since the entry stands there already.
+use Rattle.std.specs.Prelude.{Ok, Err}
 use mathlib.Core.Path.{◌≡◌, refl, sym, ap, ap₂, ◌∙◌}
 use mathlib.Core.List.{List, [], ◌∷◌, ◌++◌}
 use Prim.Native.Nat.{ℕ, ◌+◌, ◌-◌, ◌*◌, ◌^◌, ◌≤◌, ◌<◌}
@@ -15,6 +16,8 @@ use Rattle.bits.specs.Within.{Within}
 use Rattle.bits.specs.theory.Fields.{field_lt}
 use Rattle.bits.specs.theory.Puts.{put_cat, put_own}
 use Rattle.settings.specs.declared.layout.Layout.{Layout}
+use Rattle.keys.specs.declared.BlockNumber.{BlockNumber}
+use Rattle.table.specs.declared.damage.Damage.{Damage}
 use Rattle.table.specs.State.{State, mk_state, Overflow, basic_at, overflow_at, unpack, own_slots, entry_of, slot_of}
 use Rattle.table.specs.Updates.{with_slot, over_overflow}
 use Rattle.table.specs.Decode.{basic_slots, decode}
@@ -22,10 +25,12 @@ use Rattle.table.specs.Table.{Table}
 use Rattle.table.specs.Follow.{last_of, follow, gather, own_blocks}
 use Rattle.table.specs.Store.{store_displaced, store_at}
 use Rattle.table_read.specs.Places.{basic_slot, overflow_slot}
-use Rattle.table_read.specs.Steps.{restored_bytes, displaced_run, last_in, last_from}
+use Rattle.table_read.specs.Steps.{restored_bytes, displaced_run, last_in, last_from, last_as}
 use Rattle.table_read.specs.BlockSlots.{blocks_from, block_slot_in, Reaches}
 use Rattle.table_read.specs.declared.lists.BlockSlot.{BlockSlot}
-use Rattle.table_read.specs.theory.Places.{basic_slot_ends}
+use Rattle.table_read.specs.declared.slots.Slots.{Slots}
+use Rattle.table_read.specs.theory.Lasts.{EndsAt, ends_at, no_end}
+use Rattle.table_read.specs.theory.Places.{basic_slot_ends, overflow_slot_ends}
 use Rattle.table_read.specs.theory.Reads.{slot_entry, entry_in, displaced_slots_in, link_lt, sized, unpack_length}
 use Rattle.table_read.specs.theory.Walks.{last_low, content_short}
 use Rattle.table_read.specs.theory.BlockSlots.{Chained, content_chained, long_full, long_ends, long_blocks, long_own}
@@ -99,12 +104,13 @@ module _ {g : Layout} {t : List ℕ} {i p label : ℕ} (R : Relabellable g t i p
         ap (entry_of g) (get_or-take count (own_slots g (basic_at st.basic i)) p 0 (short_place g st i p P h) ∙ basic_slot_is g t T i p hi low_place)
         ∙ slot_entry g T.proper t at
 
-    pub relabelled_short : (u : List ℕ) → u ≡ put_field t (basic_slot g i p + g.bie) g.val label → Relabelled g t u i p label
+    pub relabelled_short : (z : ℕ) → z ≡ basic_slot g i p + g.bie → (u : List ℕ) → u ≡ put_field t z g.val label → Relabelled g t u i p label
     unfolding relabelled store_at
-    relabelled_short u eu =
+    relabelled_short z ez u eu =
         stored_as (relabelled g st i p label)
         (stored_basic_slot g t T i hi p (slot_from t at) low_place (slot_from_lt t at) u
-        (slot_put_lem g T.proper t u at (slot_from t at) (eu ∙ label_put t at g.bie g.val (field t at g.bie) label refl hl)))
+        (slot_put_lem g T.proper t u at (slot_from t at)
+        (eu ∙ ap (λ (n : ℕ). put_field t n g.val label) ez ∙ label_put t at g.bie g.val (field t at g.bie) label refl hl)))
         (sym
         (ap (relabelled_in g st i p label) (content_short g st i h)
         ∙ ap (λ (e : ℕ). store_at g st i [] p (slot_of g e label)) short_entry))
@@ -129,7 +135,7 @@ module _ {g : Layout} {t : List ℕ} {i p label : ℕ} (R : Relabellable g t i p
     abbrev others : List ℕ
     others = blocks.others
 
-    abbrev last : ℕ
+    abbrev pub last : ℕ
     last = last_of first others
 
     abbrev link : ℕ
@@ -145,14 +151,23 @@ module _ {g : Layout} {t : List ℕ} {i p label : ℕ} (R : Relabellable g t i p
     unfolding relabelled
     long_is = ap (relabelled_in g st i p label) (content_chained g st i (long_full g st i P.followed P.is h) blocks (long_own g st i P.followed P.is h))
 
-    pub last_below : last < g.nob
+    last_below : last < g.nob
     last_below = last_low g st.overflow blocks.chain
 
-    pub ends_there : (b : ℕ) → b ≡ first → last_from g i g.nob st.overflow b ≡ last
+    ends_there : (b : ℕ) → b ≡ first → last_from g i g.nob st.overflow b ≡ last
     unfolding last_from
     ends_there b e =
         ap (λ (x : ℕ). last_in g (own_blocks i st.overflow (follow g g.nob st.overflow x))) e
         ∙ rw (blocks.found, long_own g st i P.followed P.is h)
+
+    -- the list ends in a block, since it was followed
+    pub last_found : (b : ℕ) → b ≡ first → (l : BlockNumber) → last_as g (last_from g i g.nob st.overflow b) ≡ Ok l → EndsAt g last l
+    last_found b e l q =
+        let f = ends_at g (last_from g i g.nob st.overflow b) l q in
+        record { is = f.is ∙ ends_there b e; low = f.low }
+
+    pub no_damage : (b : ℕ) → b ≡ first → {d : Damage} → last_as g (last_from g i g.nob st.overflow b) ≡ Err d → ⊥
+    no_damage b e q = omega (arith, no_end g (last_from g i g.nob st.overflow b) q, ends_there b e, last_below)
 
     -- in the basic block
     module _ (k : p < g.sib) where
@@ -185,7 +200,7 @@ module _ {g : Layout} {t : List ℕ} {i p label : ℕ} (R : Relabellable g t i p
       over u r S = over_label g.link g.bie g.val g.slot t u base link there (field whole there g.bie) label r T.proper.slot_is refl hl S
 
       -- behind the displaced bits
-      pub relabelled_behind : Bytes t → basic_slots g i + g.link ≤ basic_slot g i p + g.bie → (u : List ℕ)
+      relabelled_behind : Bytes t → basic_slots g i + g.link ≤ basic_slot g i p + g.bie → (u : List ℕ)
           → u ≡ put_field t (basic_slot g i p + g.bie) g.val label → Relabelled g t u i p label
       relabelled_behind y l u eu =
           stored_as (relabelled g st i p label)
@@ -193,70 +208,92 @@ module _ {g : Layout} {t : List ℕ} {i p label : ℕ} (R : Relabellable g t i p
           (over u link (over_behind g.link g.val t u base link (there + g.bie) label y l (label_within (there + g.bie) refl k).ends link_fits eu)) refl)
           (sym first_is)
 
-      -- under them, what they are then goes to the last block's link
-      pub relabelled_under : (l v m b z n x r : ℕ) (a u : List ℕ) → l ≡ last → v ≡ (overflow_at st.overflow l).link → m ≡ g.link → b ≡ basic_slots g i → z ≡ basic_slot g i p + g.bie → n ≡ g.val → x ≡ label
-          → StoredOver m n t a b v z x r → u ≡ link_put g a l r → Relabelled g t u i p label
-      relabelled_under l v m b z n x r a u el ev em eb ez en ex S eu =
-          let ew : v ≡ link = ev ∙ ap (λ (q : ℕ). (overflow_at st.overflow q).link) el in
+      -- under them: l is the last block, whose link v counts as them, and what they are then, r, goes there
+      pub relabelled_under : (l v : ℕ) (b : Slots) (z n x r : ℕ) (a u : List ℕ) → l ≡ last → v ≡ (overflow_at st.overflow l).link
+          → b ≡ displaced_run g i v → z ≡ basic_slot g i p + g.bie → n ≡ g.val → x ≡ label
+          → StoredOver b.displaced n t a b.start b.value z x r → u ≡ link_put g a l r → Relabelled g t u i p label
+      unfolding displaced_run
+      relabelled_under l v b z n x r a u el ev eb ez en ex S eu =
+          let ew : b.value ≡ link = ap (λ (x : Slots). x.value) eb ∙ ev ∙ ap (λ (q : ℕ). (overflow_at st.overflow q).link) el in
+          let es : b.start ≡ basic_slots g i = ap (λ (x : Slots). x.start) eb in
+          let em : b.displaced ≡ g.link = ap (λ (x : Slots). x.displaced) eb in
           stored_as (relabelled g st i p label)
           (stored_displaced g t T i last p link (slot_from whole there) base there hi last_below k (slot_from_lt whole there) refl refl refl a r
-          (over a r (rw (← ew, ← eb, ← ez, ← em, ← en, ← ex) S)) u (eu ∙ ap (λ (q : ℕ). link_put g a q r) el))
+          (over a r (rw (← ew, ← es, ← ez, ← em, ← en, ← ex) S)) u (eu ∙ ap (λ (q : ℕ). link_put g a q r) el))
           (sym first_is)
 
-    -- in an overflow block
-    module _ (k : g.sib ≤ p) where
-      abbrev slot : BlockSlot
-      slot = block_slot_in g (first ∷ others) (p - g.sib)
+  -- ---- behind the basic block: place p is a slot of an overflow block
 
-      pub here : InBlocks g st.overflow (sized g t T) (first ∷ others) (p - g.sib)
-      here = in_blocks g st.overflow (sized g t T) blocks.chain (p - g.sib) (long_place g st i p P h k)
+  module _ (k : g.sib ≤ p) where
+    abbrev h : g.sib < (basic_at st.basic i).counter
+    h = long_there k
 
-      pub reaches : (b : ℕ) → b ≡ first → Reaches g st.overflow b (p - g.sib)
-      reaches b e = rw e (record { ends = long_ends g st i P.followed P.is h; within = rw blocks.are (long_place g st i p P h k) })
+    abbrev slot : BlockSlot
+    slot = block_slot_in g (first h ∷ others h) (p - g.sib)
 
-      pub slot_as : (b : ℕ) → b ≡ first → (s : BlockSlot) → s ≡ block_slot_in g (blocks_from g st.overflow b) (p - g.sib) → s ≡ slot
-      slot_as b e s es =
-          es
-          ∙ ap (λ (x : ℕ). block_slot_in g (blocks_from g st.overflow x) (p - g.sib)) e
-          ∙ ap (λ (bs : List ℕ). block_slot_in g bs (p - g.sib)) blocks.are
+    here : InBlocks g st.overflow (sized g t T) (first h ∷ others h) (p - g.sib)
+    here = in_blocks g st.overflow (sized g t T) (blocks h).chain (p - g.sib) (long_place g st i p P h k)
 
-      abbrev over_there : ℕ
-      over_there = overflow_slot g slot.block.0 slot.slot.0
+    pub reaches : (b : ℕ) → b ≡ first h → Reaches g st.overflow b (p - g.sib)
+    reaches b e = rw e (record { ends = long_ends g st i P.followed P.is h; within = rw (blocks h).are (long_place g st i p P h k) })
 
-      behind_entry : entry_of g (get_or (body ++ tail) p 0) ≡ field t over_there g.bie
-      behind_entry =
-          let e : p ≡ length body + (p - g.sib) = omega (arith, unpack_length g link (basic_at st.basic i).rest) in
-          ap (entry_of g)
-          (ap (λ (n : ℕ). get_or (body ++ tail) n 0) e
-          ∙ get_or-append-add body tail (p - g.sib) 0
-          ∙ here.holds
-          ∙ overflow_slot_is g t T slot.block.0 slot.slot.0 here.low here.few)
-          ∙ slot_entry g T.proper t over_there
+    -- s is that slot
+    pub record SlotAt (s : BlockSlot) : Type 0 where
+      pub is : s ≡ slot
+      pub low : s.block.0 < g.nob
+      pub few : s.slot.0 < g.sio
 
-      behind_is : relabelled g st i p label ≡ over_overflow slot.block.0 (with_slot slot.slot.0 (slot_from t over_there)) st
-      unfolding store_at
-      behind_is =
-          long_is
-          ∙ rw (le-ltb p g.sib k)
-          (ap (λ (os : List Overflow). mk_state st.free st.basic os) (here.stored (slot_of g (entry_of g (get_or (body ++ tail) p 0)) label))
-          ∙ ap (λ (e : ℕ). over_overflow slot.block.0 (with_slot slot.slot.0 (slot_of g e label)) st) behind_entry)
+    pub slot_at : (b : ℕ) → b ≡ first h → (s : BlockSlot) → s ≡ block_slot_in g (blocks_from g st.overflow b) (p - g.sib) → SlotAt s
+    slot_at b e s es =
+        let is : s ≡ slot =
+        es
+        ∙ ap (λ (x : ℕ). block_slot_in g (blocks_from g st.overflow x) (p - g.sib)) e
+        ∙ ap (λ (bs : List ℕ). block_slot_in g bs (p - g.sib)) (blocks h).are in
+        let j : s.block.0 ≡ slot.block.0 = ap (λ (x : BlockSlot). x.block.0) is in
+        let q : s.slot.0 ≡ slot.slot.0 = ap (λ (x : BlockSlot). x.slot.0) is in
+        record { is = is; low = omega (arith, here.low); few = omega (arith, here.few) }
 
-      pub relabelled_overflow : (s : BlockSlot) (z : ℕ) → s ≡ slot → z ≡ overflow_slot g s.block.0 s.slot.0 → (u : List ℕ)
-          → u ≡ put_field t (z + g.bie) g.val label → Relabelled g t u i p label
-      relabelled_overflow s z es ez u eu =
-          let q : z ≡ over_there = ez ∙ ap (λ (b : BlockSlot). overflow_slot g b.block.0 b.slot.0) es in
-          stored_as (relabelled g st i p label)
-          (stored_overflow_slot g t T slot.block.0 here.low slot.slot.0 (slot_from t over_there) here.few (slot_from_lt t over_there) u
-          (slot_put_lem g T.proper t u over_there (slot_from t over_there)
-          (eu ∙ ap (λ (n : ℕ). put_field t (n + g.bie) g.val label) q ∙ label_put t over_there g.bie g.val (field t over_there g.bie) label refl hl)))
-          (sym behind_is)
+    -- its label is within the table
+    pub slot_ends : (s : BlockSlot) → SlotAt s → (z : ℕ) → z ≡ overflow_slot g s.block.0 s.slot.0 → z + g.bie + g.val ≤ g.bits
+    slot_ends s S z e = omega (arith, overflow_slot_ends g T.proper s.block.0 S.low s.slot.0 S.few, T.proper.slot_is)
+
+    abbrev over_there : ℕ
+    over_there = overflow_slot g slot.block.0 slot.slot.0
+
+    behind_entry : entry_of g (get_or (body h ++ tail h) p 0) ≡ field t over_there g.bie
+    behind_entry =
+        let e : p ≡ length (body h) + (p - g.sib) = omega (arith, unpack_length g (link h) (basic_at st.basic i).rest) in
+        ap (entry_of g)
+        (ap (λ (n : ℕ). get_or (body h ++ tail h) n 0) e
+        ∙ get_or-append-add (body h) (tail h) (p - g.sib) 0
+        ∙ here.holds
+        ∙ overflow_slot_is g t T slot.block.0 slot.slot.0 here.low here.few)
+        ∙ slot_entry g T.proper t over_there
+
+    behind_is : relabelled g st i p label ≡ over_overflow slot.block.0 (with_slot slot.slot.0 (slot_from t over_there)) st
+    unfolding store_at
+    behind_is =
+        long_is h
+        ∙ rw (le-ltb p g.sib k)
+        (ap (λ (os : List Overflow). mk_state st.free st.basic os) (here.stored (slot_of g (entry_of g (get_or (body h ++ tail h) p 0)) label))
+        ∙ ap (λ (e : ℕ). over_overflow slot.block.0 (with_slot slot.slot.0 (slot_of g e label)) st) behind_entry)
+
+    pub relabelled_overflow : (s : BlockSlot) → SlotAt s → (z : ℕ) → z ≡ overflow_slot g s.block.0 s.slot.0 → (u : List ℕ)
+        → u ≡ put_field t (z + g.bie) g.val label → Relabelled g t u i p label
+    relabelled_overflow s S z ez u eu =
+        let q : z ≡ over_there = ez ∙ ap (λ (b : BlockSlot). overflow_slot g b.block.0 b.slot.0) S.is in
+        stored_as (relabelled g st i p label)
+        (stored_overflow_slot g t T slot.block.0 here.low slot.slot.0 (slot_from t over_there) here.few (slot_from_lt t over_there) u
+        (slot_put_lem g T.proper t u over_there (slot_from t over_there)
+        (eu ∙ ap (λ (n : ℕ). put_field t (n + g.bie) g.val label) q ∙ label_put t over_there g.bie g.val (field t over_there g.bie) label refl hl)))
+        (sym behind_is)
 
   -- ---- behind the first L bits of the basic block's slots it is one store, whether the list overflows or not
 
-  pub relabelled_plain : Bytes t → p < g.sib → basic_slots g i + g.link ≤ basic_slot g i p + g.bie → (u : List ℕ)
-      → u ≡ put_field t (basic_slot g i p + g.bie) g.val label → Relabelled g t u i p label
-  relabelled_plain y k l u eu = pick (dec_le (basic_at st.basic i).counter g.sib)
+  pub relabelled_plain : Bytes t → p < g.sib → basic_slots g i + g.link ≤ basic_slot g i p + g.bie → (z : ℕ) → z ≡ basic_slot g i p + g.bie
+      → (u : List ℕ) → u ≡ put_field t z g.val label → Relabelled g t u i p label
+  relabelled_plain y k l z ez u eu = pick (dec_le (basic_at st.basic i).counter g.sib)
     where
       pick : Dec ((basic_at st.basic i).counter ≤ g.sib) → Relabelled g t u i p label
-      pick (yes h) = relabelled_short h u eu
-      pick (no h) = relabelled_behind (omega arith) k y l u eu
+      pick (yes h) = relabelled_short h z ez u eu
+      pick (no h) = relabelled_behind (omega arith) k y l u (eu ∙ ap (λ (n : ℕ). put_field t n g.val label) ez)

@@ -10,9 +10,9 @@ use settings::{Layout, Refusal, Settings};
 use table::{Said, Word};
 use table_find::{Sought, admit, find_in, fits};
 
-// The key, once it was sought. The settings and the key are named by the contract alone. Most labels are one store, which is
-// made here; `relabel_place` tells all places apart. An answer that is handed on is copied whole, and waits: so its fields are
-// copied singly, in both answers.
+// The key, once it was sought. Most labels are one store, which is made here; `relabel_place` tells all places apart. Who calls
+// it has it inlined: what find answered would be laid in memory for a call. So its fields are copied singly too, in both
+// answers: an answer that is handed on is copied whole, and waits.
 #[inline(always)]
 fn relabel_found(
     t: &mut [u8],
@@ -46,6 +46,7 @@ fn relabel_found(
     })
 }
 
+// The key, once it was sought. The settings and the key are named by the contract alone.
 pub fn relabel_sought(
     t: &mut [u8],
     s: Settings,

@@ -1,15 +1,13 @@
 -- What find answered decides.
-use mathlib.Core.Path.{refl, sym, ap, subst, ◌∙◌}
 use native.Mathlib.Omega.{arith}
-use Rattle.keys.specs.Key.{key_number}
-use Rattle.table.specs.Decode.{decode}
-use Rattle.table.specs.Answer.{said}
-use Rattle.table.specs.declared.answers.Word.{Word}
+use Rattle.std.specs.Prelude.{Ok}
+use Rattle.std.proofs.Common.{rules}
+use Rattle.std.proofs.lemmas.Result.{err_from_is_err_and}
 use Rattle.table_find.specs.theory.SoughtLaws.{SoughtIn, sought_means}
-use Rattle.table_find.specs.theory.Helds.{Other, not_held}
-use Rattle.table_delete.proofs.KeyLaws.{Found, sought_held, other_gives, gone_gives, damage_gives}
+use Rattle.table_find.specs.theory.Helds.{not_held}
+use Rattle.table_delete.proofs.KeyLaws.{other_gives, some_compared, placed, gone_gives, damage_gives}
 use Rattle.table_delete.proofs.remove.delete_sought.Goals as goal
-use Rattle.table_delete.proofs.remove.delete_sought.Goals.{After-remove-arg-1, Start}
+use Rattle.table_delete.proofs.remove.delete_sought.Goals.{Start}
 
 -- the key as it was sought
 sought : (c : Start) → let a = c.args in SoughtIn a.s a.t.now a.key a.g a.v
@@ -17,49 +15,31 @@ sought c =
     let a = c.args in
     sought_means a.s a.t.now a.key a.g a.v c.requires.0 c.requires.1
 
-sought_at_after_remove_arg : (c : After-remove-arg-1) → let a = c.args in SoughtIn a.s a.t.now a.key a.g a.v
-sought_at_after_remove_arg c =
-    let a = c.args in
-    sought_means a.s a.t.now a.key a.g a.v c.requires.0 c.requires.1
-
--- the entry is there
-there : (c : After-remove-arg-1) →
-    let a = c.args in
-    Found a.g (decode a.g a.t.now) a.v.place.list.0 (key_number a.v.place.entry) c.in-Said.label c.in-Said.compared
-there c =
-    let a = c.args in
-    sought_held (sought_at_after_remove_arg c) _ _ _
-    (c.in-Said.is ∙ ap (λ (w : Word). said w c.in-Said.label c.in-Said.compared c.in-Said.slot) c.in-Held.is)
-
-pub overflow_sub-compared : goal.overflow_sub-compared
-overflow_sub-compared c = omega (arith, (there (goal.at.overflow_sub-compared c).After-remove-arg-1).some_compared)
-
-pub remove-requires : goal.remove-requires
-remove-requires c =
-    let a = c.args in (
-      (sought (goal.at.remove-requires c).Start).table,
-      (sought (goal.at.remove-requires c).Start).list_below,
-      (there (goal.at.remove-requires c).After-remove-arg-1).placed,
-    )
-
-pub returns-then-remove : goal.returns-then-remove
-returns-then-remove c =
-    let a = c.args in
-    gone_gives (sought (goal.at.returns-then-remove c).Start)
-    (λ j. omega (arith, c.slice_known-1.given j)) _ _ (there (goal.at.returns-then-remove c).After-remove-arg-1) _ _ c.remove.ensures c.if-remove.true
-
-pub returns-else-remove : goal.returns-else-remove
-returns-else-remove c =
-    let a = c.args in
-    damage_gives (sought (goal.at.returns-else-remove c).Start)
-    (λ j. omega (arith, c.slice_known-1.given j)) _ _ (there (goal.at.returns-else-remove c).After-remove-arg-1) _ _ c.remove.ensures c.if-remove.false
-
-pub returns-in_default-word : goal.returns-in_default-word
-returns-in_default-word c =
-    let a = c.args in
-    other_gives (sought (goal.at.returns-in_default-word c).Start) _ c.in-Said.is (not_held c.in-Said.word c.in-Said.label c.in-Said.compared c.in-Said.slot c.in_default-word.not-Held)
+pub returns-in_err-found : goal.returns-in_err-found
+returns-in_err-found c =
+    let p = err_from_is_err_and c.from_residual.result c.from_residual.ensures.1 in
+    rw (p.1, p.2) (other_gives (sought (goal.at.returns-in_err-found c).Start) _ c.in_err-found.was tt)
 
 pub returns-in_default : goal.returns-in_default
 returns-in_default c =
-    let a = c.args in
-    other_gives (sought (goal.at.returns-in_default c).Start) a.v.found refl (subst Other (sym c.in_default.is) tt)
+    let r = c.in_ok-found.found in
+    other_gives (sought (goal.at.returns-in_default c).Start) (Ok r) c.in_ok-found.was
+    (not_held r.word r.label r.compared r.slot c.in_default.not-Held)
+
+pub overflow_sub-found : goal.overflow_sub-found
+overflow_sub-found c = omega (arith, some_compared (sought (goal.at.overflow_sub-found c).Start) c.in_ok-found.was c.in-Held.is)
+
+pub remove-requires : goal.remove-requires
+remove-requires c =
+    let S = sought (goal.at.remove-requires c).Start in
+    (S.table, S.list_below, placed S c.in_ok-found.was c.in-Held.is)
+
+pub returns : goal.returns
+returns c =
+    gone_gives (sought (goal.at.returns c).Start) c.in_ok-found.was c.in-Held.is (λ j. search rules) _ c.remove.ensures c.in_ok-remove.was
+
+pub returns-in_err-remove : goal.returns-in_err-remove
+returns-in_err-remove c =
+    let p = err_from_is_err_and c.from_residual-in_err-remove.result c.from_residual-in_err-remove.ensures.1 in
+    rw (p.1, p.2)
+    (damage_gives (sought (goal.at.returns-in_err-remove c).Start) c.in_ok-found.was c.in-Held.is (λ j. search rules) _ c.remove.ensures c.in_err-remove.was)

@@ -1,6 +1,6 @@
 -- The table opened for the key, and the key sought; where a refusal comes first, it is the answer, and every byte stays.
 use mathlib.Core.Path.{◌≡◌, refl, sym, ap, ◌∙◌}
-use Prim.Native.Nat.{◌^◌, ◌<◌}
+use Prim.Native.Nat.{◌^◌}
 use lib.ListN.{length}
 use borrow.Author.Tests.{ltb-true}
 use Rattle.std.specs.Prelude.{Ok}
