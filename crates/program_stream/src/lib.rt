@@ -15,14 +15,20 @@ use program_commands::LINE_MAX;
 use program_lines::Span;
 use settings::Refusal;
 
-// How far a turn has come in the input and in the output, whether the input begins inside a line that has
-// been answered, and whether there may be more lines.
+// Where a run of turns stands: how far it has come in the input and in the output, and whether the input goes on inside
+// a line that has been answered.
 #[derive(Clone, Copy)]
-pub struct Turn {
+pub struct Place {
     pub at: usize,
     pub made: usize,
     pub skip: bool,
-    pub more: bool,
+}
+
+// Where a turn, or a run of them, comes to: there may be more lines, or what is left has no line feed.
+#[derive(Clone, Copy)]
+pub enum Step {
+    More(Place),
+    Rest(Place),
 }
 
 // Answers the line input[at..e] into out from `made` on.
@@ -57,96 +63,73 @@ fn refuse_part(out: &mut [u8], made: usize) -> usize
 fn line_turn(
     classes: &[u8; 256],
     input: &[u8],
-    at: usize,
+    p: Place,
     e: usize,
-    skip: bool,
     t: &mut [u8],
     out: &mut [u8],
-    made: usize,
-) -> Turn
-    requires at_in_bounds { (at ≤ length input.now) × (span_at input.now at ≡ span.Line e) }
-    requires classes { Classes classes.now × (program_bytes ≤ length t.old) × (made + answer_room ≤ length out.old) }
-    ensures { Turned input.now at skip t.old out.old made result t.new out.new }
+) -> Step
+    requires at_in_bounds { (p.at ≤ length input.now) × (span_at input.now p.at ≡ span.Line e) }
+    requires classes { Classes classes.now × (program_bytes ≤ length t.old) × (p.made + answer_room ≤ length out.old) }
+    ensures { Turned input.now p t.old out.old result t.new out.new }
 {
-    if skip {
-        return Turn {
-            at: e + 1,
-            made: made,
-            skip: false,
-            more: true,
-        };
-    }
-    let n = answer_part(classes, input, at, e, t, out, made);
-    Turn {
+    let at = p.at;
+    let made = if p.skip {
+        p.made
+    } else {
+        answer_part(classes, input, at, e, t, out, p.made)
+    };
+    Step::More(Place {
         at: e + 1,
-        made: n,
+        made,
         skip: false,
-        more: true,
-    }
+    })
 }
 
 // What no line feed ends yet: it waits for more, unless it is too long already, or has been answered.
-fn rest_turn(input: &[u8], at: usize, skip: bool, out: &mut [u8], made: usize) -> Turn
-    requires { (at ≤ length input.now) × (span_at input.now at ≡ span.Rest) × (made + answer_room ≤ length out.old) }
-    ensures { (t : List ℕ) → Turned input.now at skip t out.old made result t out.new }
+fn rest_turn(input: &[u8], p: Place, out: &mut [u8]) -> Step
+    requires { (p.at ≤ length input.now) × (span_at input.now p.at ≡ span.Rest) × (p.made + answer_room ≤ length out.old) }
+    ensures { (t : List ℕ) → Turned input.now p t out.old result t out.new }
 {
-    if skip {
-        return Turn {
+    let at = p.at;
+    let made = p.made;
+    if p.skip {
+        return Step::Rest(Place {
             at: input.len(),
-            made: made,
-            skip: true,
-            more: false,
-        };
+            ..p
+        });
     }
     if LINE_MAX < input.len() - at {
-        let n = refuse_part(out, made);
-        return Turn {
+        return Step::Rest(Place {
             at: input.len(),
-            made: n,
+            made: refuse_part(out, made),
             skip: true,
-            more: false,
-        };
+        });
     }
-    Turn {
-        at: at,
-        made: made,
-        skip: false,
-        more: false,
-    }
+    Step::Rest(p)
 }
 
 // One line, or the start of one that is too long: `span` is what the reader found.
 fn one_turn(
     classes: &[u8; 256],
     input: &[u8],
-    at: usize,
+    p: Place,
     span: Span,
-    skip: bool,
     t: &mut [u8],
     out: &mut [u8],
-    made: usize,
-) -> Turn
-    requires { (at ≤ length input.now) × (span ≡ span_at input.now at) × Classes classes.now × (program_bytes ≤ length t.old) × (made + answer_room ≤ length out.old) }
-    ensures { Turned input.now at skip t.old out.old made result t.new out.new }
+) -> Step
+    requires { (p.at ≤ length input.now) × (span ≡ span_at input.now p.at) × Classes classes.now × (program_bytes ≤ length t.old) × (p.made + answer_room ≤ length out.old) }
+    ensures { Turned input.now p t.old out.old result t.new out.new }
 {
     match span {
-        Span::Line(e) => line_turn(classes, input, at, e, skip, t, out, made),
-        Span::Rest => rest_turn(input, at, skip, out, made),
+        Span::Line(e) => line_turn(classes, input, p, e, t, out),
+        Span::Rest => rest_turn(input, p, out),
     }
 }
 
-// How far a run of turns has come, and whether it stopped because the output is full.
-#[derive(Clone, Copy)]
-pub struct Step {
-    pub at: usize,
-    pub made: usize,
-    pub skip: bool,
-    pub full: bool,
-}
-
-// All whole lines from `at` on, until the output has no room for one more answer. Left free: where it stops when the
-// output is full (a line further at least, if there was room for an answer), the bytes of the output behind what was
-// made, which nobody reads, and the table's bytes: of these it is said what is due on them, whatever follows.
+// All whole lines from `at` on, until the output has no room for one more answer: then there may be more. Left free:
+// where it stops when the output is full (a line further at least, if there was room for an answer), the bytes of the
+// output behind what was made, which nobody reads, and the table's bytes: of these it is said what is due on them,
+// whatever follows.
 pub fn consume(
     classes: &[u8; 256],
     input: &[u8],
@@ -160,23 +143,16 @@ pub fn consume(
     ensures { Consumed input.now at skip t.old result t.new out.new }
 {
     let mut l = program_lines::lines_at(input, at);
-    let mut turn = Turn {
-        at: at,
-        made: 0,
-        skip: skip,
-        more: true,
-    };
-    while turn.more & (ANSWER_MAX <= out.len() - turn.made) {
+    let mut p = Place { at, made: 0, skip };
+    while ANSWER_MAX <= out.len() - p.made {
         let span = program_lines::next_line(l);
-        turn = one_turn(classes, l.src, l.at, span, turn.skip, t, out, turn.made);
-        l = program_lines::moved(l, turn.at);
+        match one_turn(classes, l.src, p, span, t, out) {
+            Step::More(next) => p = next,
+            rest => return rest,
+        }
+        l = program_lines::moved(l, p.at);
     }
-    Step {
-        at: l.at,
-        made: turn.made,
-        skip: turn.skip,
-        full: turn.more,
-    }
+    Step::More(p)
 }
 
 // The end of the input: a last line that lacks its line feed. Left free: the answer to an input with a line feed, which
@@ -200,12 +176,6 @@ pub fn keep(buf: &mut [u8], at: usize, end: usize) -> usize
     requires { (at ≤ end) × (end ≤ length buf.old) }
     ensures { (result ≡ end - at) × (take result buf.new ≡ take (end - at) (drop at buf.old)) × (drop result buf.new ≡ drop result buf.old) }
 {
-    let mut i = at;
-    let mut j: usize = 0;
-    while i < end {
-        buf[j] = buf[i];
-        i += 1;
-        j += 1;
-    }
-    j
+    buf.copy_within(at..end, 0);
+    end - at
 }
