@@ -1,15 +1,17 @@
 -- Parts of the buffer, and what each step of the loop comes to, from what its callees say.
-use mathlib.Core.Path.{◌≡◌, sym, ap, ◌∙◌}
-use mathlib.Core.List.{List, ◌++◌}
+use mathlib.Core.Path.{◌≡◌, refl, sym, ap, subst, ◌∙◌}
+use mathlib.Core.List.{List, [], ◌++◌}
 use mathlib.Core.Bool.{Bool, false}
 use Prim.Native.Nat.{ℕ, ◌+◌, ◌-◌, ◌≤◌}
 use native.Mathlib.Nat.{sub-zero}
 use native.Mathlib.Omega.{arith}
 use lib.ListN.{length, take, drop, length-take, length-drop, length-append}
 use lib.Seq.{take-add, drop-drop, take_at, drop_at, length-take-le, take-append-le}
-use Rattle.program_stream.specs.Steps.{Answers, Waits, Consumed}
+use Rattle.program_stream.specs.Steps.{Answers, Waits, Consumed, place, goes_on}
 use Rattle.program_stream.specs.declared.Step.{Step}
-use Rattle.filter.specs.Loop.{part}
+use Rattle.filter.specs.World.{Gives}
+use Rattle.filter.specs.Loop.{part, Came}
+use Rattle.filter.specs.declared.State.{State}
 
 -- ---- parts
 
@@ -39,44 +41,58 @@ part_kept a e l x h k =
 
 module _ (buf t : List ℕ) (at end : ℕ) (skip : Bool) (r : Step) (t' out' : List ℕ) (h : at ≤ end) (k : end ≤ length buf)
     (c : Consumed (take end buf) at skip t r t' out') where
-  pub come : r.at ≤ end
+  pub come : (place r).at ≤ end
   come = omega (arith, c.within, length-take-le end buf k)
 
-  pub answers_of : Answers t skip (part at end buf) (take r.made out') t' r.skip (part r.at end buf)
-  answers_of = record { says = λ rest. rw (← part_of at end buf h k, ← part_of r.at end buf come k) (c.says rest) }
+  pub answers_of : Answers t skip (part at end buf) (take (place r).made out') t' (place r).skip (part (place r).at end buf)
+  answers_of = record { says = λ rest. rw (← part_of at end buf h k, ← part_of (place r).at end buf come k) (c.says rest) }
 
-  waits_of : r.full ≡ false → Waits (part r.at end buf)
+  waits_of : goes_on r ≡ false → Waits (part (place r).at end buf)
   waits_of f =
       record {
-        none = rw (← part_of r.at end buf come k) (c.none f);
+        none = rw (← part_of (place r).at end buf come k) (c.none f);
         short = simp (length-take, length-drop) (omega (arith, c.short f, length-take-le end buf k));
       }
 
   -- what is left has moved to the start
-  module _ (buf' : List ℕ) (have : ℕ) (e : have ≡ end - r.at) (m : take have buf' ≡ take (end - r.at) (drop r.at buf)) where
-    moved : part 0 have buf' ≡ part r.at end buf
+  module _ (buf' : List ℕ) (have : ℕ) (e : have ≡ end - (place r).at) (m : take have buf' ≡ take (end - (place r).at) (drop (place r).at buf)) where
+    moved : part 0 have buf' ≡ part (place r).at end buf
     moved = front have buf' ∙ m
 
-    pub answers_moved : Answers t skip (part at end buf) (take r.made out') t' r.skip (part 0 have buf')
+    pub answers_moved : Answers t skip (part at end buf) (take (place r).made out') t' (place r).skip (part 0 have buf')
     answers_moved = rw moved answers_of
 
-    pub waits_moved : r.full ≡ false → Waits (part 0 have buf')
+    pub waits_moved : goes_on r ≡ false → Waits (part 0 have buf')
     waits_moved f = rw moved (waits_of f)
 
 -- ---- reads
 
 -- n bytes have come behind the first `end`, which are as they were
-pub behind : (at end n : ℕ) (buf x : List ℕ) → at ≤ end → end ≤ length buf
+behind : (at end n : ℕ) (buf x : List ℕ) → at ≤ end → end ≤ length buf
     → part at (end + n) (take end buf ++ x) ≡ part at end buf ++ part end (end + n) (take end buf ++ x)
 behind at end n buf x h k =
     parts_join at end (end + n) (take end buf ++ x) h (omega arith)
     ∙ ap (λ (l : List ℕ). l ++ part end (end + n) (take end buf ++ x)) (part_kept at end buf x h k)
 
 -- they are the first n of what stands there
-pub came : (end n : ℕ) (buf y z : List ℕ) → end ≤ length buf → n ≤ length y → part end (end + n) (take end buf ++ (y ++ z)) ≡ take n y
+came : (end n : ℕ) (buf y z : List ℕ) → end ≤ length buf → n ≤ length y → part end (end + n) (take end buf ++ (y ++ z)) ≡ take n y
 came end n buf y z h k =
     let e : end + n - end ≡ n = omega arith in
     ap (λ (m : ℕ). take m (drop end (take end buf ++ (y ++ z)))) e ∙ ap (take n) (drop_at (take end buf) (y ++ z) end (length-take-le end buf h)) ∙ take-append-le n y z k
 
-pub fits_behind : (end n : ℕ) (buf y z : List ℕ) → end ≤ length buf → n ≤ length y → end + n ≤ length (take end buf ++ (y ++ z))
+fits_behind : (end n : ℕ) (buf y z : List ℕ) → end ≤ length buf → n ≤ length y → end + n ≤ length (take end buf ++ (y ++ z))
 fits_behind end n buf y z h k = omega (arith, length-append (take end buf) (y ++ z), length-append y z, length-take-le end buf h)
+
+-- a read of n bytes, told of the state; where none have come, it is as it was
+pub came_behind : (s : State) (n : ℕ) (buf y z : List ℕ) → s.at ≤ s.end → s.end ≤ length buf → n ≤ length y → Gives (take n y)
+    → Came s buf (record { at = s.at; end = s.end + n; skip = s.skip }) (take s.end buf ++ (y ++ z))
+came_behind s n buf y z o k h g =
+    record {
+      says = behind s.at s.end n buf (y ++ z) o k;
+      skip = refl;
+      gives = subst Gives (sym (came s.end n buf y z k h)) g;
+      placed = record { order = omega (arith, o); within = fits_behind s.end n buf y z k h };
+    }
+
+pub came_none : (s : State) (buf y z : List ℕ) → s.at ≤ s.end → s.end ≤ length buf → Gives [] → Came s buf s (take s.end buf ++ (y ++ z))
+came_none s buf y z o k g = let e : s.end + 0 ≡ s.end = omega arith in rw e at (came_behind s 0 buf y z o k (omega arith) g)

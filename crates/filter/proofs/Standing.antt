@@ -10,13 +10,14 @@ use Rattle.program_stream.specs.Steps.{due, Waits}
 use Rattle.program_stream.specs.Run.{joined, Sofar}
 use Rattle.program_stream.specs.theory.Whole.{whole_program}
 use Rattle.program_stream.specs.theory.Runs.{then_answered, then_read, then_ended, so_far}
-use Rattle.filter.specs.World.{Taken, Takes, Wrote}
-use Rattle.filter.specs.Loop.{part, unanswered, Answered, Read, Stands, Ran, whole, stopped, Ends, stands, failed}
+use Rattle.filter.specs.World.{Taken, Takes, Erred, Wrote}
+use Rattle.filter.specs.Loop.{part, unanswered, state, Answered, Came, Stands, Ran, whole, stopped}
 use Rattle.filter.specs.declared.State.{State}
+use Rattle.filter.specs.declared.Due.{Due}
 
 -- ---- steps
 
-stands_answered : {s r : State} {buf t buf' t' out' : List ℕ} → Stands s buf t → Answered s buf t r buf' t' out' → Takes (take r.made out') → Stands r buf' t'
+stands_answered : {s : State} {r : Due} {buf t buf' t' out' : List ℕ} → Stands s buf t → Answered s buf t r buf' t' out' → Takes (take r.made out') → Stands (state r.next) buf' t'
 stands_answered f e h =
     record {
       pieces = f.pieces;
@@ -24,17 +25,15 @@ stands_answered f e h =
       given = f.given;
       taken = h f.out f.taken;
       sofar = then_answered f.sofar e.says;
-      waits = λ g. let o = e.open_ended in let z : ◌≡◌ {A = ℕ} 0 1 = cc in absurd (omega arith);
-      stops = λ g. let o = e.goes in let z : ◌≡◌ {A = ℕ} 0 1 = cc in absurd (omega arith);
       placed = e.placed;
     }
 
 -- all of what is due was taken
-pub stands_wrote : {s r : State} {buf t buf' t' out' : List ℕ} {ok : Bool} → Stands s buf t → Answered s buf t r buf' t' out' → Wrote (take r.made out') ok → ok ≡ true
-    → Stands r buf' t'
+pub stands_wrote : {s : State} {r : Due} {buf t buf' t' out' : List ℕ} {ok : Bool} → Stands s buf t → Answered s buf t r buf' t' out' → Wrote (take r.made out') ok → ok ≡ true
+    → Stands (state r.next) buf' t'
 stands_wrote f e h k = stands_answered f e (subst Takes (h.whole k) h.takes)
 
-pub stands_read : {s r : State} {buf t buf' : List ℕ} → Stands s buf t → Waits (unanswered s buf) → Read s buf r buf' → Stands r buf' t
+pub stands_read : {s r : State} {buf t buf' : List ℕ} → Stands s buf t → Waits (unanswered s buf) → Came s buf r buf' → Stands r buf' t
 stands_read {s} {r} {buf} {t} {buf'} f w e =
     let c = part s.end r.end buf' in
     let ps = f.pieces ++ c ∷ [] in
@@ -46,14 +45,16 @@ stands_read {s} {r} {buf} {t} {buf'} f w e =
       sofar =
           subst (λ (x : Bool). Sofar ps f.out t x (unanswered r buf')) (sym e.skip)
           (subst (λ (x : List ℕ). Sofar ps f.out t s.skip x) (sym e.says) (then_read f.sofar c w));
-      waits = λ g.
-          let n : r.end - s.end ≡ 0 = omega (arith, e.none g) in
-          let same : unanswered r buf' ≡ unanswered s buf =
-          e.says ∙ ap (λ (m : ℕ). unanswered s buf ++ take m (drop s.end buf')) n ∙ append-nil (unanswered s buf) in
-          subst Waits (sym same) w;
-      stops = e.stops;
       placed = e.placed;
     }
+
+-- nothing has come
+pub waits_still : {s : State} {buf buf' : List ℕ} → Waits (unanswered s buf) → Came s buf s buf' → Waits (unanswered s buf')
+waits_still {s} {buf} {buf'} w e =
+    let n : s.end - s.end ≡ 0 = omega arith in
+    let same : unanswered s buf' ≡ unanswered s buf =
+    e.says ∙ ap (λ (m : ℕ). unanswered s buf ++ take m (drop s.end buf')) n ∙ append-nil (unanswered s buf) in
+    subst Waits (sym same) w
 
 -- ---- errors
 
@@ -68,29 +69,24 @@ parted out w x n =
     ∙ sym (append_assoc out w x)
 
 -- a write has failed
-pub failed_wrote : {s r : State} {buf t buf' t' out' : List ℕ} {ok : Bool} → Stands s buf t → Answered s buf t r buf' t' out' → Wrote (take r.made out') ok → ok ≡ false → Ends r buf' t'
+pub failed_wrote : {s : State} {r : Due} {buf t buf' t' out' : List ℕ} {ok : Bool} → Stands s buf t → Answered s buf t r buf' t' out' → Wrote (take r.made out') ok → ok ≡ false → Ran false
 failed_wrote {r = r} {buf' = buf'} {t' = t'} {out' = out'} f e h k =
     let w = take r.made out' in
-    let d = due t' r.skip (unanswered r buf') in
-    failed e.open_ended (stopped f.pieces (f.out ++ take h.much w) (drop h.much w ++ d) (h.errs k) f.given (h.takes f.out f.taken)
-    (parted f.out w d h.much ∙ sym (begins (then_answered f.sofar e.says))))
+    let d = due t' (state r.next).skip (unanswered (state r.next) buf') in
+    stopped f.pieces (f.out ++ take h.much w) (drop h.much w ++ d) (h.errs k) f.given (h.takes f.out f.taken)
+    (parted f.out w d h.much ∙ sym (begins (then_answered f.sofar e.says)))
 
 -- ---- the end
 
 -- the loop has ended without the end of the input
-pub ran_stopped : {s : State} {buf t : List ℕ} → Ends s buf t → s.ended ≡ false → Ran
-ran_stopped {s} {buf} {t} (stands f g) k = stopped f.pieces f.out (due t s.skip (unanswered s buf)) (g k) f.given f.taken (sym (begins f.sofar))
-ran_stopped (failed e r) k = r
+pub ran_stopped : {s : State} {buf t : List ℕ} → Stands s buf t → Erred → Ran false
+ran_stopped {s} {buf} {t} f g = stopped f.pieces f.out (due t s.skip (unanswered s buf)) g f.given f.taken (sym (begins f.sofar))
 
 -- at the end of the input
-pub ends_stands : {s : State} {buf t : List ℕ} → Ends s buf t → s.ended ≡ true → Stands s buf t
-ends_stands (stands f g) k = f
-ends_stands (failed e r) k = let z : ◌≡◌ {A = ℕ} 0 1 = cc in absurd (omega arith)
-
-pub ran_whole : {s : State} {buf t : List ℕ} (ok : Bool) → Stands s buf t → s.ended ≡ true → Wrote (due t s.skip (unanswered s buf)) ok → Ran
+pub ran_whole : {s : State} {buf t : List ℕ} (ok : Bool) → Stands s buf t → Waits (unanswered s buf) → Wrote (due t s.skip (unanswered s buf)) ok → Ran ok
 ran_whole {s} {buf} {t} true f k h =
     let d = due t s.skip (unanswered s buf) in
-    let all : f.out ++ d ≡ program_output (joined f.pieces) = whole_program (then_ended f.sofar (f.waits k) refl) in
+    let all : f.out ++ d ≡ program_output (joined f.pieces) = whole_program (then_ended f.sofar k refl) in
     whole f.pieces f.given (subst Taken all (subst Takes (h.whole refl) h.takes f.out f.taken))
 ran_whole {s} {buf} {t} false f k h =
     let d = due t s.skip (unanswered s buf) in

@@ -15,8 +15,8 @@ Given cs = Unit
 pub Taken : List ℕ → Type 0
 Taken w = Unit
 
--- a read or a write has failed, or a counter that no run uses up has been used up. `erred` is cited by the proof of `read_some` behind the message, by
--- that of `write_out` where it answers an error, and by that of `answer_input` where the counter is 0
+-- a read or a write has failed, or a counter that no run uses up has been used up. `erred` is cited by the proofs of `read_some` and `write_out` where they
+-- answer an error, and by that of `answer_input` where the counter has come to its end
 pub Erred : Type 0
 Erred = Unit
 

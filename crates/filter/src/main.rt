@@ -5,18 +5,29 @@
 mod streams;
 
 ghost use Rattle.std.specs.Prelude.{◌≡◌, true, false, ◌⊎◌, ◌≤◌, ◌<◌, length, take, is_ok};
+ghost use Rattle.text_read.specs.ReaderSteps.{Classes};
 ghost use Rattle.program_commands.specs.Command.{longest_line};
 ghost use Rattle.program_answers.specs.Program.{program_bytes};
 ghost use Rattle.program_answers.specs.Answer.{answer_room};
 ghost use Rattle.program_stream.specs.Output.{new_table};
 ghost use Rattle.program_stream.specs.Steps.{due, Waits};
-ghost use Rattle.filter.specs.World.{Erred, Gives, Wrote};
-ghost use Rattle.filter.specs.Loop.{Placed, unanswered, Answered, Read, Ends, Ran};
+ghost use Rattle.filter.specs.World.{Wrote};
+ghost use Rattle.filter.specs.Loop.{Placed, unanswered, Answered, ReadSome, Read, Ends, Ran};
 
 use program_answers::TABLE_BYTES;
+use program_stream::{Place, Step};
+use settings::Made;
 use std::io;
 use std::io::ErrorKind;
 use streams::{Streams, fail, read_once, write_once};
+
+// What ends a run before its input does: an error, or a counter that no run uses up.
+#[derive(Drop)]
+enum Failure {
+    Read(io::Error),
+    Write(io::Error),
+    Turns,
+}
 
 // Writes all of buf. A write that takes a part of it, or that a signal interrupts, is gone on with; one that takes nothing
 // has failed. Nothing is promised of interrupted writes, so a counter that no run uses up shows that the loop ends.
@@ -24,54 +35,30 @@ fn write_out(io: &Streams, buf: &[u8]) -> io::Result<()>
     ensures { Wrote buf.now (is_ok result) }
 {
     let mut done: usize = 0;
-    let mut turns = u64::MAX;
-    while turns > 0 {
+    for _ in 0..u64::MAX {
         if done >= buf.len() {
             return Ok(());
         }
         match write_once(io, &buf[done..]) {
-            Ok(n) => {
-                if n == 0 {
-                    return Err(io::Error::from(ErrorKind::WriteZero));
-                }
-                done += n;
-            }
+            Ok(0) => return Err(io::Error::from(ErrorKind::WriteZero)),
+            Ok(n) => done += n,
             Err(e) => {
                 if e.kind() != ErrorKind::Interrupted {
                     return Err(e);
                 }
             }
         }
-        turns -= 1;
     }
     Err(io::Error::from(ErrorKind::Interrupted))
 }
 
-// The same, with a message if it fails.
-fn wrote(io: &Streams, buf: &[u8]) -> bool
-    ensures { Wrote buf.now result }
-{
-    match write_out(io, buf) {
-        Ok(()) => true,
-        Err(e) => {
-            fail(io, "write", e);
-            false
-        }
-    }
-}
-
-// Where the loop stands. buf[at..end] has been read and is not answered yet; `skip` says that it begins inside a line that
-// has been answered. out[..made] is due. Then: whether to read before more can be answered, whether to go on, and whether
-// the input has ended.
+// Where the loop stands: buf[at..end] has been read and is not answered yet; `skip` says that it begins inside a line that
+// has been answered.
 #[derive(Clone, Copy)]
 struct State {
     at: usize,
     end: usize,
     skip: bool,
-    made: usize,
-    read: bool,
-    go: bool,
-    ended: bool,
 }
 
 // Nothing has been read.
@@ -79,160 +66,166 @@ const START: State = State {
     at: 0,
     end: 0,
     skip: false,
-    made: 0,
-    read: false,
-    go: true,
-    ended: false,
 };
+
+// What the loop does next: answer more of what has been read, or read.
+#[derive(Clone, Copy)]
+enum Next {
+    Answer(State),
+    Read(State),
+}
+
+// out[..made] is due, and then what comes next.
+#[derive(Clone, Copy)]
+struct Due {
+    made: usize,
+    next: Next,
+}
 
 // Answers whole lines of buf[at..end] into out until that is full, or until they are all answered. Then what is left moves
 // to the start of buf: no more than a line, so that there is room for the next read.
-fn answer(buf: &mut [u8], t: &mut [u8], out: &mut [u8], s: State) -> State
-    requires { Placed s buf.old × (program_bytes ≤ length t.old) × (answer_room ≤ length out.old) }
+fn answer(classes: &[u8; 256], buf: &mut [u8], t: &mut [u8], out: &mut [u8], s: State) -> Due
+    requires { Classes classes.now × Placed s buf.old × (program_bytes ≤ length t.old) × (answer_room ≤ length out.old) }
     ensures { Answered s buf.old t.old result buf.new t.new out.new }
 {
-    let at = s.at;
     let end = s.end;
-    let r = program_stream::consume(&buf[..end], at, s.skip, t, out);
-    let from = r.at;
-    let past = r.skip;
-    if r.full {
-        return State {
-            at: from,
-            end: end,
-            skip: past,
-            made: r.made,
-            read: false,
-            go: true,
-            ended: false,
-        };
-    }
-    let have = program_stream::keep(buf, from, end);
-    State {
-        at: 0,
-        end: have,
-        skip: past,
-        made: r.made,
-        read: true,
-        go: true,
-        ended: false,
+    match program_stream::consume(classes, &buf[..end], s.at, s.skip, t, out) {
+        Step::More(Place { at, made, skip }) => Due {
+            made,
+            next: Next::Answer(State { at, end, skip }),
+        },
+        Step::Rest(Place { at, made, skip }) => Due {
+            made,
+            next: Next::Read(State {
+                at: 0,
+                end: program_stream::keep(buf, at, end),
+                skip,
+            }),
+        },
     }
 }
 
-// What one read gave: n bytes; whether to go on, and whether the input has ended.
-#[derive(Clone, Copy)]
-struct Got {
-    n: usize,
-    go: bool,
-    ended: bool,
-}
-
-// One read to the start of buf, which is not empty, so that no bytes are the end of the input. A read that a signal interrupts
-// is made again.
-fn read_some(io: &Streams, buf: &mut [u8]) -> Got
+// One read to the start of buf, which is not empty, so that no bytes are the end of the input: then it answers none. A read
+// that a signal interrupts has given no bytes, and is made again.
+fn read_some(io: &Streams, buf: &mut [u8]) -> io::Result<Option<usize>>
     requires { 0 < length buf.old }
-    ensures n_in_bounds { (result.n ≤ length buf.old) × (result.ended ≡ true → result.n ≡ 0) × Gives (take result.n buf.new) }
-    ensures fact { result.go ≡ false → (result.ended ≡ true) ⊎ Erred }
+    ensures { ReadSome result buf.old buf.new }
 {
     match read_once(io, buf) {
-        Ok(n) => Got {
-            n: n,
-            go: n > 0,
-            ended: n == 0,
-        },
+        Ok(0) => Ok(None),
+        Ok(n) => Ok(Some(n)),
         Err(e) => {
-            let again = e.kind() == ErrorKind::Interrupted;
-            if !again {
-                fail(io, "read", e);
+            if e.kind() != ErrorKind::Interrupted {
+                return Err(e);
             }
-            Got {
-                n: 0,
-                go: again,
-                ended: false,
-            }
+            Ok(Some(0))
         }
     }
 }
 
-// Reads into buf from `end` on. After an error what is left may be a part of a line, and is not answered.
-fn read_more(io: &Streams, buf: &mut [u8], s: State) -> State
+// Reads into buf from `end` on; at the end of the input it answers none. After an error what is left may be a part of a
+// line, and is not answered.
+fn read_more(io: &Streams, buf: &mut [u8], s: State) -> io::Result<Option<State>>
     requires { (s.at ≤ s.end) × (s.end < length buf.old) }
     ensures { Read s buf.old result buf.new }
 {
     let from = s.end;
-    let got = read_some(io, &mut buf[from..]);
-    State {
-        at: s.at,
-        end: from + got.n,
-        skip: s.skip,
-        made: 0,
-        read: false,
-        go: got.go,
-        ended: got.ended,
+    match read_some(io, &mut buf[from..])? {
+        Some(n) => Ok(Some(State { end: from + n, ..s })),
+        None => Ok(None),
     }
 }
 
 // Reads and answers from a new table on, until the input ends, or until an error. Nothing is promised of what a read gives,
 // so here too a counter shows that the loop ends.
-fn answer_input(io: &Streams, buf: &mut [u8], t: &mut [u8], out: &mut [u8]) -> State
-    requires { (longest_line < length buf.old) × (program_bytes ≤ length t.old) × (answer_room ≤ length out.old) × (t.old ≡ new_table) }
+fn answer_input(
+    io: &Streams,
+    classes: &[u8; 256],
+    buf: &mut [u8],
+    t: &mut [u8],
+    out: &mut [u8],
+) -> Result<State, Failure>
+    requires { Classes classes.now × (longest_line < length buf.old) × (program_bytes ≤ length t.old) × (answer_room ≤ length out.old) × (t.old ≡ new_table) }
     ensures { Ends result buf.new t.new }
 {
     let mut s = START;
-    let mut turns = u64::MAX;
-    while s.go & (turns > 0) {
-        s = answer(buf, t, out, s);
-        let made = s.made;
-        if !wrote(io, &out[..made]) {
-            return s;
-        }
-        if s.read {
-            s = read_more(io, buf, s);
-        }
-        turns -= 1;
+    for _ in 0..u64::MAX {
+        let due = answer(classes, buf, t, out, s);
+        let made = due.made;
+        write_out(io, &out[..made]).map_err(Failure::Write)?;
+        s = match due.next {
+            Next::Answer(r) => r,
+            Next::Read(r) => match read_more(io, buf, r).map_err(Failure::Read)? {
+                Some(more) => more,
+                None => return Ok(r),
+            },
+        };
     }
-    s
+    Err(Failure::Turns)
 }
 
 // The end of the input: the answer to a last line that lacks its line feed, written out.
-fn last_line(io: &Streams, buf: &[u8], t: &mut [u8], out: &mut [u8], s: State) -> bool
-    requires { Placed s buf.now × Waits (unanswered s buf.now) × (program_bytes ≤ length t.old) × (answer_room ≤ length out.old) }
-    ensures { Wrote (due t.old s.skip (unanswered s buf.now)) result }
+fn last_line(
+    io: &Streams,
+    classes: &[u8; 256],
+    buf: &[u8],
+    t: &mut [u8],
+    out: &mut [u8],
+    s: State,
+) -> io::Result<()>
+    requires { Classes classes.now × Placed s buf.now × Waits (unanswered s buf.now) × (program_bytes ≤ length t.old) × (answer_room ≤ length out.old) }
+    ensures { Wrote (due t.old s.skip (unanswered s buf.now)) (is_ok result) }
 {
     let at = s.at;
     let end = s.end;
-    let n = program_stream::finish(&buf[at..end], s.skip, t, out);
-    wrote(io, &out[..n])
+    let n = program_stream::finish(classes, &buf[at..end], s.skip, t, out);
+    write_out(io, &out[..n])
 }
 
 // The whole run.
-fn run(io: &Streams, buf: &mut [u8], t: &mut [u8], out: &mut [u8])
-    requires { (longest_line < length buf.old) × (program_bytes ≤ length t.old) × (answer_room ≤ length out.old) × (t.old ≡ new_table) }
-    ensures { Ran }
+fn run(
+    io: &Streams,
+    classes: &[u8; 256],
+    buf: &mut [u8],
+    t: &mut [u8],
+    out: &mut [u8],
+) -> Result<(), Failure>
+    requires { Classes classes.now × (longest_line < length buf.old) × (program_bytes ≤ length t.old) × (answer_room ≤ length out.old) × (t.old ≡ new_table) }
+    ensures { Ran (is_ok result) }
 {
-    let s = answer_input(io, buf, t, out);
-    if s.ended {
-        last_line(io, buf, t, out, s);
+    let s = answer_input(io, classes, buf, t, out)?;
+    last_line(io, classes, buf, t, out, s).map_err(Failure::Write)
+}
+
+// The message of a run that has failed.
+fn report(io: &Streams, failure: Failure) {
+    match failure {
+        Failure::Read(e) => fail(io, "read", e),
+        Failure::Write(e) => fail(io, "write", e),
+        Failure::Turns => {}
     }
 }
 
 // The bytes of each of the two buffers.
 const BUFFER_BYTES: usize = 65536;
 
-// All memory of the run: the table, for which the settings ask TABLE_BYTES, and the buffers.
+// All memory of the run: the class table, the table, for which the settings ask TABLE_BYTES, and the buffers.
 fn main(rt: HostRuntime) {
     let io = Streams {
         input: rt.stdin(),
         output: rt.stdout(),
         errors: rt.stderr(),
     };
-    let Ok(s) = program_answers::settings() else {
+    let Made::Settings(s) = program_answers::settings() else {
         fail(&io, "settings", io::Error::from(ErrorKind::InvalidInput));
         return;
     };
+    let classes = text_read::classes();
     let mut buf = [0u8; BUFFER_BYTES];
     let mut t = [0u8; TABLE_BYTES];
     let mut out = [0u8; BUFFER_BYTES];
-    let _made = table_make::make(s, &mut t);
-    run(&io, &mut buf, &mut t, &mut out);
+    table_make::make(s, &mut t);
+    if let Err(failure) = run(&io, &classes, &mut buf, &mut t, &mut out) {
+        report(&io, failure);
+    }
 }

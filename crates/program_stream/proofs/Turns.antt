@@ -1,7 +1,7 @@
 -- What each way of a turn ensures, from what its tests and its callees say.
 use mathlib.Core.Path.{◌≡◌, refl, sym, ap, ◌∙◌}
 use mathlib.Core.List.{List, ◌++◌, append_assoc}
-use mathlib.Core.Bool.{Bool, true, false}
+use mathlib.Core.Bool.{true, false}
 use Prim.Native.Nat.{ℕ, suc, ◌+◌, ◌-◌, ◌≤◌, ◌<◌}
 use native.Mathlib.Omega.{arith}
 use lib.ListN.{length, take, drop, length-drop}
@@ -10,10 +10,12 @@ use lib.Dec.{lit≤}
 use Rattle.settings.specs.declared.refusal.Refusal.TheVariants as refusal
 use Rattle.program_lines.specs.Ends.{line_feed, before, first_from, span_at}
 use Rattle.program_lines.specs.theory.Ends.{span_line, span_rest, first_after}
-use Rattle.std.specs.Prelude.{Some, None}
+use Rattle.program_lines.specs.declared.Span.TheVariants.{Line, Rest}
 use Rattle.program_commands.specs.Command.{longest_line}
 use Rattle.program_answers.specs.Answer.{answer_room, refused_text, line_reply}
 use Rattle.program_stream.specs.Output.{output_of}
+use Rattle.program_stream.specs.declared.Place.{Place}
+use Rattle.program_stream.specs.declared.Step.TheVariants as step
 use Rattle.program_stream.specs.Steps.{past_line, Turned}
 use Rattle.program_stream.specs.theory.Lines.{past_ends, past_goes_on, output_ends, output_long}
 
@@ -43,12 +45,18 @@ module _ (t input : List ℕ) (at e : ℕ) (rest : List ℕ) (he : e ≡ first_f
   past_at : past_line (drop at input ++ rest) ≡ drop (e + 1) input ++ rest
   past_at = past_ends (drop at input) rest inside ∙ rw after refl
 
-module _ (input : List ℕ) (at : ℕ) (skip : Bool) (t out : List ℕ) (made : ℕ) (ha : at ≤ length input) where
-  module _ (e : ℕ) (he : span_at input at ≡ Some e) where
-    pub turned_line : (t' out' : List ℕ) (r : ℕ) → skip ≡ false → r ≤ made + answer_room
+module _ (input : List ℕ) (p : Place) (t out : List ℕ) (ha : p.at ≤ length input) where
+  abbrev at : ℕ
+  at = p.at
+
+  abbrev made : ℕ
+  made = p.made
+
+  module _ (e : ℕ) (he : span_at input at ≡ Line e) where
+    pub turned_line : (t' out' : List ℕ) (r : ℕ) → p.skip ≡ false → r ≤ made + answer_room
         → t' ≡ (line_reply t (take (e - at) (drop at input))).bytes
         → take r out' ≡ take made out ++ (line_reply t (take (e - at) (drop at input))).answer
-        → Turned input at skip t out made (record { at = e + 1; made = r; skip = false; more = true }) t' out'
+        → Turned input p t out (step.More (record { at = e + 1; made = r; skip = false })) t' out'
     turned_line t' out' r es hr et eo =
         let s = span_line input at e he in
         record {
@@ -61,7 +69,7 @@ module _ (input : List ℕ) (at : ℕ) (skip : Bool) (t out : List ℕ) (made : 
               ∙ behind (take made out) (line_reply t (take (e - at) (drop at input))).answer (output_of (line_reply t (take (e - at) (drop at input))).bytes (drop (e + 1) input ++ rest)) (take r out') eo);
         }
 
-    pub turned_past : skip ≡ true → Turned input at skip t out made (record { at = e + 1; made = made; skip = false; more = true }) t out
+    pub turned_past : p.skip ≡ true → Turned input p t out (step.More (record { at = e + 1; made = made; skip = false })) t out
     turned_past es =
         let s = span_line input at e he in
         record {
@@ -73,7 +81,7 @@ module _ (input : List ℕ) (at : ℕ) (skip : Bool) (t out : List ℕ) (made : 
           says = λ rest. rw es (ap (λ (x : List ℕ). take made out ++ output_of t x) (past_at t input at e rest s.0 (omega arith)));
         }
 
-  module _ (he : span_at input at ≡ None) where
+  module _ (he : span_at input at ≡ Rest) where
     all_in : length (drop at input) ≤ before line_feed (drop at input)
     unfolding first_from
     all_in = omega (arith, span_rest input at he, length-drop at input)
@@ -82,7 +90,7 @@ module _ (input : List ℕ) (at : ℕ) (skip : Bool) (t out : List ℕ) (made : 
     unfolding before
     none_left = rw drop-length (lit≤ tt)
 
-    pub turned_past_rest : skip ≡ true → Turned input at skip t out made (record { at = length input; made = made; skip = true; more = false }) t out
+    pub turned_past_rest : p.skip ≡ true → Turned input p t out (step.Rest (record { at = length input; made = made; skip = p.skip })) t out
     turned_past_rest es =
         record {
           within = omega arith;
@@ -93,9 +101,9 @@ module _ (input : List ℕ) (at : ℕ) (skip : Bool) (t out : List ℕ) (made : 
           says = λ rest. rw (es, drop-length) (ap (λ (x : List ℕ). take made out ++ output_of t x) (past_goes_on (drop at input) rest all_in));
         }
 
-    pub turned_long : (out' : List ℕ) (r : ℕ) → skip ≡ false → longest_line < length input - at → r ≤ made + answer_room
+    pub turned_long : (out' : List ℕ) (r : ℕ) → p.skip ≡ false → longest_line < length input - at → r ≤ made + answer_room
         → take r out' ≡ take made out ++ refused_text refusal.Line
-        → Turned input at skip t out made (record { at = length input; made = r; skip = true; more = false }) t out'
+        → Turned input p t out (step.Rest (record { at = length input; made = r; skip = true })) t out'
     turned_long out' r es hl hr eo =
         record {
           within = omega arith;
@@ -107,7 +115,7 @@ module _ (input : List ℕ) (at : ℕ) (skip : Bool) (t out : List ℕ) (made : 
               ∙ behind (take made out) (refused_text refusal.Line) (output_of t (past_line rest)) (take r out') eo);
         }
 
-    pub turned_short : skip ≡ false → length input - at ≤ longest_line → Turned input at skip t out made (record { at = at; made = made; skip = false; more = false }) t out
+    pub turned_short : p.skip ≡ false → length input - at ≤ longest_line → Turned input p t out (step.Rest p) t out
     turned_short es hl =
         record {
           within = ha;

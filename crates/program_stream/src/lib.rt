@@ -1,8 +1,10 @@
 // From input bytes to output bytes: whole lines of a lent buffer are answered into a lent buffer.
 #![tactic(auto)]
 
-ghost use Rattle.std.specs.Prelude.{◌≡◌, List, ◌++◌, ℕ, ◌+◌, ◌-◌, ◌≤◌, length, take, drop, Some, None};
+ghost use Rattle.std.specs.Prelude.{◌≡◌, List, ◌++◌, ℕ, ◌+◌, ◌-◌, ◌≤◌, length, take, drop};
+ghost use Rattle.text_read.specs.ReaderSteps.{Classes};
 ghost use Rattle.program_lines.specs.Ends.{span_at};
+ghost use Rattle.program_lines.specs.declared.Span.TheVariants as span;
 ghost use Rattle.settings.specs.declared.refusal.Refusal.TheVariants as refusal;
 ghost use Rattle.program_answers.specs.Program.{program_bytes};
 ghost use Rattle.program_answers.specs.Answer.{answer_room, refused_text, line_reply};
@@ -10,21 +12,28 @@ ghost use Rattle.program_stream.specs.Steps.{Turned, Consumed, Finished};
 
 use program_answers::ANSWER_MAX;
 use program_commands::LINE_MAX;
-use program_lines::Lines;
+use program_lines::Span;
 use settings::Refusal;
 
-// How far a turn has come in the input and in the output, whether the input begins inside a line that has
-// been answered, and whether there may be more lines.
+// Where a run of turns stands: how far it has come in the input and in the output, and whether the input goes on inside
+// a line that has been answered.
 #[derive(Clone, Copy)]
-pub struct Turn {
+pub struct Place {
     pub at: usize,
     pub made: usize,
     pub skip: bool,
-    pub more: bool,
+}
+
+// Where a turn, or a run of them, comes to: there may be more lines, or what is left has no line feed.
+#[derive(Clone, Copy)]
+pub enum Step {
+    More(Place),
+    Rest(Place),
 }
 
 // Answers the line input[at..e] into out from `made` on.
 fn answer_part(
+    classes: &[u8; 256],
     input: &[u8],
     at: usize,
     e: usize,
@@ -33,12 +42,12 @@ fn answer_part(
     made: usize,
 ) -> usize
     requires at_le_e { (at ≤ e) × (e ≤ length input.now) }
-    requires room { (program_bytes ≤ length t.old) × (made + answer_room ≤ length out.old) }
+    requires classes { Classes classes.now × (program_bytes ≤ length t.old) × (made + answer_room ≤ length out.old) }
     ensures upper_bound { result ≤ made + answer_room }
     ensures t_after { t.new ≡ (line_reply t.old (take (e - at) (drop at input.now))).bytes }
     ensures out_after { take result out.new ≡ take made out.old ++ (line_reply t.old (take (e - at) (drop at input.now))).answer }
 {
-    made + program_answers::answer_line(&input[at..e], t, &mut out[made..])
+    made + program_answers::answer_line(classes, &input[at..e], t, &mut out[made..])
 }
 
 // Refuses a line into out from `made` on.
@@ -52,126 +61,105 @@ fn refuse_part(out: &mut [u8], made: usize) -> usize
 
 // The line that ends at e, unless it has been answered.
 fn line_turn(
+    classes: &[u8; 256],
     input: &[u8],
-    at: usize,
+    p: Place,
     e: usize,
-    skip: bool,
     t: &mut [u8],
     out: &mut [u8],
-    made: usize,
-) -> Turn
-    requires at_in_bounds { (at ≤ length input.now) × (span_at input.now at ≡ Some e) }
-    requires room { (program_bytes ≤ length t.old) × (made + answer_room ≤ length out.old) }
-    ensures { Turned input.now at skip t.old out.old made result t.new out.new }
+) -> Step
+    requires at_in_bounds { (p.at ≤ length input.now) × (span_at input.now p.at ≡ span.Line e) }
+    requires classes { Classes classes.now × (program_bytes ≤ length t.old) × (p.made + answer_room ≤ length out.old) }
+    ensures { Turned input.now p t.old out.old result t.new out.new }
 {
-    if skip {
-        return Turn {
-            at: e + 1,
-            made: made,
-            skip: false,
-            more: true,
-        };
-    }
-    let n = answer_part(input, at, e, t, out, made);
-    Turn {
+    let at = p.at;
+    let made = if p.skip {
+        p.made
+    } else {
+        answer_part(classes, input, at, e, t, out, p.made)
+    };
+    Step::More(Place {
         at: e + 1,
-        made: n,
+        made,
         skip: false,
-        more: true,
-    }
+    })
 }
 
 // What no line feed ends yet: it waits for more, unless it is too long already, or has been answered.
-fn rest_turn(input: &[u8], at: usize, skip: bool, out: &mut [u8], made: usize) -> Turn
-    requires { (at ≤ length input.now) × (span_at input.now at ≡ None) × (made + answer_room ≤ length out.old) }
-    ensures { (t : List ℕ) → Turned input.now at skip t out.old made result t out.new }
+fn rest_turn(input: &[u8], p: Place, out: &mut [u8]) -> Step
+    requires { (p.at ≤ length input.now) × (span_at input.now p.at ≡ span.Rest) × (p.made + answer_room ≤ length out.old) }
+    ensures { (t : List ℕ) → Turned input.now p t out.old result t out.new }
 {
-    if skip {
-        return Turn {
+    let at = p.at;
+    let made = p.made;
+    if p.skip {
+        return Step::Rest(Place {
             at: input.len(),
-            made: made,
-            skip: true,
-            more: false,
-        };
+            ..p
+        });
     }
     if LINE_MAX < input.len() - at {
-        let n = refuse_part(out, made);
-        return Turn {
+        return Step::Rest(Place {
             at: input.len(),
-            made: n,
+            made: refuse_part(out, made),
             skip: true,
-            more: false,
-        };
+        });
     }
-    Turn {
-        at: at,
-        made: made,
-        skip: false,
-        more: false,
+    Step::Rest(p)
+}
+
+// One line, or the start of one that is too long: `span` is what the reader found.
+fn one_turn(
+    classes: &[u8; 256],
+    input: &[u8],
+    p: Place,
+    span: Span,
+    t: &mut [u8],
+    out: &mut [u8],
+) -> Step
+    requires { (p.at ≤ length input.now) × (span ≡ span_at input.now p.at) × Classes classes.now × (program_bytes ≤ length t.old) × (p.made + answer_room ≤ length out.old) }
+    ensures { Turned input.now p t.old out.old result t.new out.new }
+{
+    match span {
+        Span::Line(e) => line_turn(classes, input, p, e, t, out),
+        Span::Rest => rest_turn(input, p, out),
     }
 }
 
-// One line, or the start of one that is too long: `end` is where the reader found the line's end.
-fn one_turn(
+// All whole lines from `at` on, until the output has no room for one more answer: then there may be more. Left free:
+// where it stops when the output is full (a line further at least, if there was room for an answer), the bytes of the
+// output behind what was made, which nobody reads, and the table's bytes: of these it is said what is due on them,
+// whatever follows.
+pub fn consume(
+    classes: &[u8; 256],
     input: &[u8],
     at: usize,
-    end: Option<usize>,
     skip: bool,
     t: &mut [u8],
     out: &mut [u8],
-    made: usize,
-) -> Turn
-    requires { (at ≤ length input.now) × (end ≡ span_at input.now at) × (program_bytes ≤ length t.old) × (made + answer_room ≤ length out.old) }
-    ensures { Turned input.now at skip t.old out.old made result t.new out.new }
-{
-    match end {
-        Some(e) => line_turn(input, at, e, skip, t, out, made),
-        None => rest_turn(input, at, skip, out, made),
-    }
-}
-
-// How far a run of turns has come, and whether it stopped because the output is full.
-#[derive(Clone, Copy)]
-pub struct Step {
-    pub at: usize,
-    pub made: usize,
-    pub skip: bool,
-    pub full: bool,
-}
-
-// All whole lines from `at` on, until the output has no room for one more answer. Left free: where it stops when the
-// output is full (a line further at least, if there was room for an answer), the bytes of the output behind what was
-// made, which nobody reads, and the table's bytes: of these it is said what is due on them, whatever follows.
-pub fn consume(input: &[u8], at: usize, skip: bool, t: &mut [u8], out: &mut [u8]) -> Step
+) -> Step
     requires at_in_bounds { at ≤ length input.now }
-    requires room { program_bytes ≤ length t.old }
+    requires classes { Classes classes.now × (program_bytes ≤ length t.old) }
     ensures { Consumed input.now at skip t.old result t.new out.new }
 {
-    let mut l = Lines::new(input, at);
-    let mut turn = Turn {
-        at: at,
-        made: 0,
-        skip: skip,
-        more: true,
-    };
-    while turn.more & (ANSWER_MAX <= out.len() - turn.made) {
-        let end = l.next_line();
-        turn = one_turn(l.src, l.at, end, turn.skip, t, out, turn.made);
-        l = l.moved(turn.at);
+    let mut l = program_lines::lines_at(input, at);
+    let mut p = Place { at, made: 0, skip };
+    while ANSWER_MAX <= out.len() - p.made {
+        let span = program_lines::next_line(l);
+        match one_turn(classes, l.src, p, span, t, out) {
+            Step::More(next) => p = next,
+            rest => return rest,
+        }
+        l = program_lines::moved(l, p.at);
     }
-    Step {
-        at: l.at,
-        made: turn.made,
-        skip: turn.skip,
-        full: turn.more,
-    }
+    Step::More(p)
 }
 
 // The end of the input: a last line that lacks its line feed. Left free: the answer to an input with a line feed, which
 // `consume` never leaves, but that it fits; and, since the run ends here, the table and the bytes of the output behind
 // the answer, but for their lengths.
-pub fn finish(input: &[u8], skip: bool, t: &mut [u8], out: &mut [u8]) -> usize
-    requires { (program_bytes ≤ length t.old) × (answer_room ≤ length out.old) }
+pub fn finish(classes: &[u8; 256], input: &[u8], skip: bool, t: &mut [u8], out: &mut [u8]) -> usize
+    requires { Classes classes.now × (program_bytes ≤ length t.old) × (answer_room ≤ length out.old) }
     ensures { Finished input.now skip t.old out.new result }
 {
     if skip {
@@ -180,7 +168,7 @@ pub fn finish(input: &[u8], skip: bool, t: &mut [u8], out: &mut [u8]) -> usize
     if input.len() == 0 {
         return 0;
     }
-    program_answers::answer_line(input, t, out)
+    program_answers::answer_line(classes, input, t, out)
 }
 
 // Moves buf[at..end] to the start of buf, and answers how many bytes that is. The bytes behind them stay.
@@ -188,12 +176,6 @@ pub fn keep(buf: &mut [u8], at: usize, end: usize) -> usize
     requires { (at ≤ end) × (end ≤ length buf.old) }
     ensures { (result ≡ end - at) × (take result buf.new ≡ take (end - at) (drop at buf.old)) × (drop result buf.new ≡ drop result buf.old) }
 {
-    let mut i = at;
-    let mut j: usize = 0;
-    while i < end {
-        buf[j] = buf[i];
-        i += 1;
-        j += 1;
-    }
-    j
+    buf.copy_within(at..end, 0);
+    end - at
 }

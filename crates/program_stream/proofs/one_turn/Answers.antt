@@ -1,6 +1,4 @@
--- Where the reader found no end, what is left waits or is refused, whatever the table is.
 use Rattle.program_stream.proofs.one_turn.Goals as goal
 
-pub returns-in-None : goal.returns-in-None
-returns-in-None c =
-    c.rest_turn.ensures c.args.t.now
+pub returns-in-Rest : goal.returns-in-Rest
+returns-in-Rest c = c.rest_turn.ensures c.args.t.now
