@@ -5,7 +5,6 @@
 mod streams;
 
 ghost use Rattle.std.specs.Prelude.{◌≡◌, true, false, ◌⊎◌, ◌≤◌, ◌<◌, length, take, is_ok};
-ghost use Rattle.text_read.specs.ReaderSteps.{Classes};
 ghost use Rattle.program_commands.specs.Command.{longest_line};
 ghost use Rattle.program_answers.specs.Program.{program_bytes};
 ghost use Rattle.program_answers.specs.Answer.{answer_room};
@@ -16,7 +15,6 @@ ghost use Rattle.filter.specs.Loop.{Placed, unanswered, Answered, ReadSome, Read
 
 use program_answers::TABLE_BYTES;
 use program_stream::{Place, Step};
-use settings::Made;
 use std::io;
 use std::io::ErrorKind;
 use streams::{Streams, fail, read_once, write_once};
@@ -84,12 +82,12 @@ struct Due {
 
 // Answers whole lines of buf[at..end] into out until that is full, or until they are all answered. Then what is left moves
 // to the start of buf: no more than a line, so that there is room for the next read.
-fn answer(classes: &[u8; 256], buf: &mut [u8], t: &mut [u8], out: &mut [u8], s: State) -> Due
-    requires { Classes classes.now × Placed s buf.old × (program_bytes ≤ length t.old) × (answer_room ≤ length out.old) }
+fn answer(buf: &mut [u8], t: &mut [u8], out: &mut [u8], s: State) -> Due
+    requires { Placed s buf.old × (program_bytes ≤ length t.old) × (answer_room ≤ length out.old) }
     ensures { Answered s buf.old t.old result buf.new t.new out.new }
 {
     let end = s.end;
-    match program_stream::consume(classes, &buf[..end], s.at, s.skip, t, out) {
+    match program_stream::consume(&buf[..end], s.at, s.skip, t, out) {
         Step::More(Place { at, made, skip }) => Due {
             made,
             next: Next::Answer(State { at, end, skip }),
@@ -140,17 +138,16 @@ fn read_more(io: &Streams, buf: &mut [u8], s: State) -> io::Result<Option<State>
 // so here too a counter shows that the loop ends.
 fn answer_input(
     io: &Streams,
-    classes: &[u8; 256],
     buf: &mut [u8],
     t: &mut [u8],
     out: &mut [u8],
 ) -> Result<State, Failure>
-    requires { Classes classes.now × (longest_line < length buf.old) × (program_bytes ≤ length t.old) × (answer_room ≤ length out.old) × (t.old ≡ new_table) }
+    requires { (longest_line < length buf.old) × (program_bytes ≤ length t.old) × (answer_room ≤ length out.old) × (t.old ≡ new_table) }
     ensures { Ends result buf.new t.new }
 {
     let mut s = START;
     for _ in 0..u64::MAX {
-        let due = answer(classes, buf, t, out, s);
+        let due = answer(buf, t, out, s);
         let made = due.made;
         write_out(io, &out[..made]).map_err(Failure::Write)?;
         s = match due.next {
@@ -167,34 +164,32 @@ fn answer_input(
 // The end of the input: the answer to a last line that lacks its line feed, written out.
 fn last_line(
     io: &Streams,
-    classes: &[u8; 256],
     buf: &[u8],
     t: &mut [u8],
     out: &mut [u8],
     s: State,
 ) -> io::Result<()>
-    requires { Classes classes.now × Placed s buf.now × Waits (unanswered s buf.now) × (program_bytes ≤ length t.old) × (answer_room ≤ length out.old) }
+    requires { Placed s buf.now × Waits (unanswered s buf.now) × (program_bytes ≤ length t.old) × (answer_room ≤ length out.old) }
     ensures { Wrote (due t.old s.skip (unanswered s buf.now)) (is_ok result) }
 {
     let at = s.at;
     let end = s.end;
-    let n = program_stream::finish(classes, &buf[at..end], s.skip, t, out);
+    let n = program_stream::finish(&buf[at..end], s.skip, t, out);
     write_out(io, &out[..n])
 }
 
 // The whole run.
 fn run(
     io: &Streams,
-    classes: &[u8; 256],
     buf: &mut [u8],
     t: &mut [u8],
     out: &mut [u8],
 ) -> Result<(), Failure>
-    requires { Classes classes.now × (longest_line < length buf.old) × (program_bytes ≤ length t.old) × (answer_room ≤ length out.old) × (t.old ≡ new_table) }
+    requires { (longest_line < length buf.old) × (program_bytes ≤ length t.old) × (answer_room ≤ length out.old) × (t.old ≡ new_table) }
     ensures { Ran (is_ok result) }
 {
-    let s = answer_input(io, classes, buf, t, out)?;
-    last_line(io, classes, buf, t, out, s).map_err(Failure::Write)
+    let s = answer_input(io, buf, t, out)?;
+    last_line(io, buf, t, out, s).map_err(Failure::Write)
 }
 
 // The message of a run that has failed.
@@ -209,23 +204,22 @@ fn report(io: &Streams, failure: Failure) {
 // The bytes of each of the two buffers.
 const BUFFER_BYTES: usize = 65536;
 
-// All memory of the run: the class table, the table, for which the settings ask TABLE_BYTES, and the buffers.
+// All memory of the run: the table, for which the settings ask TABLE_BYTES, and the buffers.
 fn main(rt: HostRuntime) {
     let io = Streams {
         input: rt.stdin(),
         output: rt.stdout(),
         errors: rt.stderr(),
     };
-    let Made::Settings(s) = program_answers::settings() else {
+    let Ok(s) = program_answers::settings() else {
         fail(&io, "settings", io::Error::from(ErrorKind::InvalidInput));
         return;
     };
-    let classes = text_read::classes();
     let mut buf = [0u8; BUFFER_BYTES];
     let mut t = [0u8; TABLE_BYTES];
     let mut out = [0u8; BUFFER_BYTES];
-    table_make::make(s, &mut t);
-    if let Err(failure) = run(&io, &classes, &mut buf, &mut t, &mut out) {
+    let _made = table_make::make(s, &mut t);
+    if let Err(failure) = run(&io, &mut buf, &mut t, &mut out) {
         report(&io, failure);
     }
 }

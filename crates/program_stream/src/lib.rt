@@ -1,10 +1,8 @@
 // From input bytes to output bytes: whole lines of a lent buffer are answered into a lent buffer.
 #![tactic(auto)]
 
-ghost use Rattle.std.specs.Prelude.{◌≡◌, List, ◌++◌, ℕ, ◌+◌, ◌-◌, ◌≤◌, length, take, drop};
-ghost use Rattle.text_read.specs.ReaderSteps.{Classes};
+ghost use Rattle.std.specs.Prelude.{◌≡◌, List, ◌++◌, ℕ, ◌+◌, ◌-◌, ◌≤◌, length, take, drop, Some, None};
 ghost use Rattle.program_lines.specs.Ends.{span_at};
-ghost use Rattle.program_lines.specs.declared.Span.TheVariants as span;
 ghost use Rattle.settings.specs.declared.refusal.Refusal.TheVariants as refusal;
 ghost use Rattle.program_answers.specs.Program.{program_bytes};
 ghost use Rattle.program_answers.specs.Answer.{answer_room, refused_text, line_reply};
@@ -12,7 +10,7 @@ ghost use Rattle.program_stream.specs.Steps.{Turned, Consumed, Finished};
 
 use program_answers::ANSWER_MAX;
 use program_commands::LINE_MAX;
-use program_lines::Span;
+use program_lines::Lines;
 use settings::Refusal;
 
 // Where a run of turns stands: how far it has come in the input and in the output, and whether the input goes on inside
@@ -33,7 +31,6 @@ pub enum Step {
 
 // Answers the line input[at..e] into out from `made` on.
 fn answer_part(
-    classes: &[u8; 256],
     input: &[u8],
     at: usize,
     e: usize,
@@ -42,12 +39,12 @@ fn answer_part(
     made: usize,
 ) -> usize
     requires at_le_e { (at ≤ e) × (e ≤ length input.now) }
-    requires classes { Classes classes.now × (program_bytes ≤ length t.old) × (made + answer_room ≤ length out.old) }
+    requires room { (program_bytes ≤ length t.old) × (made + answer_room ≤ length out.old) }
     ensures upper_bound { result ≤ made + answer_room }
     ensures t_after { t.new ≡ (line_reply t.old (take (e - at) (drop at input.now))).bytes }
     ensures out_after { take result out.new ≡ take made out.old ++ (line_reply t.old (take (e - at) (drop at input.now))).answer }
 {
-    made + program_answers::answer_line(classes, &input[at..e], t, &mut out[made..])
+    made + program_answers::answer_line(&input[at..e], t, &mut out[made..])
 }
 
 // Refuses a line into out from `made` on.
@@ -61,22 +58,21 @@ fn refuse_part(out: &mut [u8], made: usize) -> usize
 
 // The line that ends at e, unless it has been answered.
 fn line_turn(
-    classes: &[u8; 256],
     input: &[u8],
     p: Place,
     e: usize,
     t: &mut [u8],
     out: &mut [u8],
 ) -> Step
-    requires at_in_bounds { (p.at ≤ length input.now) × (span_at input.now p.at ≡ span.Line e) }
-    requires classes { Classes classes.now × (program_bytes ≤ length t.old) × (p.made + answer_room ≤ length out.old) }
+    requires at_in_bounds { (p.at ≤ length input.now) × (span_at input.now p.at ≡ Some e) }
+    requires room { (program_bytes ≤ length t.old) × (p.made + answer_room ≤ length out.old) }
     ensures { Turned input.now p t.old out.old result t.new out.new }
 {
     let at = p.at;
     let made = if p.skip {
         p.made
     } else {
-        answer_part(classes, input, at, e, t, out, p.made)
+        answer_part(input, at, e, t, out, p.made)
     };
     Step::More(Place {
         at: e + 1,
@@ -87,7 +83,7 @@ fn line_turn(
 
 // What no line feed ends yet: it waits for more, unless it is too long already, or has been answered.
 fn rest_turn(input: &[u8], p: Place, out: &mut [u8]) -> Step
-    requires { (p.at ≤ length input.now) × (span_at input.now p.at ≡ span.Rest) × (p.made + answer_room ≤ length out.old) }
+    requires { (p.at ≤ length input.now) × (span_at input.now p.at ≡ None) × (p.made + answer_room ≤ length out.old) }
     ensures { (t : List ℕ) → Turned input.now p t out.old result t out.new }
 {
     let at = p.at;
@@ -108,21 +104,20 @@ fn rest_turn(input: &[u8], p: Place, out: &mut [u8]) -> Step
     Step::Rest(p)
 }
 
-// One line, or the start of one that is too long: `span` is what the reader found.
+// One line, or the start of one that is too long: `end` is where the reader found the line's end.
 fn one_turn(
-    classes: &[u8; 256],
     input: &[u8],
     p: Place,
-    span: Span,
+    end: Option<usize>,
     t: &mut [u8],
     out: &mut [u8],
 ) -> Step
-    requires { (p.at ≤ length input.now) × (span ≡ span_at input.now p.at) × Classes classes.now × (program_bytes ≤ length t.old) × (p.made + answer_room ≤ length out.old) }
+    requires { (p.at ≤ length input.now) × (end ≡ span_at input.now p.at) × (program_bytes ≤ length t.old) × (p.made + answer_room ≤ length out.old) }
     ensures { Turned input.now p t.old out.old result t.new out.new }
 {
-    match span {
-        Span::Line(e) => line_turn(classes, input, p, e, t, out),
-        Span::Rest => rest_turn(input, p, out),
+    match end {
+        Some(e) => line_turn(input, p, e, t, out),
+        None => rest_turn(input, p, out),
     }
 }
 
@@ -131,7 +126,6 @@ fn one_turn(
 // output behind what was made, which nobody reads, and the table's bytes: of these it is said what is due on them,
 // whatever follows.
 pub fn consume(
-    classes: &[u8; 256],
     input: &[u8],
     at: usize,
     skip: bool,
@@ -139,18 +133,18 @@ pub fn consume(
     out: &mut [u8],
 ) -> Step
     requires at_in_bounds { at ≤ length input.now }
-    requires classes { Classes classes.now × (program_bytes ≤ length t.old) }
+    requires room { program_bytes ≤ length t.old }
     ensures { Consumed input.now at skip t.old result t.new out.new }
 {
-    let mut l = program_lines::lines_at(input, at);
+    let mut l = Lines::new(input, at);
     let mut p = Place { at, made: 0, skip };
     while ANSWER_MAX <= out.len() - p.made {
-        let span = program_lines::next_line(l);
-        match one_turn(classes, l.src, p, span, t, out) {
+        let end = l.next_line();
+        match one_turn(l.src, p, end, t, out) {
             Step::More(next) => p = next,
             rest => return rest,
         }
-        l = program_lines::moved(l, p.at);
+        l = l.moved(p.at);
     }
     Step::More(p)
 }
@@ -158,8 +152,8 @@ pub fn consume(
 // The end of the input: a last line that lacks its line feed. Left free: the answer to an input with a line feed, which
 // `consume` never leaves, but that it fits; and, since the run ends here, the table and the bytes of the output behind
 // the answer, but for their lengths.
-pub fn finish(classes: &[u8; 256], input: &[u8], skip: bool, t: &mut [u8], out: &mut [u8]) -> usize
-    requires { Classes classes.now × (program_bytes ≤ length t.old) × (answer_room ≤ length out.old) }
+pub fn finish(input: &[u8], skip: bool, t: &mut [u8], out: &mut [u8]) -> usize
+    requires { (program_bytes ≤ length t.old) × (answer_room ≤ length out.old) }
     ensures { Finished input.now skip t.old out.new result }
 {
     if skip {
@@ -168,7 +162,7 @@ pub fn finish(classes: &[u8; 256], input: &[u8], skip: bool, t: &mut [u8], out: 
     if input.len() == 0 {
         return 0;
     }
-    program_answers::answer_line(classes, input, t, out)
+    program_answers::answer_line(input, t, out)
 }
 
 // Moves buf[at..end] to the start of buf, and answers how many bytes that is. The bytes behind them stay.

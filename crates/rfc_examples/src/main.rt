@@ -7,8 +7,6 @@ ghost use Rattle.std.specs.Prelude.{◌≤◌, length};
 use settings::Refusal;
 use std::io::{ErrorKind, Read, Write};
 use std::rt::{Stdin, Stdout};
-use text_read::Parsed;
-use text_write::Written;
 
 // What is read of the input at most.
 const MOST_BYTES: usize = 65536;
@@ -20,12 +18,12 @@ fn refuse(out: &mut Stdout, why: Refusal) {
 
 fn answer(out: &mut Stdout, line: &[u8]) {
     match text_read::read(line) {
-        Parsed::Refused(why) => refuse(out, why),
-        Parsed::Key(key) => {
+        Err(why) => refuse(out, why),
+        Ok(key) => {
             let mut text = [0u8; 39];
             match text_write::write(key, &mut text) {
-                Written::Refused(why) => refuse(out, why),
-                Written::Length(n) => {
+                Err(why) => refuse(out, why),
+                Ok(n) => {
                     let _written = out.write_all(&text[..n]);
                 }
             }

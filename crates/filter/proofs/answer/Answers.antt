@@ -8,7 +8,7 @@ use Rattle.filter.proofs.answer.Goals as goal
 pub returns-in-More : goal.returns-in-More
 returns-in-More c =
     let a = c.args in
-    let p = c.requires.1 in
+    let p = c.requires.0 in
     let e = c.in-More.ensures in
     record {
       says = answers_of a.buf.now a.t.now a.s.at a.s.end a.s.skip _ _ _ p.order p.within e;
@@ -21,7 +21,7 @@ returns-in-More c =
 pub returns-in-Rest : goal.returns-in-Rest
 returns-in-Rest c =
     let a = c.args in
-    let p = c.requires.1 in
+    let p = c.requires.0 in
     let e = c.in-Rest.ensures in
     let m = c.keep.ensures in
     record {

@@ -44,7 +44,7 @@ loop-init c =
       out = [];
       given = given_none;
       taken = taken_none;
-      sofar = starts c.requires.4;
+      sofar = starts c.requires.3;
       placed = record { order = omega arith; within = omega arith };
     }
 

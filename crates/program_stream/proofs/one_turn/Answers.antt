@@ -1,4 +1,4 @@
 use Rattle.program_stream.proofs.one_turn.Goals as goal
 
-pub returns-in-Rest : goal.returns-in-Rest
-returns-in-Rest c = c.rest_turn.ensures c.args.t.now
+pub returns-in-None : goal.returns-in-None
+returns-in-None c = c.rest_turn.ensures c.args.t.now
