@@ -1,14 +1,8 @@
 -- The first byte that is no digit ends the group; four digits are the most.
-use Prim.Native.Nat.{◌≤◌}
 use mathlib.Core.Path.{◌∙◌, sym}
 use native.Mathlib.Omega.{arith}
-use Rattle.text_read.proofs.Fields.{digits_below, digit_above, five_most, group_none, group_short, group_four}
+use Rattle.text_read.proofs.Fields.{digits_below, digit_above, group_none, group_short, group_four}
 use Rattle.text_read.proofs.reader.group_of.Goals as goal
-use Rattle.text_read.proofs.reader.group_of.Goals.{Else-a-gt15}
-
-most : (c : Else-a-gt15) → (c.args.b ≤ 18) × (c.args.c ≤ 18)
-most c =
-    five_most c.args.text.now c.args.at c.args.a c.args.b c.args.c c.args.d c.args.e c.requires.0
 
 pub returns-then-a-b-lt16 : goal.returns-then-a-b-lt16
 returns-then-a-b-lt16 c =
