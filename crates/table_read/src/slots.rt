@@ -208,8 +208,7 @@ pub fn scan_displaced(
     SlotNumber(1 + j.0)
 }
 
-// The key of n bits from bit `at` on, as they stand. It is always built in: its callers go through many slots, and a call
-// hands a key back through memory.
+// The key of n bits from bit `at` on, as they stand. It is always built in, since a call hands a key back through memory.
 #[inline(always)]
 pub fn key_at(t: &[u8], at: usize, n: usize) -> Key
     requires { (at + n ≤ 8 * length t.now) × (at + n ≤ most_bits) × (n ≤ 128) }

@@ -41,7 +41,8 @@ fn below(low: u64, val: usize, label: u32) -> u64
 }
 
 // A slot at bit `at`: its entry, of bie bits, and its label, of val bits. A slot of up to 128 bits is one store. It takes
-// plain numbers: a `Slot` would have to lie in memory, whole, since this is called from several places and stays a function.
+// plain numbers: a `Slot` would have to lie in memory, whole, since this is called from several places and stays a function; so
+// would a struct of bie and val, which are no layout's where a label is stored alone.
 pub fn put_slot(t: &mut [u8], at: usize, bie: usize, val: usize, high: u64, low: u64, label: u32)
     requires { (at + (bie + val) ≤ 8 * length t.old) × (at + (bie + val) ≤ most_bits) × (bie ≤ 128) × (val ≤ 32) × (high * 2 ^ 64 + low < 2 ^ bie) × (label < 2 ^ val) }
     ensures { t.new ≡ put_field t.old at (bie + val) ((high * 2 ^ 64 + low) * 2 ^ val + label) }

@@ -6,7 +6,7 @@ ghost use Rattle.bits.specs.Within.{Within};
 
 use bits::{pow, zero_bytes};
 
-// b with its last 8 - k bits zero.
+// b with its last 8 - k bits zero. It and `last_bits` are no twins: one keeps a quotient, the other a remainder.
 fn first_bits(b: u8, k: usize) -> u8
     requires { k ≤ 8 }
     ensures { result ≡ replaced b 0 (8 - k) 0 }
