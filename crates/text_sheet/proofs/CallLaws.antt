@@ -142,15 +142,15 @@ module _ (s : Settings) (t : List ℕ) (k : ℕ) (out : List ℕ) where
   unfolding page_call refuse later
   refused_settings h = gives (due_settings refuse s (length t) later (page_put s t k out) h)
 
-  module _ (g : Layout) (h : legal s ≡ true) (e : layout_of s ≡ g) where
+  module _ (g : Layout) (is : (legal s ≡ true) × (layout_of s ≡ g)) where
     pub refused_short : length t < g.bytes → Gives (page_call s t k out) (Err refusal.Short) out
     unfolding page_call refuse later
-    refused_short l = gives (due_short refuse s (length t) later (page_put s t k out) g h e l)
+    refused_short l = gives (due_short refuse s (length t) later (page_put s t k out) g is.0 is.1 l)
 
     module _ (l : g.bytes ≤ length t) where
       opened : page_call s t k out ≡ unless_due later refuse (page_put s t k out)
       unfolding page_call refuse later
-      opened = due_later refuse s (length t) later (page_put s t k out) g h e l
+      opened = due_later refuse s (length t) later (page_put s t k out) g is.0 is.1 l
 
       pub refused_width : (s.w ≡ 128 → ⊥) → Gives (page_call s t k out) (Err refusal.Width) out
       unfolding refuse later

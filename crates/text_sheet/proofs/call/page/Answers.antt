@@ -18,31 +18,32 @@ laid c = laid_layout c.args.s c.in_ok-g.g (sym c.layout.ensures ∙ c.in_ok-g.wa
 pub returns-then-t-g : goal.returns-then-t-g
 returns-then-t-g c =
     let a = c.args in
-    refused_short a.s a.t.now a.page a.out.now c.in_ok-g.g (laid (goal.at.returns-then-t-g c).In_ok-g).0 (laid (goal.at.returns-then-t-g c).In_ok-g).1 c.if-t-g.true
+    refused_short a.s a.t.now a.page a.out.now c.in_ok-g.g (laid (goal.at.returns-then-t-g c).In_ok-g) c.if-t-g.true
 
 pub returns-then-s-ne128 : goal.returns-then-s-ne128
 returns-then-s-ne128 c =
     let a = c.args in
-    refused_width a.s a.t.now a.page a.out.now c.in_ok-g.g (laid (goal.at.returns-then-s-ne128 c).In_ok-g).0 (laid (goal.at.returns-then-s-ne128 c).In_ok-g).1 c.if-t-g.false c.if-s-ne128.true
+    refused_width a.s a.t.now a.page a.out.now c.in_ok-g.g (laid (goal.at.returns-then-s-ne128 c).In_ok-g) c.if-t-g.false c.if-s-ne128.true
 
 pub returns-then-out-lt-PAGE_BYTES : goal.returns-then-out-lt-PAGE_BYTES
 returns-then-out-lt-PAGE_BYTES c =
     let a = c.args in
-    refused_output a.s a.t.now a.page a.out.now c.in_ok-g.g (laid (goal.at.returns-then-out-lt-PAGE_BYTES c).In_ok-g).0 (laid (goal.at.returns-then-out-lt-PAGE_BYTES c).In_ok-g).1 c.if-t-g.false c.if-s-ne128.false (omega (arith, c.if-out-lt-PAGE_BYTES.true))
+    refused_output a.s a.t.now a.page a.out.now c.in_ok-g.g (laid (goal.at.returns-then-out-lt-PAGE_BYTES c).In_ok-g) c.if-t-g.false c.if-s-ne128.false (omega (arith, c.if-out-lt-PAGE_BYTES.true))
 
 pub surveyed-requires : goal.surveyed-requires
 surveyed-requires c =
-    let a = c.args in (
-      legal_means a.s (laid (goal.at.surveyed-requires c).In_ok-g).0,
-      (laid (goal.at.surveyed-requires c).In_ok-g).1,
-      opened_table a.s c.in_ok-g.g (laid (goal.at.surveyed-requires c).In_ok-g).0 (laid (goal.at.surveyed-requires c).In_ok-g).1 a.t.now c.if-t-g.false,
+    let a = c.args in
+    let is = laid (goal.at.surveyed-requires c).In_ok-g in (
+      legal_means a.s is.0,
+      is.1,
+      opened_table a.s c.in_ok-g.g is.0 is.1 a.t.now c.if-t-g.false,
       omega (arith, c.if-out-lt-PAGE_BYTES.false),
     )
 
 pub returns : goal.returns
 returns c =
     let a = c.args in
-    rw (goes_on a.s a.t.now a.page a.out.now c.in_ok-g.g (laid (goal.at.returns c).In_ok-g).0 (laid (goal.at.returns c).In_ok-g).1 c.if-t-g.false c.if-s-ne128.false (omega (arith, c.if-out-lt-PAGE_BYTES.false)))
+    rw (goes_on a.s a.t.now a.page a.out.now c.in_ok-g.g (laid (goal.at.returns c).In_ok-g) c.if-t-g.false c.if-s-ne128.false (omega (arith, c.if-out-lt-PAGE_BYTES.false)))
     c.surveyed.ensures
 
 pub returns-in_err-g : goal.returns-in_err-g
