@@ -10,7 +10,7 @@ use lib.Dec.{lit≤}
 use Rattle.settings.specs.declared.refusal.Refusal.TheVariants as refusal
 use Rattle.program_lines.specs.Ends.{line_feed, before, first_from, span_at}
 use Rattle.program_lines.specs.theory.Ends.{span_line, span_rest, first_after}
-use Rattle.program_lines.specs.declared.Span.TheVariants.{Line, Rest}
+use Rattle.std.specs.Prelude.{Some, None}
 use Rattle.program_commands.specs.Command.{longest_line}
 use Rattle.program_answers.specs.Answer.{answer_room, refused_text, line_reply}
 use Rattle.program_stream.specs.Output.{output_of}
@@ -52,7 +52,7 @@ module _ (input : List ℕ) (p : Place) (t out : List ℕ) (ha : p.at ≤ length
   abbrev made : ℕ
   made = p.made
 
-  module _ (e : ℕ) (he : span_at input at ≡ Line e) where
+  module _ (e : ℕ) (he : span_at input at ≡ Some e) where
     pub turned_line : (t' out' : List ℕ) (r : ℕ) → p.skip ≡ false → r ≤ made + answer_room
         → t' ≡ (line_reply t (take (e - at) (drop at input))).bytes
         → take r out' ≡ take made out ++ (line_reply t (take (e - at) (drop at input))).answer
@@ -81,7 +81,7 @@ module _ (input : List ℕ) (p : Place) (t out : List ℕ) (ha : p.at ≤ length
           says = λ rest. rw es (ap (λ (x : List ℕ). take made out ++ output_of t x) (past_at t input at e rest s.0 (omega arith)));
         }
 
-  module _ (he : span_at input at ≡ Rest) where
+  module _ (he : span_at input at ≡ None) where
     all_in : length (drop at input) ≤ before line_feed (drop at input)
     unfolding first_from
     all_in = omega (arith, span_rest input at he, length-drop at input)

@@ -1,5 +1,5 @@
 -- The RFCs' examples of address texts, texts that are not legal, and texts that go on behind an address, by computation.
-use Rattle.std.specs.Prelude.{◌≡◌, refl, List, [], ◌∷◌, map, ℕ, Err}
+use Rattle.std.specs.Prelude.{◌≡◌, refl, List, [], ◌∷◌, map, ℕ, Err, Ok}
 use Rattle.std.proofs.Math.Option.{Option, none, some}
 use Prim.Native.String.{String}
 use Rattle.text_read.specs.Reading.{groups_of}
@@ -11,6 +11,7 @@ use Rattle.text_write.specs.Ascii.{ascii}
 use Rattle.text_calls.specs.theory.Computing.{again, computing}
 use Rattle.std.specs.declared.result.Result.{Result}
 use Rattle.settings.specs.declared.refusal.Refusal.{Refusal}
+use Rattle.text_run.specs.declared.Taken.{Taken}
 
 -- texts and the groups that they spell: RFC 4291, section 2.2
 abbrev pub spellings : List (String × List ℕ)
