@@ -32,27 +32,10 @@ fn answer(out: &mut Stdout, line: &[u8]) {
     let _written = out.write_all(b"\n");
 }
 
-// Where the line from `from` on ends: its line feed, or the end of the text.
-fn line_end(text: &[u8], from: usize) -> usize
-    requires { from ≤ length text.now }
-    ensures { (from ≤ result) × (result ≤ length text.now) }
-{
-    let mut at = from;
-    while at < text.len() {
-        if text[at] == b'\n' {
-            return at;
-        }
-        at += 1;
-    }
-    at
-}
-
+// Each line, without its line feed, which the last may lack.
 fn answer_all(out: &mut Stdout, text: &[u8]) {
-    let mut from: usize = 0;
-    while from < text.len() {
-        let end = line_end(text, from);
-        answer(out, &text[from..end]);
-        from = end + 1;
+    for line in text.split_inclusive(|b| *b == b'\n') {
+        answer(out, line.strip_suffix(b"\n").unwrap_or(line));
     }
 }
 
@@ -67,12 +50,8 @@ fn read_all(input: &mut Stdin, buffer: &mut [u8]) -> usize
             return n;
         }
         match input.read(&mut buffer[n..]) {
-            Ok(k) => {
-                if k == 0 {
-                    return n;
-                }
-                n += k;
-            }
+            Ok(0) => return n,
+            Ok(k) => n += k,
             Err(e) => {
                 if e.kind() != ErrorKind::Interrupted {
                     return n;
