@@ -1,12 +1,11 @@
 -- Texts in which no space can stand.
-use Rattle.std.specs.Prelude.{◌≡◌, refl, true, List, [], ◌∷◌, ℕ}
+use Rattle.std.specs.Prelude.{◌≡◌, refl, true, List, [], ◌∷◌, ℕ, Ok}
 use Rattle.std.proofs.Common.{◌∙◌, arith, ne_eqb}
 use Rattle.std.proofs.lemmas.Bool.{eqb-false}
 use Rattle.keys.specs.declared.Key.{Key}
 use Rattle.text_read.specs.Class.{class_of, other}
 use Rattle.text_read.specs.Numerals.{digits}
 use Rattle.text_read.specs.Answers.{reading_of}
-use Rattle.text_read.specs.declared.Parsed.TheVariants as parsed
 use Rattle.text_read.specs.theory.Numerals.{digits_first}
 use Rattle.text_read.specs.theory.Splits.{Without}
 use Rattle.text_read.proofs.Spaces.{read_classes}
@@ -35,5 +34,5 @@ pub digits_spaceless : (x : List ℕ) → digits 10 x ≡ true → spaceless x �
 digits_spaceless x e = known_spaceless x (digits_known x e)
 
 -- a legal address
-pub read_spaceless : (x : List ℕ) (k : Key) → reading_of x ≡ parsed.Key k → spaceless x ≡ true
+pub read_spaceless : (x : List ℕ) (k : Key) → reading_of x ≡ Ok k → spaceless x ≡ true
 read_spaceless x k e = known_spaceless x (read_classes x k e)

@@ -1,12 +1,11 @@
 -- Clause 10.3: every "+" or "=" line with a legal address can have its label spelled out, and without one it is the line with 1.
-use Rattle.std.specs.Prelude.{◌≡◌, refl, true, List, [], ◌∷◌, ◌++◌, ℕ}
+use Rattle.std.specs.Prelude.{◌≡◌, refl, true, List, [], ◌∷◌, ◌++◌, ℕ, Ok}
 use Rattle.std.proofs.Common.{sym, ◌∙◌, arith, length-append}
 use Rattle.std.proofs.Math.Option.{some}
 use Rattle.keys.specs.declared.Key.{Key}
 use Rattle.text_read.specs.Numerals.{digits, number, no_leading_zero}
 use Rattle.text_read.specs.Class.{class_of}
 use Rattle.text_read.specs.Answers.{reading_of}
-use Rattle.text_read.specs.declared.Parsed.TheVariants as parsed
 use Rattle.text_read.proofs.Lengths.{read_length}
 use Rattle.program_commands.specs.Fields.{space}
 use Rattle.program_commands.specs.Command.{mk_command, op_of, label_of, takes_label, command_of}
@@ -16,7 +15,7 @@ use Rattle.program_commands.specs.theory.Asked.{fielded, asked_alone, asked_labe
 use Rattle.program_commands.specs.theory.Spaces.{read_spaceless}
 
 -- o is the op of the byte c, and takes a label; x is a legal address
-module _ (c : ℕ) (o : Op) (stands : op_of c ≡ some o) (takes : takes_label o ≡ true) (x : List ℕ) (k : Key) (legal : reading_of x ≡ parsed.Key k) where
+module _ (c : ℕ) (o : Op) (stands : op_of c ≡ some o) (takes : takes_label o ≡ true) (x : List ℕ) (k : Key) (legal : reading_of x ≡ Ok k) where
   -- the line with a space and any label behind it
   pub spelled_out : (y : List ℕ) (v : ℕ) → label_of y ≡ some v → command_of (c ∷ space ∷ x ++ space ∷ y) ≡ some (mk_command o x v)
   spelled_out y v e =
