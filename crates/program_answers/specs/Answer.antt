@@ -1,5 +1,5 @@
 -- Clause 10.5: the line that answers a line.
-use Rattle.std.specs.Prelude.{ℕ, List, [], ◌∷◌, ◌++◌, Err}
+use Rattle.std.specs.Prelude.{ℕ, List, [], ◌∷◌, ◌++◌, Ok, Err}
 use Rattle.std.proofs.Math.Option.{Option, none, some}
 use Rattle.settings.specs.Refusal.{number_of}
 use Rattle.settings.specs.declared.refusal.Refusal.{Refusal}

@@ -4,14 +4,14 @@ use Rattle.program_answers.specs.Answer.{answer_text}
 use Rattle.program_answers.proofs.Puts.{answered_given}
 use Rattle.program_answers.proofs.answer.answer_key.Goals as goal
 
-pub returns-in-Said : goal.returns-in-Said
+pub returns-in-Ok : goal.returns-in-Ok
 unfolding answer_text
-returns-in-Said c =
+returns-in-Ok c =
     let k = c.args.key in
-    answered_given k c.apply.ensures (ap (answer_text k) c.in-Said.is) c.say.ensures
+    answered_given k c.apply.ensures (ap (answer_text k) c.in-Ok.is) c.say.ensures
 
-pub returns-in-Refused : goal.returns-in-Refused
+pub returns-in-Err : goal.returns-in-Err
 unfolding answer_text
-returns-in-Refused c =
+returns-in-Err c =
     let k = c.args.key in
-    answered_given k c.apply.ensures (ap (answer_text k) c.in-Refused.is) c.refuse.ensures.0
+    answered_given k c.apply.ensures (ap (answer_text k) c.in-Err.is) c.refuse.ensures.0

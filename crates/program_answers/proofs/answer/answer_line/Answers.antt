@@ -15,7 +15,7 @@ returns-in_default c =
 pub returns-in-Ok : goal.returns-in-Ok
 returns-in-Ok c =
     let e = sym c.read.ensures ∙ c.in-Ok.is in
-    answered_as (line_key c.args.t.now c.args.line.now c.in-Some.q (asks_request c.args.line.now c.in-Some.q c.parse.ensures c.in-Some.is).is (omega (arith, (goal.at.returns-in-Ok c).Start)) c.in-Ok.field-0 e (read_spaceless _ _ e)) c.answer_key.ensures
+    answered_as (line_key c.args.t.now c.args.line.now c.in-Some.q (asks_request c.args.line.now c.in-Some.q c.parse.ensures c.in-Some.is).is (omega (arith, (goal.at.returns-in-Ok c).Start)) c.in-Ok.key e (read_spaceless _ _ e)) c.answer_key.ensures
 
 pub returns-in-Err : goal.returns-in-Err
 returns-in-Err c =

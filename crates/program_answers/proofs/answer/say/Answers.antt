@@ -10,11 +10,11 @@ use Rattle.program_answers.proofs.answer.say.Goals as goal
 
 pub put_numbers-requires : goal.put_numbers-requires
 put_numbers-requires c =
-    omega (arith, c.put_text-n.ensures.within, c.put_word-m.ensures.end, word_short c.args.word)
+    omega (arith, c.put_text-n.ensures.within, c.put_word-m.ensures.end, word_short c.args.said.word)
 
 pub returns : goal.returns
 unfolding said_text
 returns c =
     let a = c.args in
-    wrote_then (c.put_word-m.ensures.is ∙ ap (λ (l : List ℕ). l ++ word_text a.word) c.put_text-n.ensures.is) c.put_numbers.ensures
-    (omega (arith, c.put_text-n.ensures.within, c.put_word-m.ensures.end, c.put_numbers.ensures.end, word_short a.word, numbers_short a.label a.compared (omega arith) (omega arith)))
+    wrote_then (c.put_word-m.ensures.is ∙ ap (λ (l : List ℕ). l ++ word_text a.said.word) c.put_text-n.ensures.is) c.put_numbers.ensures
+    (omega (arith, c.put_text-n.ensures.within, c.put_word-m.ensures.end, c.put_numbers.ensures.end, word_short a.said.word, numbers_short a.said.label a.said.compared (omega arith) (omega arith)))
