@@ -70,9 +70,6 @@ module _ (g : Layout) (t : List ℕ) (T : Table g t) where
     pub length_high : (n b m : ℕ) → g.nob ≤ b → broken ≡ plus m (length_from n b)
     length_high n b m h = rw (follow_high g os n b h)
 
-    pub length_out : (n b m : ℕ) → n ≡ 0 → broken ≡ plus m (length_from n b)
-    length_out n b m h = rw h
-
     pub length_bad : (n b m : ℕ) → g.sio < (overflow_at os b).counter → broken ≡ plus m (length_from n b)
     length_bad n b m h = rw (follow_bad g os n b h)
 

@@ -20,10 +20,10 @@ use Rattle.table.specs.Decode.{decode}
 use Rattle.table.specs.Follow.{content}
 use Rattle.table.specs.declared.step.Step.{Step}
 use Rattle.table.specs.declared.step.Step.TheVariants as step
-use Rattle.table_read.specs.Steps.{slots_in, Followed, gather_from}
+use Rattle.table_read.specs.Steps.{slots_in, gather_from}
 use Rattle.table_read.specs.theory.Reads.{slots_length, entry_bound}
 use Rattle.plain_set.specs.Rebuilt.{Pair, pair, slots_of, pairs_of}
-use Rattle.table_cursor.specs.Ahead.{gather_behind, Leads, slots_ahead, pairs_from, ahead, Good, Gives, Ends}
+use Rattle.table_cursor.specs.Ahead.{gather_behind, slots_ahead, pairs_from, ahead, Good, Gives, Ends}
 use Rattle.table_cursor.specs.Steps.{Begins, pairs_behind, Reaches}
 use Rattle.table_cursor.specs.theory.Pairs.{pairs_on_lem, pairs_end}
 use Rattle.table_cursor.specs.declared.places.Cursor.{Cursor}
@@ -35,10 +35,6 @@ pub none_behind : (g : Layout) (os : List Overflow) (n : Step) → ((b : BlockNu
 none_behind g os (step.Further b) p = absurd (p b refl)
 none_behind g os step.Last p = refl
 none_behind g os step.Damage p = refl
-
--- a step further has the end that was promised of it
-pub leads_further : (g : Layout) (os : List Overflow) (n : Step) (b : BlockNumber) → n ≡ step.Further b → Leads g os n → Followed g g.nob os b.0
-leads_further g os n b e l = rw e at l
 
 module _ (g : Layout) (t : List ℕ) where
   module _ (s : Settings) (laid : layout_of s ≡ g) where

@@ -3,7 +3,6 @@ use mathlib.Core.Path.{◌≡◌, refl, sym, ap, ◌∙◌}
 use mathlib.Core.List.{List, [], ◌∷◌, ◌++◌}
 use Prim.Native.Nat.{ℕ, zero, suc, ◌+◌, ◌-◌, ◌≤◌, ◌<◌}
 use native.Mathlib.Omega.{arith}
-use native.Mathlib.Decide.{dec_le}
 use lib.ListN.{length, drop, length-append}
 use lib.Seq.{drop-append-le, drop-append-add}
 use Rattle.settings.specs.declared.settings.Settings.{Settings}
@@ -52,14 +51,6 @@ module _ (g : Layout) (t : List ℕ) (i : ListNumber) (n : ℕ) where
         ap length run_first
         ∙ length-append (slots_in g t c.run) (gather_behind g (decode g t).overflow c.behind)
         ∙ ap (◌+ length (gather_behind g (decode g t).overflow c.behind)) (slots_length g t c.run)
-
-    -- a run is not empty where there are slots to pass
-    pub run_some : c.run.count < m → 0 < c.run.count
-    run_some h = pick (dec_le c.run.count 0)
-      where
-        pick : Dec (c.run.count ≤ 0) → 0 < c.run.count
-        pick (yes p) = absurd (let e : length T.slots ≡ 0 = ap length (T.begins.empty (omega arith)) in omega (arith, T.within))
-        pick (no p) = omega arith
 
     -- behind the last run there are none to pass
     pub run_last : gather_behind g (decode g t).overflow c.behind ≡ [] → m ≤ c.run.count

@@ -1,5 +1,5 @@
 -- Laws of retrieving: the number of a slot, a slot of a list's basic block, and a slot of an overflow block whose list was followed.
-use mathlib.Core.Path.{◌≡◌, refl, sym, ap, ap₂, subst, ◌∙◌}
+use mathlib.Core.Path.{◌≡◌, refl, sym, ap, ap₂, ◌∙◌}
 use mathlib.Core.Bool.{Bool, true, false, not}
 use mathlib.Core.List.{List, [], ◌∷◌}
 use mathlib.Core.Option.{Option, none, some}
@@ -46,7 +46,7 @@ use Rattle.table_read.specs.theory.Walks.{owns, content_short}
 use Rattle.table_read.specs.theory.BlockSlots.{has_as}
 use Rattle.table_read.specs.declared.slots.Slots.{Slots}
 use Rattle.table.specs.declared.damage.Damage.{Damage}
-use Rattle.table_record.specs.RecordSteps.{nth_of, nth_in, found_record, on_nth, at_spot, Readable, Stands}
+use Rattle.table_record.specs.RecordSteps.{nth_of, nth_in, found_record, on_nth, Stands}
 use Rattle.table_record.specs.declared.Nth.{Nth}
 use Rattle.table_record.specs.declared.slot.Spot.{Spot}
 use Rattle.table_record.specs.declared.slot.Spot.TheVariants as spot
@@ -55,9 +55,6 @@ use Rattle.table_record.proofs.Records.{stands, nth_here, nth_past, nth_damaged,
 -- ---- the numbers
 
 module _ (g : Layout) (F : Proper g) where
-  pub list_below : (n : ℕ) → n < basic_capacity g → n / g.sib < g.lists
-  list_below n h = (div-lt_iff_lt-mul F.sib_low).1 (omega arith)
-
   -- the numbers have less than 32 bits
   pub basic_few : basic_capacity g ≤ 255 * 65536
   basic_few = mul-le-mul F.sib_high F.lists_high
@@ -175,14 +172,6 @@ module _ (s : Settings) (g : Layout) (laid : layout_of s ≡ g) (st : State) whe
 -- ---- spots
 
 module _ (g : Layout) (t : List ℕ) where
-  -- what is read at a spot
-  module _ (answers : Settings → RecordAnswer) (r : Result Spot Damage) (v : Stands g t answers r) (x : Result Spot Damage) (e : r ≡ x) where
-    pub spot_readable : Readable g t x
-    spot_readable = subst (Readable g t) e v.readable
-
-    pub spot_answer : (s : Settings) → layout_of s ≡ g → at_spot g t s x ≡ answers s
-    spot_answer s laid = sym (ap (at_spot g t s) e) ∙ v.are s laid
-
   -- slot number n
   pub number_basic : (r : Result Spot Damage) (n : ℕ) → n < basic_capacity g → Stands g t (λ s. retrieve_basic s (decode g t) (n / g.sib) (n % g.sib)) r
       → Stands g t (λ s. retrieve_in s (decode g t) n) r
