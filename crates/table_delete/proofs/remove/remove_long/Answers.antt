@@ -81,9 +81,6 @@ shrink-requires c =
       w.prior_low,
     )
 
-pub shape_of-t : goal.shape_of-t
-shape_of-t c = omega (arith, c.shrink.auto.t, c.store_at_place.auto.t)
-
 pub returns : goal.returns
 returns c =
     let p = c.overflow_slot-at in

@@ -10,7 +10,7 @@ use Rattle.bits.specs.theory.Puts.{put_own, put_length}
 use Rattle.table.specs.theory.Changes.{bits_high}
 use Rattle.table_read.specs.theory.Places.{basic_slot_ends}
 use Rattle.table_store.specs.Stores.{slot_put}
-use Rattle.table_store.specs.theory.StoreLaws.{copy_asks, table_kept}
+use Rattle.table_store.specs.theory.StoreLaws.{copy_asks}
 use Rattle.table_delete.proofs.RemoveLaws.{removed_short}
 use Rattle.table_delete.proofs.remove.remove_short.Goals as goal
 use Rattle.table_delete.proofs.remove.remove_short.Goals.{After-basic_slot-hole, Joined-hole-last, then-hole-last, else-hole-last}
@@ -50,13 +50,6 @@ long c = ap length (moved c) ∙ put_length _ _ _ _
 pub clear-requires : goal.clear-requires
 clear-requires c =
     omega (arith, last_ends (goal.at.clear-requires c).After-basic_slot-hole, long (goal.at.clear-requires c).Joined-hole-last, bits_high c.args.g c.requires.0.proper, c.requires.0.room)
-
-pub put_basic_counter-requires : goal.put_basic_counter-requires
-put_basic_counter-requires c =
-    (table_kept _ (c.clear.auto.t ∙ long (goal.at.put_basic_counter-requires c).Joined-hole-last) c.requires.0, c.requires.1, omega (arith, c.requires.4, c.requires.0.proper.basic_holds))
-
-pub shape_of-t : goal.shape_of-t
-shape_of-t c = c.put_basic_counter.auto.t ∙ c.clear.auto.t ∙ long (goal.at.shape_of-t c).Joined-hole-last
 
 pub returns : goal.returns
 unfolding slot_put

@@ -59,9 +59,6 @@ free_block-requires c =
     let h : (decode a.g c.match-before.t).free ≤ a.g.nob = omega (arith, f, ap (λ (u : State). u.free) m.state, handed_free a.g st a.i.0 a.last.0 a.before) in
     search rules
 
-pub shape_of-t : goal.shape_of-t
-shape_of-t c = omega (arith, c.free_block.auto.t, (met (goal.at.shape_of-t c).Joined-before).only.long)
-
 pub returns : goal.returns
 returns c =
     let a = c.args in
