@@ -31,7 +31,8 @@ pub enum Step {
     Rest(Place),
 }
 
-// Answers the line input[at..e] into out from `made` on.
+// Answers the line input[at..e] into out from `made` on. Here and below the table and the buffers stay parameters: each is
+// lent for one call out of the caller's memory, and a struct of them would be taken apart again at each call.
 fn answer_part(
     classes: &[u8; 256],
     input: &[u8],
@@ -144,6 +145,7 @@ pub fn consume(
 {
     let mut l = program_lines::lines_at(input, at);
     let mut p = Place { at, made: 0, skip };
+    // A `while`: what a turn leaves of the room decides whether another follows.
     while ANSWER_MAX <= out.len() - p.made {
         let span = program_lines::next_line(l);
         match one_turn(classes, l.src, p, span, t, out) {
