@@ -217,8 +217,7 @@ check_kept s t m =
     (λ why. stays (refused why))
     (λ d.
     let o = cleared_untouched ((s.nob + 7) / 8) m (leb-true ((s.nob + 7) / 8) (length m) (passed d.1.1.0)) in
-    either (λ a. Kept ((s.nob + 7) / 8) m Accepted (reply (of_check a) (marks_after (layout_of s) m)))
-    (table_sound (layout_of s) t) (λ q. writes told_accepted o) (λ q. writes told_accepted o))
+    writes told_accepted o)
 
 pub write_kept : (k : Key) (b : List ℕ) → Kept (length (text.written k.high k.low)) b Accepted (answering of_written (write_call k b))
 unfolding write_call

@@ -80,29 +80,6 @@ struct Due {
     next: Next,
 }
 
-// Answers whole lines of buf[at..end] into out until that is full, or until they are all answered. Then what is left moves
-// to the start of buf: no more than a line, so that there is room for the next read.
-fn answer(buf: &mut [u8], t: &mut [u8], out: &mut [u8], s: State) -> Due
-    requires { Placed s buf.old × (program_bytes ≤ length t.old) × (answer_room ≤ length out.old) }
-    ensures { Answered s buf.old t.old result buf.new t.new out.new }
-{
-    let end = s.end;
-    match program_stream::consume(&buf[..end], s.at, s.skip, t, out) {
-        Step::More(Place { at, made, skip }) => Due {
-            made,
-            next: Next::Answer(State { at, end, skip }),
-        },
-        Step::Rest(Place { at, made, skip }) => Due {
-            made,
-            next: Next::Read(State {
-                at: 0,
-                end: program_stream::keep(buf, at, end),
-                skip,
-            }),
-        },
-    }
-}
-
 // One read to the start of buf, which is not empty, so that no bytes are the end of the input: then it answers none. A read
 // that a signal interrupts has given no bytes, and is made again.
 fn read_some(io: &Streams, buf: &mut [u8]) -> io::Result<Option<usize>>
@@ -134,62 +111,90 @@ fn read_more(io: &Streams, buf: &mut [u8], s: State) -> io::Result<Option<State>
     }
 }
 
-// Reads and answers from a new table on, until the input ends, or until an error. Nothing is promised of what a read gives,
-// so here too a counter shows that the loop ends.
-fn answer_input(
-    io: &Streams,
-    buf: &mut [u8],
-    t: &mut [u8],
-    out: &mut [u8],
-) -> Result<State, Failure>
-    requires { (longest_line < length buf.old) × (program_bytes ≤ length t.old) × (answer_room ≤ length out.old) × (t.old ≡ new_table) }
-    ensures { Ends result buf.new t.new }
-{
-    let mut s = START;
-    for _ in 0..u64::MAX {
-        let due = answer(buf, t, out, s);
-        let made = due.made;
-        write_out(io, &out[..made]).map_err(Failure::Write)?;
-        s = match due.next {
-            Next::Answer(r) => r,
-            Next::Read(r) => match read_more(io, buf, r).map_err(Failure::Read)? {
-                Some(more) => more,
-                None => return Ok(r),
+// The bytes of each of the two buffers.
+const BUFFER_BYTES: usize = 65536;
+
+// All memory of the run: the buffer that is read into, the table, for which the settings ask TABLE_BYTES, and the output.
+#[derive(Drop)]
+struct Memory {
+    buf: [u8; BUFFER_BYTES],
+    t: [u8; TABLE_BYTES],
+    out: [u8; BUFFER_BYTES],
+}
+
+impl Memory {
+    // Answers whole lines of buf[at..end] into out until that is full, or until they are all answered. Then what is left
+    // moves to the start of buf: no more than a line, so that there is room for the next read.
+    fn answer(&mut self, s: State) -> Due
+        requires { Placed s self.old.buf }
+        ensures { Answered s self.old.buf self.old.t result self.new.buf self.new.t self.new.out }
+    {
+        let end = s.end;
+        let m = program_stream::consume(
+            &self.buf[..end],
+            s.at,
+            s.skip,
+            &mut self.t,
+            &mut self.out,
+        );
+        match m {
+            Step::More(Place { at, made, skip }) => Due {
+                made,
+                next: Next::Answer(State { at, end, skip }),
             },
-        };
+            Step::Rest(Place { at, made, skip }) => Due {
+                made,
+                next: Next::Read(State {
+                    at: 0,
+                    end: program_stream::keep(&mut self.buf, at, end),
+                    skip,
+                }),
+            },
+        }
     }
-    Err(Failure::Turns)
-}
 
-// The end of the input: the answer to a last line that lacks its line feed, written out.
-fn last_line(
-    io: &Streams,
-    buf: &[u8],
-    t: &mut [u8],
-    out: &mut [u8],
-    s: State,
-) -> io::Result<()>
-    requires { Placed s buf.now × Waits (unanswered s buf.now) × (program_bytes ≤ length t.old) × (answer_room ≤ length out.old) }
-    ensures { Wrote (due t.old s.skip (unanswered s buf.now)) (is_ok result) }
-{
-    let at = s.at;
-    let end = s.end;
-    let n = program_stream::finish(&buf[at..end], s.skip, t, out);
-    write_out(io, &out[..n])
-}
+    // Reads and answers from a new table on, until the input ends, or until an error. Nothing is promised of what a read
+    // gives, so here too a counter shows that the loop ends.
+    fn answer_input(&mut self, io: &Streams) -> Result<State, Failure>
+        requires { self.old.t ≡ new_table }
+        ensures { Ends result self.new.buf self.new.t }
+    {
+        let mut s = START;
+        for _ in 0..u64::MAX {
+            let due = self.answer(s);
+            let made = due.made;
+            let out: &[u8] = &self.out;
+            write_out(io, &out[..made]).map_err(Failure::Write)?;
+            s = match due.next {
+                Next::Answer(r) => r,
+                Next::Read(r) => match read_more(io, &mut self.buf, r).map_err(Failure::Read)? {
+                    Some(more) => more,
+                    None => return Ok(r),
+                },
+            };
+        }
+        Err(Failure::Turns)
+    }
 
-// The whole run.
-fn run(
-    io: &Streams,
-    buf: &mut [u8],
-    t: &mut [u8],
-    out: &mut [u8],
-) -> Result<(), Failure>
-    requires { (longest_line < length buf.old) × (program_bytes ≤ length t.old) × (answer_room ≤ length out.old) × (t.old ≡ new_table) }
-    ensures { Ran (is_ok result) }
-{
-    let s = answer_input(io, buf, t, out)?;
-    last_line(io, buf, t, out, s).map_err(Failure::Write)
+    // The end of the input: the answer to a last line that lacks its line feed, written out.
+    fn last_line(&mut self, io: &Streams, s: State) -> io::Result<()>
+        requires { Placed s self.old.buf × Waits (unanswered s self.old.buf) }
+        ensures { Wrote (due self.old.t s.skip (unanswered s self.old.buf)) (is_ok result) }
+    {
+        let buf: &[u8] = &self.buf;
+        let part = &buf[s.at..s.end];
+        let n = program_stream::finish(part, s.skip, &mut self.t, &mut self.out);
+        write_out(io, &self.out[..n])
+    }
+
+    // The whole run.
+    fn run(&mut self, io: &Streams) -> Result<(), Failure>
+        requires { self.old.t ≡ new_table }
+        ensures { Ran (is_ok result) }
+    {
+        let s = self.answer_input(io)?;
+        self.last_line(io, s).map_err(Failure::Write)
+    }
 }
 
 // The message of a run that has failed.
@@ -201,10 +206,6 @@ fn report(io: &Streams, failure: Failure) {
     }
 }
 
-// The bytes of each of the two buffers.
-const BUFFER_BYTES: usize = 65536;
-
-// All memory of the run: the table, for which the settings ask TABLE_BYTES, and the buffers.
 fn main(rt: HostRuntime) {
     let io = Streams {
         input: rt.stdin(),
@@ -215,11 +216,13 @@ fn main(rt: HostRuntime) {
         fail(&io, "settings", io::Error::from(ErrorKind::InvalidInput));
         return;
     };
-    let mut buf = [0u8; BUFFER_BYTES];
-    let mut t = [0u8; TABLE_BYTES];
-    let mut out = [0u8; BUFFER_BYTES];
-    let _made = table_make::make(s, &mut t);
-    if let Err(failure) = run(&io, &mut buf, &mut t, &mut out) {
+    let mut memory = Memory {
+        buf: [0; BUFFER_BYTES],
+        t: [0; TABLE_BYTES],
+        out: [0; BUFFER_BYTES],
+    };
+    let _made = table_make::make(s, &mut memory.t);
+    if let Err(failure) = memory.run(&io) {
         report(&io, failure);
     }
 }

@@ -99,6 +99,7 @@ pub fn parse(line: &[u8]) -> Option<Request>
     let [first, b' ', _, ..] = line else {
         return None;
     };
+    // Four tests one after the other are compiled to the same jump through a table.
     match *first {
         b'+' => parse_labelled(line, Op::Enter),
         b'-' => Some(Request {

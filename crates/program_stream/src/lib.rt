@@ -29,7 +29,8 @@ pub enum Step {
     Rest(Place),
 }
 
-// Answers the line input[at..e] into out from `made` on.
+// Answers the line input[at..e] into out from `made` on. Here and below the table and the buffers stay parameters: each is
+// lent for one call out of the caller's memory, and a struct of them would be taken apart again at each call.
 fn answer_part(
     input: &[u8],
     at: usize,
@@ -138,6 +139,7 @@ pub fn consume(
 {
     let mut l = Lines::new(input, at);
     let mut p = Place { at, made: 0, skip };
+    // A `while`: what a turn leaves of the room decides whether another follows.
     while ANSWER_MAX <= out.len() - p.made {
         let end = l.next_line();
         match one_turn(l.src, p, end, t, out) {

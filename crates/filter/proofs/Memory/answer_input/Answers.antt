@@ -12,11 +12,8 @@ use Rattle.filter.specs.declared.Next.TheVariants as next
 use Rattle.filter.specs.declared.State.{State}
 use Rattle.filter.specs.declared.Failure.{Failure}
 use Rattle.filter.proofs.Standing.{stands_wrote, stands_read, waits_still, failed_wrote, ran_stopped}
-use Rattle.filter.proofs.answer_input.Goals as goal
-use Rattle.filter.proofs.answer_input.Goals.{After-map_err, in-Answer, in-Read+in_ok-more-in-Read+in-Some}
-
-again : {t buf buf' : List ℕ} {s s' : State} → buf ≡ buf' → s ≡ s' → Stands s' buf' t → Stands s buf t
-again e f v = rw (e, f) v
+use Rattle.filter.proofs.Memory.answer_input.Goals as goal
+use Rattle.filter.proofs.Memory.answer_input.Goals.{After-map_err, in-Answer, in-Read+in_ok-more-in-Read+in-Some}
 
 -- a read comes next
 module _ {t buf : List ℕ} {n : Next} {r : State} (e : n ≡ next.Read r) (f : Stands (state n) buf t) (w : reads n ≡ true → Waits (unanswered (state n) buf)) where
@@ -44,7 +41,7 @@ loop-init c =
       out = [];
       given = given_none;
       taken = taken_none;
-      sofar = starts c.requires.3;
+      sofar = starts c.requires;
       placed = record { order = omega arith; within = omega arith };
     }
 
@@ -54,7 +51,7 @@ returns-in_err-map_err c =
     rw p.1 (failed_wrote c.loop.invariant c.answer-due.ensures c.write_out.ensures (sym (rw c.in_err-map_err.was at c.map_err.ensures.variant)))
 
 -- all that was due was written
-wrote : (c : After-map_err) → is_ok c.map_err.result ≡ true → Stands (state c.answer-due.result.next) c.answer-due.new.buf c.answer-due.new.t
+wrote : (c : After-map_err) → is_ok c.map_err.result ≡ true → Stands (state c.answer-due.result.next) c.answer-due.new.self.buf c.answer-due.new.self.t
 wrote c e = stands_wrote c.loop.invariant c.answer-due.ensures c.write_out.ensures (sym c.map_err.ensures.variant ∙ e)
 
 pub returns-in_err-more-in-Read : goal.returns-in_err-more-in-Read
@@ -75,11 +72,11 @@ pub loop-preserved : goal.loop-preserved
 loop-preserved c =
     let f = wrote (goal.at.loop-preserved c).After-map_err (rw c.in_ok-map_err.was refl) in
     elim c.match-due.branch [
-      | in-Answer w ↦ again w.buf-is w.s-is (rw w.in-Answer.is at f)
+      | in-Answer w ↦ rw (w.self-is, w.s-is) (rw w.in-Answer.is at f)
       | in-Read+in_ok-more-in-Read+in-Some w ↦
           let m = w.map_err-in-Read.ensures in
           let e = rw w.in-Some.is at (read_told _ _ _ _ _ _ m.cases m.variant w.in_ok-more-in-Read.was w.read_more.ensures) in
-          again w.buf-is w.s-is
+          rw (w.self-is, w.s-is)
           (stands_read (to_read w.in-Read.is f c.answer-due.ensures.waits) (to_wait w.in-Read.is f c.answer-due.ensures.waits) e)
     ]
 

@@ -1,6 +1,6 @@
 -- The run so far, and its end.
 use Rattle.filter.proofs.Standing.{ran_whole}
-use Rattle.filter.proofs.run.Goals as goal
+use Rattle.filter.proofs.Memory.run.Goals as goal
 
 pub returns : goal.returns
 returns c =
