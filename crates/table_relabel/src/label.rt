@@ -65,6 +65,8 @@ fn relabel_first(t: &mut [u8], g: Layout, i: ListNumber, p: usize, at: usize, la
 }
 
 // Place p of list i, in its basic block, where no label can lie under a block's number: an entry has as many bits, or more.
+// Most labels are stored here. Behind so many tests LLVM takes the call for rare, and would not inline it by itself.
+#[inline(always)]
 pub(crate) fn relabel_plain(t: &mut [u8], g: Layout, i: ListNumber, p: usize, label: u32)
     requires { Relabellable g t.old i.0 p label × (p < g.sib) × (g.link ≤ g.bie) }
     ensures { Relabelled g t.old t.new i.0 p label }
