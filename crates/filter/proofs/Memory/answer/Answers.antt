@@ -33,5 +33,5 @@ returns-in-Rest c =
       placed = record { order = omega arith; within = omega (arith, m.0, c.keep.auto, p.within) };
     }
 
-pub consume-m-requires-clause-classes : goal.consume-m-requires-clause-classes
-consume-m-requires-clause-classes c = (c.args.self.now.read, omega (arith, program_bytes_lem))
+pub consume-m-requires-clause-room : goal.consume-m-requires-clause-room
+consume-m-requires-clause-room c = omega (arith, program_bytes_lem)
