@@ -1,14 +1,14 @@
 // What the calls on a table answer, if they are not refused.
 use keys::Key;
 
-// The five words, with their numbers; 5 to 7 are the words of record and check.
+// The five words.
 #[derive(Clone, Copy)]
 pub enum Word {
-    Added = 1,
-    Held = 2,
-    Gone = 3,
-    None = 4,
-    Relabelled = 8,
+    Added,
+    Held,
+    Gone,
+    None,
+    Relabelled,
 }
 
 // What find, enter, relabel and delete say; slot is the number of the entry's slot, 0 with "none" and "gone". The word stands

@@ -10,7 +10,7 @@ use Rattle.table.specs.declared.step.Step.{Step}
 use Rattle.plain_set.specs.Rebuilt.{Pair, pairs_of}
 use Rattle.table_cursor.specs.Ahead.{gather_behind, slots_ahead, pairs_from, ahead, Good, Ends}
 use Rattle.table_cursor.specs.declared.places.Cursor.{Cursor}
-use Rattle.table_cursor.specs.declared.places.Held.{Held}
+use Rattle.table.specs.declared.slot.Slot.{Slot}
 
 -- the cursor c stands before the slots es, which are of list i; its run is empty only if they are none
 pub record Begins (g : Layout) (t : List ℕ) (i : ℕ) (es : List ℕ) (c : Cursor) : Type 0 where
@@ -31,6 +31,6 @@ pub record Reaches (g : Layout) (t : List ℕ) (ps : Settings → List Pair) (c 
   pub none : c.run.count ≤ c.passed → Ends g t ps
 
 -- what a slot holds
-pub record Holds (g : Layout) (slot : ℕ) (r : Held) : Type 0 where
+pub record Holds (g : Layout) (slot : ℕ) (r : Slot) : Type 0 where
   pub entry : r.entry ≡ key_of (entry_of g slot)
   pub label : r.label ≡ label_of g slot

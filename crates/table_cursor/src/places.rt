@@ -13,13 +13,6 @@ pub struct Cursor {
     pub behind: Step,
 }
 
-// What a slot holds.
-#[derive(Clone, Copy)]
-pub(crate) struct Held {
-    pub entry: Key,
-    pub label: u32,
-}
-
 // A record's place and label, and the cursor behind it.
 #[derive(Clone, Copy)]
 pub struct Next {

@@ -1,9 +1,6 @@
 // From record to record.
 ghost use Rattle.std.specs.Prelude.{◌≡◌, ◌+◌, ◌*◌, ◌<◌, ◌≤◌, length, get_or};
-ghost use Rattle.settings.specs.Legal.{most_bits};
 ghost use Rattle.settings.specs.Proper.{Proper};
-ghost use Rattle.bits.specs.Field.{field};
-ghost use Rattle.keys.specs.Key.{key_of};
 ghost use Rattle.table.specs.Decode.{decode};
 ghost use Rattle.table.specs.Table.{Table};
 ghost use Rattle.table.specs.Follow.{content};
@@ -13,13 +10,13 @@ ghost use Rattle.plain_set.specs.Nth.{Undamaged};
 ghost use Rattle.table_cursor.specs.Ahead.{Leads, pairs_from, ahead, Good, Before, Gives, Answers};
 ghost use Rattle.table_cursor.specs.Steps.{Begins, pairs_behind, Reaches, Holds};
 
-use crate::places::{Cursor, Held, Next};
+use crate::places::{Cursor, Next};
 use keys::{BlockNumber, Key, ListNumber, SlotNumber};
 use settings::Layout;
-use table::Step;
+use table::{Slot, Step};
 use table_read::blocks::{basic_front, overflow_front, overflow_link, step_of};
 use table_read::lists::{basic_run, displaced_run, follow, overflow_run};
-use table_read::slots::{Slots, entry_in, label_in};
+use table_read::slots::{Slots, entry_in, key_at, label_in};
 
 // The next record, and the cursor behind it; there is none at the table's end.
 pub fn next(t: &[u8], g: Layout, c: Cursor) -> Option<Next>
@@ -105,37 +102,20 @@ fn apart(n: Step) -> Step
 }
 
 // What slot j holds. Behind the displaced bits, where most slots are, it is read as it stands.
-fn held(t: &[u8], g: Layout, b: Slots, j: SlotNumber) -> Held
+fn held(t: &[u8], g: Layout, b: Slots, j: SlotNumber) -> Slot
     requires { Proper g × SlotsWithin g t.now b × (j.0 < b.count) }
     ensures { Holds g (get_or (slots_in g t.now b) j.0 0) result }
 {
     let at = b.start + j.0 * g.slot;
     if at < b.start + b.displaced {
-        return Held {
+        return Slot {
             entry: entry_in(&t[..], g, b, j),
             label: label_in(&t[..], g, b, j),
         };
     }
-    Held {
+    Slot {
         entry: key_at(t, at, g.bie),
         label: bits::get(t, at + g.bie, g.val) as u32,
-    }
-}
-
-// The n bits from bit `at` on, as they stand.
-fn key_at(t: &[u8], at: usize, n: usize) -> Key
-    requires { (at + n ≤ 8 * length t.now) × (at + n ≤ most_bits) × (n ≤ 128) }
-    ensures { result ≡ key_of (field t.now at n) }
-{
-    if n <= 64 {
-        return Key {
-            high: 0,
-            low: bits::get(t, at, n),
-        };
-    }
-    Key {
-        high: bits::get(t, at, n - 64),
-        low: bits::get(t, at + (n - 64), 64),
     }
 }
 

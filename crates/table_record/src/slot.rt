@@ -1,9 +1,6 @@
 // Retrieve: from the number of a slot back to its key and label.
 ghost use Rattle.std.specs.Prelude.{◌≡◌, ◌+◌, ◌*◌, ◌<◌, ◌≤◌, length};
-ghost use Rattle.settings.specs.Legal.{most_bits};
 ghost use Rattle.settings.specs.Proper.{Proper};
-ghost use Rattle.bits.specs.Field.{field};
-ghost use Rattle.keys.specs.Key.{key_of};
 ghost use Rattle.table.specs.State.{basic_at};
 ghost use Rattle.table.specs.Decode.{decode};
 ghost use Rattle.table.specs.Table.{Table};
@@ -20,7 +17,7 @@ use table_read::blocks::{basic_counter, basic_front, basic_head, overflow_link, 
 use table_read::lists::{displaced_run, follow, list_has_block};
 use table_read::numbers::basic_capacity;
 use table_read::places::{basic_slot, overflow_slot};
-use table_read::slots::{Slots, entry_in, label_in};
+use table_read::slots::{Slots, entry_in, key_at, label_in};
 
 // Where the slot of a number stands: at a bit, as it stands; among slots whose first bits are displaced; or it is not in use.
 #[derive(Clone, Copy)]
@@ -173,21 +170,4 @@ fn in_overflow(t: &[u8], g: Layout, j: BlockNumber, k: SlotNumber) -> Result<Spo
         list: i,
         at: overflow_slot(g, j, k),
     })
-}
-
-// The n bits from bit `at` on, as they stand. The same as in table_cursor: each serves one place and is inlined there.
-fn key_at(t: &[u8], at: usize, n: usize) -> Key
-    requires { (at + n ≤ 8 * length t.now) × (at + n ≤ most_bits) × (n ≤ 128) }
-    ensures { result ≡ key_of (field t.now at n) }
-{
-    if n <= 64 {
-        return Key {
-            high: 0,
-            low: bits::get(t, at, n),
-        };
-    }
-    Key {
-        high: bits::get(t, at, n - 64),
-        low: bits::get(t, at + (n - 64), 64),
-    }
 }
