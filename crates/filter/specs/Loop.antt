@@ -41,11 +41,11 @@ pub record Answered (s : State) (buf t : List ℕ) (r : Due) (buf' t' out' : Lis
   pub fits : r.made ≤ length out'
   pub placed : Placed (state r.next) buf'
 
--- `read_some`: n bytes have come, or none since the input has ended, or there was an error
+-- `read_some`: n bytes have come, or none since the input has ended, or none since there was an error
 abbrev pub ReadSome : Result (Option ℕ) Error → List ℕ → List ℕ → Type 0
 ReadSome (Ok (Some n)) buf buf' = (n ≤ length buf) × Gives (take n buf')
 ReadSome (Ok None) buf buf' = Gives []
-ReadSome (Err e) buf buf' = Erred
+ReadSome (Err e) buf buf' = Erred × Gives []
 
 -- what stands in buf' from the old end to the new one has come behind those bytes
 pub record Came (s : State) (buf : List ℕ) (r : State) (buf' : List ℕ) : Type 0 where
@@ -54,11 +54,11 @@ pub record Came (s : State) (buf : List ℕ) (r : State) (buf' : List ℕ) : Typ
   pub gives : Gives (part s.end r.end buf')
   pub placed : Placed r buf'
 
--- `read_more`: bytes have come, or none at the end of the input; or there was an error
+-- `read_more`: bytes have come, or none at the end of the input, or none where there was an error
 abbrev pub Read : State → List ℕ → Result (Option State) Error → List ℕ → Type 0
 Read s buf (Ok (Some r)) buf' = Came s buf r buf'
 Read s buf (Ok None) buf' = Came s buf s buf'
-Read s buf (Err e) buf' = Erred
+Read s buf (Err e) buf' = Erred × Came s buf s buf'
 
 -- at every turn: reads have given `pieces`, writes have taken `out`, and the program has run so far on these
 pub record Stands (s : State) (buf t : List ℕ) : Type 0 where

@@ -10,6 +10,8 @@ use lib.Pow.{pow_pos}
 use Rattle.settings.specs.Proper.{Proper}
 use Rattle.settings.specs.Layout.{layout_of}
 use Rattle.settings.specs.declared.settings.Settings.{Settings}
+use Rattle.std.specs.Prelude.{Option, Some, None}
+use Rattle.table_cursor.specs.declared.places.Next.{Next}
 use Rattle.settings.specs.declared.layout.Layout.{Layout}
 use Rattle.keys.specs.Key.{key_number, key_of, rebuilt}
 use Rattle.keys.specs.theory.Keys.{number_key}
@@ -23,7 +25,7 @@ use Rattle.table.specs.declared.step.Step.TheVariants as step
 use Rattle.table_read.specs.Steps.{slots_in, gather_from}
 use Rattle.table_read.specs.theory.Reads.{slots_length, entry_bound}
 use Rattle.plain_set.specs.Rebuilt.{Pair, pair, slots_of, pairs_of}
-use Rattle.table_cursor.specs.Ahead.{gather_behind, slots_ahead, pairs_from, ahead, Good, Gives, Ends}
+use Rattle.table_cursor.specs.Ahead.{gather_behind, slots_ahead, pairs_from, ahead, Good, Gives, Ends, Answers}
 use Rattle.table_cursor.specs.Steps.{Begins, pairs_behind, Reaches}
 use Rattle.table_cursor.specs.theory.Pairs.{pairs_on_lem, pairs_end}
 use Rattle.table_cursor.specs.declared.places.Cursor.{Cursor}
@@ -53,6 +55,11 @@ module _ (g : Layout) (t : List ℕ) where
   pub gives_same : (ps qs : Settings → List Pair) → ((s : Settings) → layout_of s ≡ g → ps s ≡ qs s) → (r : Next) → Gives g t qs r → Gives g t ps r
   gives_same ps qs e r A =
       record { list = A.list; entry = A.entry; label = A.label; good = A.good; are = λ s h. e s h ∙ A.are s h }
+
+  pub answers_same : (ps qs : Settings → List Pair) → ((s : Settings) → layout_of s ≡ g → ps s ≡ qs s) → (r : Option Next) → Answers g t qs r → Answers g t ps r
+  answers_same ps qs e (Some r) A =
+      record { list = A.list; entry = A.entry; label = A.label; good = A.good; are = λ s h. e s h ∙ A.are s h }
+  answers_same ps qs e None A = record { are = λ s h. e s h ∙ A.are s h }
 
   pub reaches_same : (ps qs : Settings → List Pair) → ((s : Settings) → layout_of s ≡ g → ps s ≡ qs s) → (c : Cursor) → Reaches g t qs c → Reaches g t ps c
   reaches_same ps qs e c R =

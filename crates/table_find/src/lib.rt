@@ -20,8 +20,8 @@ pub struct Sought {
     pub found: Result<Said, Refusal>,
 }
 
-// Whether a call goes on to the table: the first of refusals 2 and 5 that is due, once the layout is known. The layout is not handed back: it would be copied
-// at every call.
+// Whether a call goes on to the table: the first of refusals 2 and 5 that is due, once the layout is known. The layout is not
+// handed back: it would be copied at every call.
 pub fn admit(s: Settings, g: Layout, t: &[u8], key: Key) -> Result<(), Refusal>
     requires { laid_of s ≡ Ok g }
     ensures { laid_if g result ≡ open_of s (length t.now) key }

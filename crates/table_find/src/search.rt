@@ -21,29 +21,29 @@ use table_read::slots::{confirm, label_at, looked_at, scan, scan_displaced};
 use table_read::windows::candidate;
 
 // Held, with the label of val bits from bit `at` on, in the slot of that number; n entries were compared.
-fn held(t: &[u8], at: usize, val: usize, n: usize, slot: u64) -> Said
+fn held(t: &[u8], at: usize, val: usize, n: usize, slot: u64) -> Result<Said, Refusal>
     requires { (at + val ≤ 8 * length t.now) × (val ≤ 32) × (n ≤ 2 ^ 21) }
-    ensures { Ok result ≡ said word.Held (field t.now at val) n slot }
+    ensures { result ≡ said word.Held (field t.now at val) n slot }
 {
-    Said {
+    Ok(Said {
         word: Word::Held,
         label: bits::get(t, at, val) as u32,
         compared: n as u32,
         slot,
-    }
+    })
 }
 
 // Not there, among n entries.
-fn not_held(n: usize) -> Said
+fn not_held(n: usize) -> Result<Said, Refusal>
     requires { n ≤ 2 ^ 21 }
-    ensures { Ok result ≡ said word.None 0 n 0 }
+    ensures { result ≡ said word.None 0 n 0 }
 {
-    Said {
+    Ok(Said {
         word: Word::None,
         label: 0,
         compared: n as u32,
         slot: 0,
-    }
+    })
 }
 
 // The entry in the overflow blocks from `first` on, where following them met no damage and k slots
@@ -60,28 +60,26 @@ fn find_blocks(
 {
     let mut b = first;
     let mut n = k;
-    let mut q: usize = 0;
-    while q < g.nob {
+    for _ in 0..g.nob {
         let front = overflow_front(t, g, b);
         let run = overflow_run(g, b, front.counter);
         let j = scan(&t[..], run, g.sio, g.slot, g.bie, entry);
         if j.0 < run.count {
-            return Ok(held(
+            return held(
                 t,
                 run.start + j.0 * g.slot + g.bie,
                 g.val,
                 n + (j.0 + 1),
                 overflow_number(g, b, j),
-            ));
+            );
         }
         n += run.count;
         let Step::Further(next) = step_of(front, g.sio) else {
-            return Ok(not_held(n));
+            return not_held(n);
         };
         b = next;
-        q += 1;
     }
-    Ok(not_held(n))
+    not_held(n)
 }
 
 // The entry in the first slots of a basic block, which are all of the list. Its steps are those of `scan`, taken apart:
@@ -94,19 +92,19 @@ fn find_short(t: &[u8], g: Layout, i: ListNumber, count: usize, entry: Key) -> R
     let n = looked_at(count, g.sib);
     let from = SlotNumber(candidate(&t[..], run.start, n, g.slot, g.bie, entry.high, entry.low));
     if from.0 >= count {
-        return Ok(not_held(count));
+        return not_held(count);
     }
     let j = confirm(&t[..], run, from, g.slot, g.bie, entry);
     if j.0 < count {
-        return Ok(held(
+        return held(
             t,
             run.start + j.0 * g.slot + g.bie,
             g.val,
             j.0 + 1,
             basic_number(g, i, j),
-        ));
+        );
     }
-    Ok(not_held(j.0))
+    not_held(j.0)
 }
 
 // The entry in list i, whose overflow blocks start at `first`. They are followed to the last before

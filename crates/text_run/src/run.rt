@@ -10,8 +10,8 @@ use settings::Refusal;
 // A legal text has at most 45 bytes: one more tells that the run is too long, so that the time of a call has a bound.
 const MOST: usize = 46;
 
-// Whether a byte is a hexadecimal digit, a colon or a dot. It has no jump, so that LLVM makes one vector comparison of
-// sixteen; a table of the bytes' classes would be built on the stack for each call.
+// Whether a byte is a hexadecimal digit, a colon or a dot. It has no jump and looks nothing up, so that LLVM makes one
+// vector comparison of sixteen.
 fn in_run(b: u8) -> bool
     ensures { result ≡ not (eqb (class_of b) other) }
 {

@@ -6,7 +6,10 @@ use Rattle.filter.proofs.read_more.Goals as goal
 
 pub returns-in_err-n : goal.returns-in_err-n
 returns-in_err-n c =
-    let p = err_from_is_err_and c.from_residual.result c.from_residual.ensures.1 in rw p.1 c.in_err-n.ensures
+    let a = c.args in
+    let p = err_from_is_err_and c.from_residual.result c.from_residual.ensures.1 in
+    rw p.1
+    (c.in_err-n.ensures.0, came_none a.s a.buf.now c.read_some.new.buf _ c.requires.0 (omega (arith, c.requires.1)) c.in_err-n.ensures.1)
 
 pub returns-in-Some : goal.returns-in-Some
 returns-in-Some c =

@@ -1,6 +1,8 @@
 -- The laws of where a byte stands, and where a line ends.
-use Rattle.std.specs.Prelude.{◌≡◌, List, [], ◌∷◌, ℕ, ◌+◌, ◌≤◌, ◌<◌, cond, refl, suc, length, get_or, drop, eqb, ltb, Some, None}
+use Rattle.std.specs.Prelude.{◌≡◌, List, [], ◌∷◌, Bool, true, not, ◌&&◌, ℕ, ◌+◌, ◌≤◌, ◌<◌, cond, refl, suc, length, get_or, drop, eqb, ltb, Some, None}
+use Rattle.std.proofs.Math.Bool.{and-eq-true_iff}
 use Rattle.std.proofs.Common.{ap, arith, length-drop, drop_of_length-le, drop-cons, lit≤, eq-eqb, ne_eqb, lt-ltb, le-ltb, ltb-true, ltb-false}
+use Rattle.std.proofs.lemmas.Bool.{eqb-false, not-true}
 use Rattle.laws.specs.Cases.{cases}
 use Rattle.laws.specs.Lists.{drop_next}
 use Rattle.program_lines.specs.Ends.{before, first_from, line_feed, span_at}
@@ -20,6 +22,25 @@ module _ (b : ℕ) (s : List ℕ) (i : ℕ) where
   pub over : length s ≤ i → first_from b s i ≡ i
   unfolding before first_from
   over h = rw (drop_of_length-le s h) (omega arith)
+
+-- ---- many bytes at once
+
+-- if the test t is true, b is none of the n bytes from i on
+abbrev pub Skips : ℕ → List ℕ → ℕ → ℕ → Bool → Type 0
+Skips b s n i t = t ≡ true → first_from b s i ≡ first_from b s (i + n)
+
+pub skips_one : (b : ℕ) (s : List ℕ) (i : ℕ) → i < length s → Skips b s 1 i (not (eqb (get_or s i 0) b))
+skips_one b s i h e = miss b s i h (eqb-false _ _ (not-true _ e))
+
+-- four runs of n bytes, each where the one before it ends, and each with its test
+pub skips_four : (b : ℕ) (s : List ℕ) (n i : ℕ) {j k l m : ℕ} (t u v w : Bool) → j ≡ i + n → k ≡ j + n → l ≡ k + n → m ≡ l + n
+    → Skips b s n i t → Skips b s n j u → Skips b s n k v → Skips b s n l w
+    → t && u && v && w ≡ true → first_from b s i ≡ first_from b s m
+skips_four b s n i t u v w ej ek el em f g h q e =
+    let x = (and-eq-true_iff (t && u && v) w).0 e in
+    let y = (and-eq-true_iff (t && u) v).0 x.0 in
+    let z = (and-eq-true_iff t u).0 y.0 in
+    cc (f z.0, g z.1, h y.1, q x.1)
 
 -- ---- the search for any test, at the test for b
 

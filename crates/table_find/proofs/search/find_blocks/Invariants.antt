@@ -14,10 +14,7 @@ use Rattle.table.specs.Answer.{Answer}
 abbrev pub from : Layout → ℕ → ℕ → List Overflow → ℕ → ℕ → Answer
 from g e m os b n = find_from g (number_from g m os b) e (gather_from g m os b) n
 
-abbrev pub invariant-loop-q : goal.invariant-loop-q
-invariant-loop-q l =
-    (l.q ≤ l.g.nob) × (l.n ≤ l.k + 15 * l.q) × Followed l.g (l.g.nob - l.q) (decode l.g l.t).overflow l.b.0
-    × (from l.g (key_number l.entry) (l.g.nob - l.q) (decode l.g l.t).overflow l.b.0 l.n ≡ from l.g (key_number l.entry) l.g.nob (decode l.g l.t).overflow l.fn.first.0 l.k)
-
-abbrev pub decreases-loop-q : goal.decreases-loop-q
-decreases-loop-q l = l.g.nob - l.q
+abbrev pub invariant-loop : goal.invariant-loop
+invariant-loop l =
+    (l.n ≤ l.k + 15 * l.counter) × Followed l.g (l.g.nob - l.counter) (decode l.g l.t).overflow l.b.0
+    × (from l.g (key_number l.entry) (l.g.nob - l.counter) (decode l.g l.t).overflow l.b.0 l.n ≡ from l.g (key_number l.entry) l.g.nob (decode l.g l.t).overflow l.fn.first.0 l.k)
