@@ -1,5 +1,5 @@
 -- What was admitted decides: the call with the key, or its refusal.
-use Rattle.std.proofs.Common.{◌≡◌, Ok, length, refl, sym, ap, ◌∙◌}
+use Rattle.std.proofs.Common.{◌≡◌, Ok, length, sym, ap, ◌∙◌}
 use Rattle.std.proofs.lemmas.Result.{err_from_is_err_and}
 use Rattle.settings.specs.Reply.{Reply}
 use Rattle.table.specs.Calls.{find}
