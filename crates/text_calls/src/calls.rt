@@ -90,8 +90,10 @@ trait Labelled {
     ghost due: { (s : Settings) (label : ℕ) → verb_due s (verb label) ≡ label_due s label ∷ [] };
 }
 
+// The key goes in.
 struct Entering;
 
+// A key that is there gets another label.
 struct Relabelling;
 
 impl Labelled for Entering {
@@ -142,6 +144,7 @@ pub fn relabel_text(s: Settings, t: &mut [u8], text: &[u8], label: u64) -> TextA
     or_refused(labelled_read::<Relabelling>(s, t, text, label))
 }
 
+// Either of the two, with its label checked.
 fn labelled_read<L: Labelled>(
     s: Settings,
     t: &mut [u8],
