@@ -14,9 +14,6 @@ open_at c =
     let a = c.args in
     admitted_open a.s a.t.now a.text.now (sym c.layout.ensures ∙ c.in_ok-g.was) (sym c.admit.ensures ∙ c.in_ok-key.was)
 
-pub admit-requires : goal.admit-requires
-admit-requires c = sym c.layout.ensures ∙ c.in_ok-g.was
-
 pub place-place-requires : goal.place-place-requires
 place-place-requires c =
     let a = c.args in

@@ -1,5 +1,5 @@
 -- What was admitted decides: the call with the key, or its refusal.
-use Rattle.std.proofs.Common.{◌≡◌, Ok, length, refl, sym, ap, ◌∙◌}
+use Rattle.std.proofs.Common.{◌≡◌, Ok, length, sym, ap, ◌∙◌}
 use Rattle.std.proofs.lemmas.Result.{err_from_is_err_and}
 use Rattle.settings.specs.Reply.{Reply}
 use Rattle.table.specs.Calls.{find}
@@ -18,9 +18,6 @@ open_at : (c : In_ok-key) → let a = c.args in open_of a.s (length a.t.now) c.i
 open_at c =
     let a = c.args in
     admitted_open a.s a.t.now a.text.now (sym c.layout.ensures ∙ c.in_ok-g.was) (sym c.admit.ensures ∙ c.in_ok-key.was)
-
-pub admit-requires : goal.admit-requires
-admit-requires c = sym c.layout.ensures ∙ c.in_ok-g.was
 
 pub place-place-requires : goal.place-place-requires
 place-place-requires c =
