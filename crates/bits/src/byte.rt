@@ -5,7 +5,8 @@ ghost use Rattle.bits.specs.Put.{put_field};
 
 use crate::number::{part, replace};
 
-// The n bits after the first a of byte i.
+// The n bits after the first a of byte i. These two are as those of a word but for the load and the store: the rest is
+// `part` and `replace`, which both call.
 pub fn get(s: &[u8], i: usize, a: usize, n: usize) -> u64
     requires { (i < length s.now) × (0 < n) × (a + n ≤ 8) }
     ensures { result ≡ field s.now (8 * i + a) n }

@@ -18,7 +18,7 @@ fn none_of<const N: usize, F: Fn(u8) -> bool>(s: &[u8], i: usize, test: &F) -> b
     none
 }
 
-// A place that the first byte at `at` or after it does not precede, N bytes a step.
+// A place that the first byte at `at` or after it does not precede, N bytes a step. A `while`: it ends within the bytes.
 fn skip<const N: usize, F: Fn(u8) -> bool>(s: &[u8], at: usize, test: &F) -> usize
     requires callable { F.IsAlwaysCallable test.now }
     requires steps { 0 < N }
@@ -33,8 +33,8 @@ fn skip<const N: usize, F: Fn(u8) -> bool>(s: &[u8], at: usize, test: &F) -> usi
     i
 }
 
-// The place of the first byte at `at` or after it of which the test is true, or the slice's length where there is none; `at`
-// where that is past the end. Steps of sixteen, of four and of one: a test of each byte would be a jump that is badly
+// The place of the first byte at `at` or after it of which the test is true, or the slice's length where there is none, which
+// callers take for a length; `at` where that is past the end. Steps of sixteen, of four and of one: a test of each byte would be a jump that is badly
 // predicted.
 pub fn first<F: Fn(u8) -> bool>(s: &[u8], at: usize, test: F) -> usize
     requires { F.IsAlwaysCallable test }

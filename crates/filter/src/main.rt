@@ -130,13 +130,7 @@ impl Memory {
         ensures { Answered s self.old.buf self.old.t result self.new.buf self.new.t self.new.out }
     {
         let end = s.end;
-        let m = program_stream::consume(
-            &self.buf[..end],
-            s.at,
-            s.skip,
-            &mut self.t,
-            &mut self.out,
-        );
+        let m = program_stream::consume(&self.buf[..end], s.at, s.skip, &mut self.t, &mut self.out);
         match m {
             Step::More(Place { at, made, skip }) => Due {
                 made,

@@ -27,7 +27,8 @@ pub struct BlockNumber(pub usize);
 #[derive(Clone, Copy, PartialEq, Eq)]
 pub struct SlotNumber(pub usize);
 
-// The free start: the first free overflow block, or nob. It is a block's number only where it is not nob.
+// The free start: the first free overflow block, or nob, as the table's bits store it. It is a block's number only where it is
+// not nob.
 #[derive(Clone, Copy)]
 pub struct FreeStart(pub usize);
 
@@ -148,7 +149,8 @@ impl Place {
     }
 }
 
-// 2^k. A product, a quotient or a remainder by it is compiled to a shift or a mask.
+// 2^k. A product, a quotient or a remainder by it is compiled to a shift or a mask. The exponents here are the settings'
+// own, of 32 bits.
 fn pow(k: u32) -> u64
     requires { k < 64 }
     ensures { result ≡ 2 ^ k }

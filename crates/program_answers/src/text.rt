@@ -23,7 +23,7 @@ fn put_digit(d: u32, out: &mut [u8], at: usize) -> usize
     at + 1
 }
 
-// A number of any length. It calls itself, so that it is not inlined where the short ones are.
+// A number of any length, by hand, since no clause of std says which bytes `write!` puts. It calls itself, so that it is not inlined where the short ones are.
 fn put_digits(n: u32, out: &mut [u8], at: usize) -> usize
     requires { at + length (decimal_text n) ≤ length out.old }
     ensures { Put (decimal_text n) out.old at out.new result }

@@ -14,7 +14,8 @@ pub enum Op {
     Find,
 }
 
-// A command: its address is the line's bytes from 2 to `end`.
+// A command: its address is the line's bytes from 2 to `end`. The label is 0 where the command takes none, as its contract
+// (`Asks`) says.
 #[derive(Clone, Copy)]
 pub struct Request {
     pub op: Op,

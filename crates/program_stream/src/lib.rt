@@ -58,13 +58,7 @@ fn refuse_part(out: &mut [u8], made: usize) -> usize
 }
 
 // The line that ends at e, unless it has been answered.
-fn line_turn(
-    input: &[u8],
-    p: Place,
-    e: usize,
-    t: &mut [u8],
-    out: &mut [u8],
-) -> Step
+fn line_turn(input: &[u8], p: Place, e: usize, t: &mut [u8], out: &mut [u8]) -> Step
     requires at_in_bounds { (p.at ≤ length input.now) × (span_at input.now p.at ≡ Some e) }
     requires room { (program_bytes ≤ length t.old) × (p.made + answer_room ≤ length out.old) }
     ensures { Turned input.now p t.old out.old result t.new out.new }
@@ -106,13 +100,7 @@ fn rest_turn(input: &[u8], p: Place, out: &mut [u8]) -> Step
 }
 
 // One line, or the start of one that is too long: `end` is where the reader found the line's end.
-fn one_turn(
-    input: &[u8],
-    p: Place,
-    end: Option<usize>,
-    t: &mut [u8],
-    out: &mut [u8],
-) -> Step
+fn one_turn(input: &[u8], p: Place, end: Option<usize>, t: &mut [u8], out: &mut [u8]) -> Step
     requires { (p.at ≤ length input.now) × (end ≡ span_at input.now p.at) × (program_bytes ≤ length t.old) × (p.made + answer_room ≤ length out.old) }
     ensures { Turned input.now p t.old out.old result t.new out.new }
 {
@@ -126,13 +114,7 @@ fn one_turn(
 // where it stops when the output is full (a line further at least, if there was room for an answer), the bytes of the
 // output behind what was made, which nobody reads, and the table's bytes: of these it is said what is due on them,
 // whatever follows.
-pub fn consume(
-    input: &[u8],
-    at: usize,
-    skip: bool,
-    t: &mut [u8],
-    out: &mut [u8],
-) -> Step
+pub fn consume(input: &[u8], at: usize, skip: bool, t: &mut [u8], out: &mut [u8]) -> Step
     requires at_in_bounds { at ≤ length input.now }
     requires room { program_bytes ≤ length t.old }
     ensures { Consumed input.now at skip t.old result t.new out.new }

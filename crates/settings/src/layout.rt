@@ -36,6 +36,7 @@ pub struct Layout {
     pub bytes: usize,
 }
 
+// By `as`: no From makes a usize of it.
 fn wide(x: u32) -> usize
     ensures { result ≡ x }
 {

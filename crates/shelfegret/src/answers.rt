@@ -96,12 +96,7 @@ pub(crate) fn answered(key: Key, a: Result<Said, Refusal>) -> Answer
     ensures { result ≡ answer_reply key a }
 {
     match a {
-        Ok(Said {
-            word,
-            label,
-            compared,
-            slot,
-        }) => said(number_of(word), key, label, compared, slot),
+        Ok(s) => said(number_of(s.word), key, s.label, s.compared, s.slot),
         Err(why) => refused(why),
     }
 }
@@ -110,7 +105,7 @@ pub(crate) fn recorded(a: Result<Option<Record>, Refusal>) -> Answer
     ensures { result ≡ record_reply a }
 {
     match a {
-        Ok(Some(Record { key, label })) => said(RECORD, key, label, 0, 0),
+        Ok(Some(r)) => said(RECORD, r.key, r.label, 0, 0),
         Ok(None) => said(NONE, NO_KEY, 0, 0, 0),
         Err(why) => refused(why),
     }

@@ -6,7 +6,7 @@ ghost use Rattle.table.specs.Calls.{find, enter, relabel, delete, make_call, key
 ghost use Rattle.shelfegret.specs.Reply.{number_reply, make_reply, answer_reply, record_reply, check_reply};
 
 use crate::Answer;
-use crate::answers::{answered, checked, made, recorded, measured};
+use crate::answers::{answered, checked, made, measured, recorded};
 use keys::Key;
 use settings::Settings;
 

@@ -11,7 +11,7 @@ pub enum Word {
     Relabelled,
 }
 
-// What find, enter, relabel and delete say; slot is the number of the entry's slot, 0 with "none" and "gone". The word stands
+// What find, enter, relabel and delete say; slot is the number of the entry's slot, 0 with "none" and "gone", as C gets it. The word stands
 // between two numbers, so that nobody copies both at once: such a load would wait until both have reached the cache.
 #[derive(Clone, Copy)]
 pub struct Said {

@@ -34,7 +34,7 @@ pub fn next(t: &[u8], g: Layout, c: Cursor) -> Option<Next>
 }
 
 // The cursor at the first record behind a run of list i, from which the step is `behind`; at the end of its run, there is
-// none.
+// none. No Option: `next` asks this cursor what it has asked the one before.
 fn moved(t: &[u8], g: Layout, i: ListNumber, behind: Step) -> Cursor
     requires { Table g t.now × Undamaged g (decode g t.now) × (i.0 < g.lists) × Leads g (decode g t.now).overflow behind }
     ensures { Reaches g t.now (λ s. pairs_behind s g t.now i.0 behind) result }

@@ -64,7 +64,7 @@ fn same_entry(t: &[u8], b: Slots, at: usize, n: usize, entry: Key) -> bool
 }
 
 // Whether the n bits from bit `at` on are the number high * 2^64 + low. Of more than 64 bits the low ones are compared
-// first.
+// first. `same_entry` for bits as they stand: one function for both would ask at each slot where the displaced bits end.
 fn holds(t: &[u8], at: usize, n: usize, high: u64, low: u64) -> bool
     requires { (at + n ≤ 8 * length t.now) × (at + n ≤ most_bits) × (n ≤ 128) × (high * 2 ^ 64 + low < 2 ^ n) }
     ensures { result ≡ eqb (field t.now at n) (high * 2 ^ 64 + low) }
@@ -78,7 +78,8 @@ fn holds(t: &[u8], at: usize, n: usize, high: u64, low: u64) -> bool
     bits::get(t, at, n - 64) == high
 }
 
-// The first slot from `from` on that holds the entry, slot by slot; their count if none does. Here and below the slots, the
+// The first slot from `from` on that holds the entry, slot by slot; their count if none does, here and in the searches below
+// no Option: a miss has compared them all, and find answers how many that were. Here and below the slots, the
 // widths and the entry come one by one: in one struct, what a call reads of them would be loads of what was just stored, since
 // a function that is not inlined takes a struct in memory.
 #[tactic(auto, unfolding(keys::specs::Key::key_number))]

@@ -26,7 +26,7 @@ use table_read::lists::{basic_run, displaced_run, follow, overflow_run};
 use table_read::slots::{Slots, entry_in, label_in};
 
 // What stands at a number in a row of slots: an entry with its label, or nothing, with the number that
-// is left behind the row.
+// is left behind the row. No Option or Result: what is past is neither missing nor an error, and goes on to the next row.
 #[derive(Clone, Copy)]
 pub enum Nth {
     Slot { entry: Key, label: u32 },

@@ -19,7 +19,7 @@ use table_read::numbers::basic_capacity;
 use table_read::places::{basic_slot, overflow_slot};
 use table_read::slots::{Slots, entry_in, key_at, label_in};
 
-// Where the slot of a number stands: at a bit, as it stands; among slots whose first bits are displaced; or it is not in use.
+// Where the slot of a number stands, one of three cases that are told apart once (an Option of two would be a tag in a tag): at a bit, as it stands; among slots whose first bits are displaced; or it is not in use.
 #[derive(Clone, Copy)]
 pub enum Spot {
     Slot {

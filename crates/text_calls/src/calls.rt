@@ -19,7 +19,7 @@ use table_find::{Sought, find_in, fits};
 use table_relabel::relabel_sought;
 use text_read::read;
 
-// The answer to a call with a text, and the key that the text spells; key 0 if a refusal comes before it is read.
+// The answer to a call with a text, and the key that the text spells; key 0, as C gets it, if a refusal comes before it is read.
 #[derive(Clone, Copy)]
 pub struct TextAnswer {
     pub key: Key,

@@ -21,7 +21,7 @@ fn put_spaces(line: &mut [u8], from: usize, to: usize)
     }
 }
 
-// A number in decimal that ends before `end`, the last digit first. How many there are is known only at the end, so that
+// A number in decimal that ends before `end`, the last digit first; by hand, since no clause of std says what `write!` puts. How many there are is known only at the end, so that
 // no `for` over places is plainer.
 fn put_right(line: &mut [u8], end: usize, n: u32)
     requires { (length (decimal_text n) ≤ end) × (end ≤ length line.old) }

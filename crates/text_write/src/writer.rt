@@ -124,6 +124,7 @@ fn longest_run(key: Key) -> Option<Run>
     }
     let mut count: usize = 2;
     let mut longer = marks & (marks / 2);
+    // The marks that are left end it, and not a number.
     while longer != 0 {
         marks = longer;
         count += 1;

@@ -32,7 +32,7 @@ module _ (s : State) (buf buf' : List ℕ) where
 
   read_erred : (r : Result (Option State) Error) → Read s buf r buf' → is_ok r ≡ false → Erred
   read_erred (Ok x) t e = cc
-  read_erred (Err y) t e = t
+  read_erred (Err y) t e = t.0
 
 pub loop-init : goal.loop-init
 loop-init c =
