@@ -1,5 +1,5 @@
-// Fields in lent bytes (clause 4.1). A
-// field is 0 to 64 bits wide and starts at any bit. `get`, `get_short` and `get_inner`, and `put` and `put_short`, are no one
+// Fields in lent bytes (clause 4.1). A field is 0 to 64 bits wide and starts at any bit. Its place and its width are numbers of
+// a layout, with their bounds in each contract: a type for each width would be made at each call and taken apart at once. `get`, `get_short` and `get_inner`, and `put` and `put_short`, are no one
 // function with a parameter for which tests to make: their names and what they require say which are needed.
 #![tactic(auto)]
 

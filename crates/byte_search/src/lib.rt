@@ -44,6 +44,7 @@ pub fn first<F: Fn(u8) -> bool>(s: &[u8], at: usize, test: F) -> usize
         return at;
     }
     let i = skip::<4, F>(s, skip::<16, F>(s, at, &test), &test);
+    // By the place, which is the answer.
     for k in i..s.len() {
         if test(s[k]) {
             return k;

@@ -50,7 +50,7 @@ fn write_out(io: &Streams, buf: &[u8]) -> io::Result<()>
     Err(io::Error::from(ErrorKind::Interrupted))
 }
 
-// Where the loop stands: buf[at..end] has been read and is not answered yet; `skip` says that it begins inside a line that
+// Where the loop stands, by places, since a slice would lend the buffer for as long: buf[at..end] has been read and is not answered yet; `skip` says that it begins inside a line that
 // has been answered.
 #[derive(Clone, Copy)]
 struct State {

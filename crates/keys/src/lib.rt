@@ -204,5 +204,5 @@ fn folded(a: u32, b: u32, high: u64, low: u64, c1: u64, c2: u64, c3: u64) -> u64
         + low / 4294967296 * c1
         + high % 4294967296 * c2
         + high / 4294967296 * c3;
-    (a as u64) * sum + b as u64
+    u64::from(a) * sum + u64::from(b)
 }

@@ -16,7 +16,7 @@ use table::{Said, Word};
 // Room for any answer: an address of at most 39 bytes, a word, two numbers of at most ten digits.
 pub const ANSWER_MAX: usize = 80;
 
-// The words of a change but "added". The five words are told apart by one test after the other: a jump through a table
+// The words of a change but "added". The room for the longest is asked at a place, since the buffer is the caller's. The five words are told apart by one test after the other: a jump through a table
 // would be mispredicted in every other line.
 fn put_unadded(w: Word, out: &mut [u8], at: usize) -> usize
     requires { Change w × (w ≡ word.Added → ⊥) × (at + 12 ≤ length out.old) }

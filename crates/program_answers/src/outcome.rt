@@ -88,7 +88,7 @@ fn apply_labelled(
     requires { (takes_label op ≡ true) × (open_of program (length t.old) key ≡ Ok g) × (v ≡ sought_of program t.old key) }
     ensures { Gives (key_call program t.old (verb_of op label) key) result t.new }
 {
-    if !fits(label as u64, SETTINGS.val) {
+    if !fits(u64::from(label), SETTINGS.val) {
         return Err(Refusal::Label);
     }
     match op {

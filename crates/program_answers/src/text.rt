@@ -1,4 +1,5 @@
-// Words and numbers, put at a place of a lent buffer. Each function answers the place behind what it put.
+// Words and numbers, put at a place of a lent buffer. Each function answers the place behind what it put, and
+// takes a place and no rest of the buffer: its contract says what stands before it too.
 ghost use Rattle.std.specs.Prelude.{◌+◌, ◌≤◌, ◌<◌, [], ◌∷◌, length};
 ghost use Rattle.text_write.specs.Decimal.{decimal_text};
 ghost use Rattle.program_answers.specs.Steps.{Put};

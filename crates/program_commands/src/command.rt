@@ -14,7 +14,7 @@ pub enum Op {
     Find,
 }
 
-// A command: its address is the line's bytes from 2 to `end`. The label is 0 where the command takes none, as its contract
+// A command: its address is the line's bytes from 2 to `end`, by a place, since a slice would lend the line. The label is 0 where the command takes none, as its contract
 // (`Asks`) says.
 #[derive(Clone, Copy)]
 pub struct Request {
@@ -38,7 +38,7 @@ fn number(text: &[u8]) -> Option<u32>
         if !b.is_ascii_digit() {
             return None;
         }
-        n = n * 10 + (*b - b'0') as u32;
+        n = n * 10 + u32::from(*b - b'0');
     }
     Some(n)
 }

@@ -21,7 +21,7 @@ fn line_end(s: &[u8], at: usize) -> Option<usize>
     (e < s.len()).then_some(e)
 }
 
-// The command reader: the lent input, and how far it has come.
+// The command reader: the lent input, and how far it has come; by a place, since places are what it answers.
 #[derive(Clone, Copy)]
 pub struct Lines<'a> {
     pub src: &'a [u8],

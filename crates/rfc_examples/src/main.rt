@@ -44,6 +44,7 @@ fn answer_all(out: &mut Stdout, text: &[u8]) {
 fn read_all(input: &mut Stdin, buffer: &mut [u8]) -> usize
     ensures { result ≤ length buffer.old }
 {
+    // What each read gives is added up, and no number of reads is known before.
     let mut n: usize = 0;
     for _ in 0..u64::MAX {
         if n == buffer.len() {

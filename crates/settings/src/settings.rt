@@ -54,7 +54,8 @@ fn between(low: u32, x: u32, high: u32) -> bool
     (low <= x) & (x <= high)
 }
 
-// Laid out as C lays it out, since C callers hand it over as it is.
+// Laid out as C lays it out, since C callers hand it over as it is: so no type can hold that they are legal, and what stands
+// behind the tests asks it (`Ranges`, `Legal`).
 #[repr(C)]
 #[derive(Clone, Copy)]
 pub struct Settings {

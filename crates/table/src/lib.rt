@@ -1,4 +1,4 @@
-// The table in lent bytes: what its calls answer. The definitions stand in specs/; the code of each call in a crate of its own.
+// The table in lent bytes: what its calls answer. Blocks go by their numbers, as the bits hold them, since all memory is lent. The definitions stand in specs/; the code of each call in a crate of its own.
 #![tactic(auto)]
 
 mod answers;

@@ -11,7 +11,7 @@ use crate::lists::{chain_sound, lists_sound};
 use bits::zero_bytes;
 use settings::{Layout, Refusal, Settings};
 
-// Whether the table is sound; the marks are zero before.
+// Whether the table is sound; the marks are zero before. They are bits that the caller lends, since there is no heap.
 fn sound(t: &[u8], g: Layout, marks: &mut [u8]) -> bool
     requires { Proper g × (g.bytes ≤ length t.now) × (g.nob ≤ 8 * length marks.old) × Clear marks.old }
     ensures { result ≡ table_sound g t.now }

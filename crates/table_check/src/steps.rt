@@ -32,7 +32,7 @@ impl Way for InList {
 
     fn step(self, t: &[u8], g: Layout, b: BlockNumber) -> Step {
         let fields = owned_front(t, g, b);
-        if fields.owner.0 != self.0.0 {
+        if fields.owner != self.0 {
             return Step::Damage;
         }
         let used = fields.front.counter + 1;

@@ -24,7 +24,7 @@ fn blocks_length(t: &[u8], g: Layout, i: ListNumber, first: BlockNumber) -> Resu
             return Err(Damage);
         }
         let fields = owned_front(t, g, b);
-        if fields.owner.0 != i.0 {
+        if fields.owner != i {
             return Err(Damage);
         }
         let last = fields.front.counter;

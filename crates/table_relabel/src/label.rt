@@ -21,7 +21,7 @@ fn relabel_overflow(t: &mut [u8], g: Layout, i: ListNumber, p: usize, label: u32
     let first = BlockNumber(basic_head(t, g, i));
     let s = block_slot_of(t, g, first, p - g.sib);
     let at = overflow_slot(g, s.block, s.slot);
-    bits::put(t, at + g.bie, g.val, label as u64);
+    bits::put(t, at + g.bie, g.val, u64::from(label));
 }
 
 // Place p of list i, whose label, at bit `at`, lies under the number of the list's first block: the bits that are displaced then
@@ -58,7 +58,7 @@ fn relabel_first(t: &mut [u8], g: Layout, i: ListNumber, p: usize, at: usize, la
 {
     let front = basic_front(t, g, i);
     if front.counter <= g.sib {
-        bits::put(t, at, g.val, label as u64);
+        bits::put(t, at, g.val, u64::from(label));
         return;
     }
     relabel_displaced(t, g, i, BlockNumber(front.link), p, at, label);
@@ -72,7 +72,7 @@ pub(crate) fn relabel_plain(t: &mut [u8], g: Layout, i: ListNumber, p: usize, la
     ensures { Relabelled g t.old t.new i.0 p label }
 {
     let at = basic_slot(g, i, SlotNumber(p)) + g.bie;
-    bits::put(t, at, g.val, label as u64);
+    bits::put(t, at, g.val, u64::from(label));
 }
 
 // Place p of list i.
@@ -89,5 +89,5 @@ pub(crate) fn relabel_place(t: &mut [u8], g: Layout, i: ListNumber, p: usize, la
         relabel_first(t, g, i, p, begin, label);
         return;
     }
-    bits::put(t, begin, g.val, label as u64);
+    bits::put(t, begin, g.val, u64::from(label));
 }

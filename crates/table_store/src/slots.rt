@@ -37,7 +37,7 @@ fn below(low: u64, val: usize, label: u32) -> u64
     requires { (val ≤ 32) × (label < 2 ^ val) }
     ensures { result ≡ low * 2 ^ val % 2 ^ 64 + label }
 {
-    (low << val) + label as u64
+    (low << val) + u64::from(label)
 }
 
 // A slot at bit `at`: its entry, of bie bits, and its label, of val bits. A slot of up to 128 bits is one store. It takes
@@ -58,7 +58,7 @@ pub fn put_slot(t: &mut [u8], at: usize, bie: usize, val: usize, high: u64, low:
         );
         return;
     }
-    bits::put_wide(&mut t[..], at + bie, val, 0, label as u64);
+    bits::put_wide(&mut t[..], at + bie, val, 0, u64::from(label));
     bits::put_wide(&mut t[..], at, bie, high, low);
 }
 

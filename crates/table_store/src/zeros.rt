@@ -12,7 +12,7 @@ fn first_bits(b: u8, k: usize) -> u8
     ensures { result ≡ replaced b 0 (8 - k) 0 }
 {
     let q = pow(8 - k);
-    (b as u64 / q * q) as u8
+    (u64::from(b) / q * q) as u8
 }
 
 // b with its first k bits zero.
@@ -20,7 +20,7 @@ fn last_bits(b: u8, k: usize) -> u8
     requires { k ≤ 8 }
     ensures { result ≡ replaced b (8 - k) k 0 }
 {
-    (b as u64 % pow(8 - k)) as u8
+    (u64::from(b) % pow(8 - k)) as u8
 }
 
 // The n bits from bit off on become zero: the last bits of a byte, whole bytes, the first bits of a byte.

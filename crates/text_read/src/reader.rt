@@ -1,4 +1,5 @@
 // Reads an address in one pass.
+// A field is a place in the text and no rest of it, since places are answered.
 ghost use Rattle.std.specs.Prelude.{◌≡◌, ◌+◌, ◌*◌, ◌^◌, ◌≤◌, ◌<◌, true, cond, ◌&&◌, length, drop, eqb, Some, None};
 ghost use Rattle.text_read.specs.Class.{colon, dot};
 ghost use Rattle.text_read.specs.Reading.{begins, tail, part, dotted as dottedGroups};

@@ -11,7 +11,7 @@ const COLUMNS: usize = 50;
 
 pub(crate) const ROW_BYTES: usize = 51;
 
-// Spaces from one place up to another. Tried: `fill` takes five instructions more a row.
+// Spaces from one place up to another: here and below places of the whole line, whose bytes before and behind stay. Tried: `fill` takes five instructions more a row.
 fn put_spaces(line: &mut [u8], from: usize, to: usize)
     requires { (from ≤ to) × (to ≤ length line.old) }
     ensures { line.new ≡ take from line.old ++ (replicate (to - from) 32 ++ drop to line.old) }

@@ -17,6 +17,7 @@ pub(crate) fn put_page(s: Settings, t: &[u8], g: Layout, cursor: Cursor, out: &m
 {
     put_heading(out);
     let mut c = cursor;
+    // `end` goes along, since it is the answer too.
     let mut end = ROW_BYTES;
     for _n in 0..ROWS_MAX {
         let Some(r) = next(t, g, c) else {

@@ -36,7 +36,7 @@ pub(crate) struct Ends {
     pub(crate) last: usize,
 }
 
-// Where a decimal ends that stands behind the byte at `at`: one digit, one more from 10 on, and one more from 100 on.
+// Where a decimal ends that stands behind the byte at `at` (here and below a byte is a u32, in which its digits are computed): one digit, one more from 10 on, and one more from 100 on.
 // The sum has no jump: one on the number of digits is badly predicted.
 fn decimal_end(at: usize, byte: u32) -> usize
     requires { (at < 20) × (byte < 256) }
@@ -68,7 +68,7 @@ fn digits_and_dot(byte: u32) -> u64
     requires { byte < 256 }
     ensures { result ≡ packed (48 + byte / 100) (48 + byte / 10 % 10) (48 + byte % 10) 46 }
 {
-    (0x2e303030 + byte * 65536 - byte / 10 * 655104 - byte / 100 * 2559) as u64
+    u64::from(0x2e303030 + byte * 65536 - byte / 10 * 655104 - byte / 100 * 2559)
 }
 
 // A byte in decimal that ends before `end`. Its dot would be the fifth byte, and is not stored. It stays beside the next

@@ -59,7 +59,7 @@ fn put_group(text: &mut [u8], at: usize, group: u16) -> usize
     ensures { Puts (take at text.old ++ (group_text group ++ 58 ∷ [])) (at + 5) text.old text.new result }
 {
     let n = digit_count(group);
-    put_four(text, at, characters(group << (16 - 4 * n)) as u64);
+    put_four(text, at, u64::from(characters(group << (16 - 4 * n))));
     let end = at + n as usize;
     text[end] = b':';
     end + 1
@@ -160,7 +160,7 @@ pub fn put_text(text: &mut [u8], key: Key) -> usize
     put_hexadecimal(text, key)
 }
 
-// The first n bytes; the rest of `out` is left as it is.
+// The first n bytes of the local array, which has room for any text; the rest of `out` is left as it is.
 fn copy(text: &[u8], n: usize, out: &mut [u8])
     requires { (n ≤ length text.now) × (n ≤ length out.old) }
     ensures { out.new ≡ take n text.now ++ drop n out.old }

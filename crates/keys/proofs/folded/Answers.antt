@@ -43,7 +43,9 @@ pub overflow_add-sum-3 : goal.overflow_add-sum-3
 overflow_add-sum-3 c = omega (arith, bounds (goal.at.overflow_add-sum-3 c).Start)
 
 pub overflow_mul-result : goal.overflow_mul-result
-overflow_mul-result c = omega (arith, bounds (goal.at.overflow_mul-result c).Start, product (goal.at.overflow_mul-result c).Start)
+overflow_mul-result c =
+    rw c.from.ensures (omega (arith, bounds (goal.at.overflow_mul-result c).Start, product (goal.at.overflow_mul-result c).Start))
 
 pub overflow_add-result : goal.overflow_add-result
-overflow_add-result c = omega (arith, bounds (goal.at.overflow_add-result c).Start, product (goal.at.overflow_add-result c).Start)
+overflow_add-result c =
+    rw (c.from.ensures, c.from-2.ensures) (omega (arith, bounds (goal.at.overflow_add-result c).Start, product (goal.at.overflow_add-result c).Start))

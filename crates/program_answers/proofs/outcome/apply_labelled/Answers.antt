@@ -33,7 +33,7 @@ pub returns-then-not-fits : goal.returns-then-not-fits
 returns-then-not-fits c =
     let a = c.args in
     label_refused a.t.now (verb_of a.op a.label) a.label (due_for a.op a.label c.requires.0) (open_means program a.key _ _ c.requires.1)
-    (sym c.fits.ensures ∙ c.if-not-fits.true)
+    (rw c.from.ensures at (sym c.fits.ensures ∙ c.if-not-fits.true))
 
 pub returns-in-Enter : goal.returns-in-Enter
 returns-in-Enter c =

@@ -1,5 +1,7 @@
 -- n entries were passed, and with those from here on, in the blocks that are left, they are those of all blocks.
-use mathlib.Core.Path.{◌≡◌, ◌∙◌}
+use Rattle.std.proofs.Common.{eqb-true}
+use Rattle.std.proofs.lemmas.Bool.{eqb-false, not-true, not-false}
+use mathlib.Core.Path.{◌≡◌, sym, ◌∙◌}
 use Prim.Native.Nat.{◌+◌, ◌-◌, ◌≤◌}
 use native.Mathlib.Omega.{arith}
 use Rattle.table.specs.State.{overflow_at}
@@ -13,15 +15,15 @@ pub returns-then-b-g : goal.returns-then-b-g
 returns-then-b-g c =
     length_high c.args.g c.args.t.now c.requires c.args.i.0 (c.args.g.nob - c.loop-k._k) c.loop-k.b.0 c.loop-k.n (omega arith) ∙ c.loop-k.invariant.1
 
-pub returns-then-fields-i : goal.returns-then-fields-i
-returns-then-fields-i c =
+pub returns-then-ne : goal.returns-then-ne
+returns-then-ne c =
     length_other c.args.g c.args.t.now c.requires c.args.i.0 (c.args.g.nob - c.loop-k._k) c.loop-k.b.0 c.loop-k.n
-    (λ e. omega (arith, c.owned_front-fields.ensures.2, c.if-fields-i.true))
+    (λ e. eqb-false _ _ (not-true _ (sym c.ne.ensures ∙ c.if-ne.true)) (omega (arith, c.owned_front-fields.ensures.2)))
     ∙ c.loop-k.invariant.1
 
 -- the block is the list's own
 own : (w : After-step_of) → (overflow_at (decode w.args.g w.args.t.now).overflow w.loop-k.b.0).owner ≡ w.args.i.0
-own w = omega (arith, w.owned_front-fields.ensures.2, w.if-fields-i.false)
+own w = omega (arith, w.owned_front-fields.ensures.2, eqb-true _ _ (not-false _ (sym w.ne.ensures ∙ w.if-ne.false)))
 
 pub returns-in-Last : goal.returns-in-Last
 returns-in-Last c =

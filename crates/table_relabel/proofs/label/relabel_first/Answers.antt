@@ -8,4 +8,4 @@ put-requires-clause-within c = label_within c.requires.0 _ c.requires.2 c.requir
 
 pub returns-then-front-g : goal.returns-then-front-g
 returns-then-front-g c =
-    relabelled_short c.requires.0 (omega (arith, c.basic_front-front.ensures.0, c.if-front-g.true)) _ c.requires.2 _ c.put.ensures
+    relabelled_short c.requires.0 (omega (arith, c.basic_front-front.ensures.0, c.if-front-g.true)) _ c.requires.2 _ (rw c.from.ensures at c.put.ensures)

@@ -28,4 +28,4 @@ put-requires-clause-within c =
 
 pub returns : goal.returns
 returns c =
-    relabelled_overflow c.requires.0 c.requires.1 _ (at (goal.at.returns c).After-block_slot_of-s) _ c.overflow_slot-at.ensures _ c.put.ensures
+    relabelled_overflow c.requires.0 c.requires.1 _ (at (goal.at.returns c).After-block_slot_of-s) _ c.overflow_slot-at.ensures _ (rw c.from.ensures at c.put.ensures)

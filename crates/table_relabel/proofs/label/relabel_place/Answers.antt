@@ -27,4 +27,4 @@ put-requires-clause-within c =
 pub returns : goal.returns
 returns c =
     relabelled_plain c.requires (λ j. search rules) c.if-p-g.false (omega (arith, c.if-begin-basic_slots.false, c.basic_slots.ensures, c.basic_slot.ensures))
-    _ (omega (arith, c.basic_slot.ensures)) _ c.put.ensures
+    _ (omega (arith, c.basic_slot.ensures)) _ (rw c.from.ensures at c.put.ensures)

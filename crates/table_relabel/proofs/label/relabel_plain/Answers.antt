@@ -18,4 +18,4 @@ put-requires-clause-within c = label_within c.requires.0 _ (omega (arith, c.basi
 pub returns : goal.returns
 unfolding basic_slot
 returns c =
-    relabelled_plain c.requires.0 (λ j. search rules) c.requires.1 (omega (arith, c.requires.2)) _ (omega (arith, c.basic_slot.ensures)) _ c.put.ensures
+    relabelled_plain c.requires.0 (λ j. search rules) c.requires.1 (omega (arith, c.requires.2)) _ (omega (arith, c.basic_slot.ensures)) _ (rw c.from.ensures at c.put.ensures)

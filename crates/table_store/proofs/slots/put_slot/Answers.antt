@@ -36,5 +36,5 @@ returns c =
     let a = c.args in
     put_back a.t.now _ _ a.at a.bie (a.at + a.bie) a.val (a.bie + a.val) (a.high * 2 ^ 64 + a.low) (0 + a.label) _
     (λ j. omega (arith, c.slice_known-1.given j)) (omega arith) refl refl (rw zero-add c.requires.5) (ap (λ (y : ℕ). (a.high * 2 ^ 64 + a.low) * 2 ^ a.val + y) (omega arith))
-    c.put_wide-2.ensures
+    (rw c.from.ensures at c.put_wide-2.ensures)
     c.put_wide-3.ensures

@@ -5,4 +5,4 @@ use Rattle.table_store.proofs.zeros.first_bits.Goals as goal
 use Rattle.table_store.proofs.zeros.first_bits.Goals.{After-pow-q}
 
 pub returns : goal.returns
-returns c = rw c.pow-q.ensures (first_bits c.args.b (8 - c.args.k))
+returns c = rw (c.pow-q.ensures, c.from.ensures) (first_bits c.args.b (8 - c.args.k))

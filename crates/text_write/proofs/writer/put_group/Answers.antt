@@ -31,7 +31,7 @@ put c =
     ap unpacked (rw e at c.characters.ensures)
     ∙ unpacked_hex (m / 4096) (m / 256 % 16) (m / 16 % 16) (m % 16) (omega arith) (omega arith) (omega arith) (omega arith)
     in
-    filled_less o c.put_four.new.text (unpacked c.characters.result) c.args.at n 4 (omega (arith, c.requires)) (count c.args.group c.digit_count-n.result c.digit_count-n.ensures).1 c.put_four.ensures.is
+    filled_less o c.put_four.new.text (unpacked c.characters.result) c.args.at n 4 (omega (arith, c.requires)) (count c.args.group c.digit_count-n.result c.digit_count-n.ensures).1 (rw c.from.ensures at c.put_four.ensures.is)
     ∙ ap (λ (l : List ℕ). take c.args.at o ++ take n l) u
     ∙ ap (λ (l : List ℕ). take c.args.at o ++ l) is.1
 

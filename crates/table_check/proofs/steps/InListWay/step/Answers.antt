@@ -5,6 +5,8 @@ use Prim.Native.Nat.{ℕ, suc, ◌+◌, ◌-◌, ◌*◌, ◌<◌}
 use native.Mathlib.Omega.{arith}
 use lib.Dec.{eqb}
 use lib.Pow.{pow_mono}
+use Rattle.std.proofs.Common.{eqb-true}
+use Rattle.std.proofs.lemmas.Bool.{eqb-false, not-true, not-false}
 use Rattle.bits.specs.Field.{field}
 use Rattle.table.specs.State.{overflow_at}
 use Rattle.table.specs.Decode.{overflow_slots, decode}
@@ -18,14 +20,14 @@ use Rattle.table_read.specs.theory.Reads.{overflow_room}
 use Rattle.table_check.proofs.Zeros.{over_zeros}
 use Rattle.table_check.proofs.StepLaws.{list_alien, list_last, list_other}
 use Rattle.table_check.proofs.steps.InListWay.step.Goals as goal
-use Rattle.table_check.proofs.steps.InListWay.step.Goals.{After-step_of-way, After-zeros_after, Else-fields-self, In-Last}
+use Rattle.table_check.proofs.steps.InListWay.step.Goals.{After-step_of-way, After-zeros_after, Else-ne, In-Last}
 
-pub returns-then-fields-self : goal.returns-then-fields-self
-returns-then-fields-self c = sym (list_alien _ _ _ _ (λ e. omega (arith, c.owned_front-fields.ensures.2, c.if-fields-self.true)))
+pub returns-then-ne : goal.returns-then-ne
+returns-then-ne c = sym (list_alien _ _ _ _ (λ e. eqb-false _ _ (not-true _ (sym c.ne.ensures ∙ c.if-ne.true)) (omega (arith, c.owned_front-fields.ensures.2))))
 
 -- the block is the list's own
-own : (c : Else-fields-self) → (overflow_at (decode c.args.g c.args.t.now).overflow c.args.b.0).owner ≡ c.args.self.0.0
-own c = omega (arith, c.owned_front-fields.ensures.2, c.if-fields-self.false)
+own : (c : Else-ne) → (overflow_at (decode c.args.g c.args.t.now).overflow c.args.b.0).owner ≡ c.args.self.0.0
+own c = omega (arith, c.owned_front-fields.ensures.2, eqb-true _ _ (not-false _ (sym c.ne.ensures ∙ c.if-ne.false)))
 
 pub overflow_add-used : goal.overflow_add-used
 overflow_add-used c =
@@ -44,7 +46,7 @@ told w =
 
 pub returns-in_default : goal.returns-in_default
 returns-in_default c =
-    sym (list_other _ _ _ _ (own (goal.at.returns-in_default c).Else-fields-self) c.step_of-way.result (told (goal.at.returns-in_default c).After-step_of-way) c.in_default.not-Last)
+    sym (list_other _ _ _ _ (own (goal.at.returns-in_default c).Else-ne) c.step_of-way.result (told (goal.at.returns-in_default c).After-step_of-way) c.in_default.not-Last)
 
 -- the counter that was read, and that it is below sio
 counter : (c : In-Last) → (c.owned_front-fields.result.front.counter ≡ (overflow_at (decode c.args.g c.args.t.now).overflow c.args.b.0).counter) × (c.owned_front-fields.result.front.counter < c.args.g.sio)
@@ -77,8 +79,8 @@ last c =
 
 pub returns-then-zeros_after : goal.returns-then-zeros_after
 returns-then-zeros_after c =
-    sym (list_last _ _ _ _ (own (goal.at.returns-then-zeros_after c).Else-fields-self) (last (goal.at.returns-then-zeros_after c).After-zeros_after) true (unused (goal.at.returns-then-zeros_after c).After-zeros_after ∙ c.if-zeros_after.true))
+    sym (list_last _ _ _ _ (own (goal.at.returns-then-zeros_after c).Else-ne) (last (goal.at.returns-then-zeros_after c).After-zeros_after) true (unused (goal.at.returns-then-zeros_after c).After-zeros_after ∙ c.if-zeros_after.true))
 
 pub returns : goal.returns
 returns c =
-    sym (list_last _ _ _ _ (own (goal.at.returns c).Else-fields-self) (last (goal.at.returns c).After-zeros_after) false (unused (goal.at.returns c).After-zeros_after ∙ c.if-zeros_after.false))
+    sym (list_last _ _ _ _ (own (goal.at.returns c).Else-ne) (last (goal.at.returns c).After-zeros_after) false (unused (goal.at.returns c).After-zeros_after ∙ c.if-zeros_after.false))
