@@ -68,19 +68,19 @@ module _ (buf t : List ℕ) (at end : ℕ) (skip : Bool) (r : Step) (t' out' : L
 -- ---- reads
 
 -- n bytes have come behind the first `end`, which are as they were
-behind : (at end n : ℕ) (buf x : List ℕ) → at ≤ end → end ≤ length buf
+pub behind : (at end n : ℕ) (buf x : List ℕ) → at ≤ end → end ≤ length buf
     → part at (end + n) (take end buf ++ x) ≡ part at end buf ++ part end (end + n) (take end buf ++ x)
 behind at end n buf x h k =
     parts_join at end (end + n) (take end buf ++ x) h (omega arith)
     ∙ ap (λ (l : List ℕ). l ++ part end (end + n) (take end buf ++ x)) (part_kept at end buf x h k)
 
 -- they are the first n of what stands there
-came : (end n : ℕ) (buf y z : List ℕ) → end ≤ length buf → n ≤ length y → part end (end + n) (take end buf ++ (y ++ z)) ≡ take n y
+pub came : (end n : ℕ) (buf y z : List ℕ) → end ≤ length buf → n ≤ length y → part end (end + n) (take end buf ++ (y ++ z)) ≡ take n y
 came end n buf y z h k =
     let e : end + n - end ≡ n = omega arith in
     ap (λ (m : ℕ). take m (drop end (take end buf ++ (y ++ z)))) e ∙ ap (take n) (drop_at (take end buf) (y ++ z) end (length-take-le end buf h)) ∙ take-append-le n y z k
 
-fits_behind : (end n : ℕ) (buf y z : List ℕ) → end ≤ length buf → n ≤ length y → end + n ≤ length (take end buf ++ (y ++ z))
+pub fits_behind : (end n : ℕ) (buf y z : List ℕ) → end ≤ length buf → n ≤ length y → end + n ≤ length (take end buf ++ (y ++ z))
 fits_behind end n buf y z h k = omega (arith, length-append (take end buf) (y ++ z), length-append y z, length-take-le end buf h)
 
 -- a read of n bytes, told of the state; where none have come, it is as it was

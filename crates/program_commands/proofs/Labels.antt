@@ -18,8 +18,10 @@ use Rattle.text_read.specs.Class.{class_of}
 use Rattle.text_read.specs.Numerals.{digits, number, no_leading_zero}
 use Rattle.text_read.specs.Grammar.{decimal_digit}
 use Rattle.text_read.specs.theory.Bytes.{digit_class, class_decimal}
+use Rattle.text_read.specs.theory.Numerals.{digits_first}
 use Rattle.program_commands.specs.Command.{label_of}
 use Rattle.program_commands.specs.Steps.{NumberRead, label_read}
+use Rattle.program_commands.specs.theory.Labels.{label_means}
 use Rattle.std.specs.Prelude.{Option, Some, None}
 use Rattle.std.specs.Char.{is_ascii_digit}
 
@@ -47,6 +49,25 @@ pub label_past : (s : List ℕ) → length s ≤ 0 → label_of s ≡ none
 unfolding label_of digits
 label_past [] h = refl
 label_past (b ∷ s) h = absurd (omega arith)
+
+-- three digits are a number below 1000
+three : (y : List ℕ) → digits 10 y ≡ true → length y ≤ 3 → number 10 0 y < 1000
+unfolding number
+three [] d h = omega arith
+three (a ∷ []) d h = let p = digits_first 10 a [] d in omega arith
+three (a ∷ b ∷ []) d h =
+    let p = digits_first 10 a (b ∷ []) d in
+    let q = digits_first 10 b [] p.1 in
+    omega arith
+three (a ∷ b ∷ c ∷ []) d h =
+    let p = digits_first 10 a (b ∷ c ∷ []) d in
+    let q = digits_first 10 b (c ∷ []) p.1 in
+    let r = digits_first 10 c [] q.1 in
+    omega arith
+three (a ∷ b ∷ c ∷ x ∷ y) d h = absurd (omega arith)
+
+pub label_below : (y : List ℕ) (v : ℕ) → label_of y ≡ some v → v < 1000
+label_below y v e = let m = label_means y v e in omega (arith, three y m.ten m.high)
 
 -- A number that was read is the label, where there is no leading zero
 pub number_label : (y : List ℕ) (o : Option ℕ) → NumberRead y o → 1 ≤ length y → length y ≤ 3 → no_leading_zero y ≡ true → o ≡ label_read (label_of y)

@@ -85,7 +85,7 @@ module _ {s : Settings} {t : List ℕ} {key : Key} {g : Layout} {v : Sought} (S 
 
   -- the entry was found
   module _ {r : Said} (e : v.found ≡ Ok r) (w : r.word ≡ word.Held) where
-    found : Found g (decode g t) list entry r.label r.compared
+    pub found : Found g (decode g t) list entry r.label r.compared
     found =
         held_goes g (decode g t) list entry r.label r.compared r.slot
         (sym S.found_is ∙ e ∙ ap (λ (x : Word). said x r.label r.compared r.slot) w)

@@ -16,6 +16,12 @@ use Rattle.bits.specs.theory.Numbers.{no_high}
 use Rattle.bits.specs.theory.Words.{swapped_twice}
 use Rattle.table_read.specs.Rows.{Row, Unlike}
 
+-- ---- places of slots
+
+-- the same place in bits
+pub in_bits : (i step k p : ℕ) → p ≡ i + k * step → 8 * p ≡ 8 * i + k * (8 * step)
+in_bits i step k p e = omega arith
+
 -- ---- slots passed
 
 -- a slot that holds the number e has e's window, after the first o bits of the entry and with b behind it

@@ -70,11 +70,11 @@ module _ (g : Layout) (F : Proper g) where
 
 module _ (g : Layout) (os : List Overflow) (j : ℕ) where
   -- what the walk that looks for it says of the list's blocks
-  has_own : {i n b : ℕ} (f : OwnFollowed g i n os b) (x : Bool) → has_block g n os b j ≡ x → ltb 0 (occurs j f.blocks) ≡ x
+  pub has_own : {i n b : ℕ} (f : OwnFollowed g i n os b) (x : Bool) → has_block g n os b j ≡ x → ltb 0 (occurs j f.blocks) ≡ x
   has_own {i} {n} {b} f x e = sym (has_as g os j n b f.blocks (owns g os i f).found) ∙ e
 
 -- the list that it names is one of the table's
-owner_below : (g : Layout) (t : List ℕ) → Table g t → (j : ℕ) → j < g.nob → (overflow_at (decode g t).overflow j).owner < g.lists
+pub owner_below : (g : Layout) (t : List ℕ) → Table g t → (j : ℕ) → j < g.nob → (overflow_at (decode g t).overflow j).owner < g.lists
 owner_below g t T j h = omega (arith, owner_field g t T j h, field_lt t (block_at g.overflow j + (g.overflow.counter + g.link)) g.owner, T.proper.owner_holds)
 
 pub named : (g : Layout) (t : List ℕ) → Table g t → (j : ℕ) → j < g.nob → (i : ℕ) → i ≡ (overflow_at (decode g t).overflow j).owner → i < g.lists

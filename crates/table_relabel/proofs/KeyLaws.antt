@@ -96,9 +96,14 @@ module _ {s : Settings} {t : List ℕ} {key : Key} {g : Layout} {v : Sought} {la
       let is : a ≡ find_in g (decode g t) list entry = sym e ∙ A.sought.found_is in
       rw (call_is, relabel_stays g (decode g t) list entry label (subst Other is o)) (record { answer = is; bytes = refl })
 
+  -- the entry is the n-th, and has the new label
+  pub relabelled_gives : Bytes t → (l n x : ℕ) → Found g (decode g t) list entry label l n x → (u : List ℕ)
+      → Relabelled g t u list (n - 1) label → Gives (key_call s t (relabel label) key) (said word.Relabelled l n x) u
+  relabelled_gives y l n x F u R = rw (call_is, F.goes) (record { answer = refl; bytes = stored_written A.sought.table y R })
+
   -- the entry was found
   module _ {r : Said} (e : v.found ≡ Ok r) (w : r.word ≡ word.Held) where
-    found : Found g (decode g t) list entry label r.label r.compared r.slot
+    pub found : Found g (decode g t) list entry label r.label r.compared r.slot
     found =
         held_goes g (decode g t) list entry label r.label r.compared r.slot
         (sym A.sought.found_is ∙ e ∙ ap (λ (x : Word). said x r.label r.compared r.slot) w)
@@ -112,4 +117,4 @@ module _ {s : Settings} {t : List ℕ} {key : Key} {g : Layout} {v : Sought} {la
     -- and has the new label
     pub held_gives : Bytes t → (u : List ℕ) → Relabelled g t u list (r.compared - 1) label
         → Gives (key_call s t (relabel label) key) (said word.Relabelled r.label r.compared r.slot) u
-    held_gives y u d = rw (call_is, found.goes) (record { answer = refl; bytes = stored_written A.sought.table y d })
+    held_gives y u d = relabelled_gives y r.label r.compared r.slot found u d

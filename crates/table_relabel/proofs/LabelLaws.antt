@@ -151,10 +151,10 @@ module _ {g : Layout} {t : List ℕ} {i p label : ℕ} (R : Relabellable g t i p
     unfolding relabelled
     long_is = ap (relabelled_in g st i p label) (content_chained g st i (long_full g st i P.followed P.is h) blocks (long_own g st i P.followed P.is h))
 
-    last_below : last < g.nob
+    pub last_below : last < g.nob
     last_below = last_low g st.overflow blocks.chain
 
-    ends_there : (b : ℕ) → b ≡ first → last_from g i g.nob st.overflow b ≡ last
+    pub ends_there : (b : ℕ) → b ≡ first → last_from g i g.nob st.overflow b ≡ last
     unfolding last_from
     ends_there b e =
         ap (λ (x : ℕ). last_in g (own_blocks i st.overflow (follow g g.nob st.overflow x))) e
@@ -200,7 +200,7 @@ module _ {g : Layout} {t : List ℕ} {i p label : ℕ} (R : Relabellable g t i p
       over u r S = over_label g.link g.bie g.val g.slot t u base link there (field whole there g.bie) label r T.proper.slot_is refl hl S
 
       -- behind the displaced bits
-      relabelled_behind : Bytes t → basic_slots g i + g.link ≤ basic_slot g i p + g.bie → (u : List ℕ)
+      pub relabelled_behind : Bytes t → basic_slots g i + g.link ≤ basic_slot g i p + g.bie → (u : List ℕ)
           → u ≡ put_field t (basic_slot g i p + g.bie) g.val label → Relabelled g t u i p label
       relabelled_behind y l u eu =
           stored_as (relabelled g st i p label)
@@ -231,7 +231,7 @@ module _ {g : Layout} {t : List ℕ} {i p label : ℕ} (R : Relabellable g t i p
     abbrev slot : BlockSlot
     slot = block_slot_in g (first h ∷ others h) (p - g.sib)
 
-    here : InBlocks g st.overflow (sized g t T) (first h ∷ others h) (p - g.sib)
+    pub here : InBlocks g st.overflow (sized g t T) (first h ∷ others h) (p - g.sib)
     here = in_blocks g st.overflow (sized g t T) (blocks h).chain (p - g.sib) (long_place g st i p P h k)
 
     pub reaches : (b : ℕ) → b ≡ first h → Reaches g st.overflow b (p - g.sib)

@@ -17,12 +17,13 @@ use Rattle.keys.specs.Key.{key_of}
 use Rattle.settings.specs.declared.refusal.Refusal.TheVariants as refusal
 use Rattle.text_read.specs.Class.{class_of}
 use Rattle.text_read.specs.Numerals.{digits, number, group}
-use Rattle.text_read.specs.Reading.{filled, joined}
+use Rattle.text_read.specs.Reading.{push, dotted, or_else, groups, filled, joined}
 use Rattle.text_read.specs.Answers.{keyed}
 use Rattle.text_read.specs.Gathered.{Gathered, made, Sized, filled_with}
-use Rattle.text_read.specs.ReaderSteps.{filled_by}
-use Rattle.text_read.specs.theory.Joined.{digit_more, joined_append}
+use Rattle.text_read.specs.ReaderSteps.{dotted_from, filled_by}
+use Rattle.text_read.specs.theory.Joined.{digit_more, Small, joined_append}
 use Rattle.text_read.proofs.Fields.{digit_most}
+use Rattle.text_read.proofs.Splits.{halves, dotted_halves, dotted_below}
 use Rattle.text_read.specs.declared.groups.Groups.TheInside.{Inside}
 
 -- Each group is below 65,536 ----------------------------------------------------------------------------------------------
@@ -34,6 +35,10 @@ number_bound (x ∷ f) n v d h =
     let p = both_true (ltb (class_of x) 16) (digits 16 f) d in
     let e : n + suc (length f) ≡ n + 1 + length f = omega arith in
     rw e (number_bound f (n + 1) (v * 16 + class_of x) p.1 (digit_more 16 n v (class_of x) h (ltb-true (class_of x) 16 p.0)))
+
+abbrev pub AllSmall : Option (List ℕ) → Type 0
+AllSmall none = Unit {0}
+AllSmall (some l) = Small l
 
 abbrev One : Option ℕ → Type 0
 One none = Unit {0}
@@ -52,6 +57,30 @@ group_one f = go (digits 16 f && leb 1 (length f) && leb (length f) 4) refl
 
 pub group_small : (f : List ℕ) (v : ℕ) → group f ≡ some v → v < 65536
 group_small f v e = rw e at (group_one f)
+
+pub dotted_small : (t : List ℕ) → AllSmall (dotted t)
+dotted_small t = rw (dotted_halves t) (go (dotted_from 0 0 t) refl)
+  where
+    go : (o : Option ℕ) → dotted_from 0 0 t ≡ o → AllSmall (halves o)
+    go none e = tt
+    go (some w) e = (omega (arith, dotted_below t w e), (omega arith, tt))
+
+push_small : (o : Option ℕ) (r : Option (List ℕ)) → One o → AllSmall r → AllSmall (push o r)
+unfolding push
+push_small none r a b = tt
+push_small (some v) none a b = tt
+push_small (some v) (some l) a b = (a, b)
+
+pub groups_small : (end : Bool) (fs : List (List ℕ)) → AllSmall (groups end fs)
+unfolding groups
+groups_small end [] = tt
+groups_small end (f ∷ []) = go (group f) (group_one f) end
+  where
+    go : (o : Option ℕ) → One o → (d : Bool) → AllSmall (or_else o (cond d (dotted f) none))
+    go none k true = unfold or_else in dotted_small f
+    go none k false = unfold or_else in tt
+    go (some v) k d = unfold or_else in (k, tt)
+groups_small end (f ∷ g ∷ fs) = push_small (group f) (groups end (g ∷ fs)) (group_one f) (groups_small end (g ∷ fs))
 
 -- The number --------------------------------------------------------------------------------------------------------------
 

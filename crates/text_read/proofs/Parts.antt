@@ -370,7 +370,7 @@ unfolding to_gap
 gap_fine v n last next none p q = tt
 gap_fine v n last next (some l) p q = cases (leb (n + length l) 8) (λ e. rw e (p, q)) (λ e. rw e tt)
 
-part_fine : (t : List ℕ) (at : ℕ) → Fine (at + length t) (part_from 0 0 t at)
+pub part_fine : (t : List ℕ) (at : ℕ) → Fine (at + length t) (part_from 0 0 t at)
 unfolding part_from
 part_fine t at = go (cut t) refl
   where

@@ -1,4 +1,4 @@
--- Words of the contracts between functions.
+-- A word of the proofs of `run_length`: where a run ends that goes on.
 use Rattle.std.specs.Prelude.{List, ℕ, ◌+◌, length, drop}
 use Rattle.text_run.specs.Run.{run}
 
