@@ -80,7 +80,7 @@ pub asked : (s : Settings) (t : List ℕ) (key : Key) (g : Layout) (v : Sought) 
 asked s t key g v label r =
     record { opened = open_means s key (length t) g r.0; sought = sought_means s t key g v r.0 r.1; low = r.2 }
 
-module _ {s : Settings} {t : List ℕ} {key : Key} {g : Layout} {v : Sought} {label : ℕ} (A : Asked s t key g v label) where
+module _ {s : Settings} {t : List ℕ} {key : Key} {g : Layout} {v : Sought} (S : SoughtIn s t key g v) (label : ℕ) (h : label < 2 ^ s.val) where
   abbrev list : ℕ
   list = v.place.list.0
 
@@ -89,32 +89,34 @@ module _ {s : Settings} {t : List ℕ} {key : Key} {g : Layout} {v : Sought} {la
 
   call_is : key_call s t (relabel label) key ≡ replied g t (relabel_in g (decode g t) list entry label)
   unfolding list_call
-  call_is = A.sought.call_is (relabel label) ∙ rw (lt-ltb label (2 ^ s.val) A.low)
+  call_is = S.call_is (relabel label) ∙ rw (lt-ltb label (2 ^ s.val) h)
+
+  pub sought_held : (l n x : ℕ) → v.found ≡ said word.Held l n x → Found g (decode g t) list entry label l n x
+  sought_held l n x f = held_goes g (decode g t) list entry label l n x (sym S.found_is ∙ f)
 
   pub other_gives : (a : Answer) → v.found ≡ a → Other a → Gives (key_call s t (relabel label) key) a t
   other_gives a e o =
-      let is : a ≡ find_in g (decode g t) list entry = sym e ∙ A.sought.found_is in
+      let is : a ≡ find_in g (decode g t) list entry = sym e ∙ S.found_is in
       rw (call_is, relabel_stays g (decode g t) list entry label (subst Other is o)) (record { answer = is; bytes = refl })
 
   -- the entry is the n-th, and has the new label
   pub relabelled_gives : Bytes t → (l n x : ℕ) → Found g (decode g t) list entry label l n x → (u : List ℕ)
       → Relabelled g t u list (n - 1) label → Gives (key_call s t (relabel label) key) (said word.Relabelled l n x) u
-  relabelled_gives y l n x F u R = rw (call_is, F.goes) (record { answer = refl; bytes = stored_written A.sought.table y R })
+  relabelled_gives y l n x F u R = rw (call_is, F.goes) (record { answer = refl; bytes = stored_written S.table y R })
 
+module _ {s : Settings} {t : List ℕ} {key : Key} {g : Layout} {v : Sought} {label : ℕ} (A : Asked s t key g v label) where
   -- the entry was found
   module _ {r : Said} (e : v.found ≡ Ok r) (w : r.word ≡ word.Held) where
-    pub found : Found g (decode g t) list entry label r.label r.compared r.slot
-    found =
-        held_goes g (decode g t) list entry label r.label r.compared r.slot
-        (sym A.sought.found_is ∙ e ∙ ap (λ (x : Word). said x r.label r.compared r.slot) w)
+    pub found : Found g (decode g t) v.place.list.0 (key_number v.place.entry) label r.label r.compared r.slot
+    found = sought_held A.sought label A.low r.label r.compared r.slot (e ∙ ap (λ (x : Word). said x r.label r.compared r.slot) w)
 
     pub some_compared : 0 < r.compared
     some_compared = found.some_compared
 
-    pub relabellable : Relabellable g t list (r.compared - 1) label
+    pub relabellable : Relabellable g t v.place.list.0 (r.compared - 1) label
     relabellable = record { table = A.sought.table; list = A.sought.list_below; placed = found.placed; fits = label_slot A.opened A.low }
 
     -- and has the new label
-    pub held_gives : Bytes t → (u : List ℕ) → Relabelled g t u list (r.compared - 1) label
+    pub held_gives : Bytes t → (u : List ℕ) → Relabelled g t u v.place.list.0 (r.compared - 1) label
         → Gives (key_call s t (relabel label) key) (said word.Relabelled r.label r.compared r.slot) u
-    held_gives y u d = relabelled_gives y r.label r.compared r.slot found u d
+    held_gives y u d = relabelled_gives A.sought label A.low y r.label r.compared r.slot found u d

@@ -222,6 +222,11 @@ module _ {g : Layout} {t : List ℕ} {i p label : ℕ} (R : Relabellable g t i p
           (over a r (rw (← ew, ← es, ← ez, ← em, ← en, ← ex) S)) u (eu ∙ ap (λ (q : ℕ). link_put g a q r) el))
           (sym first_is)
 
+    -- in an overflow block
+    module _ (k : g.sib ≤ p) where
+      pub here : InBlocks g st.overflow (sized g t T) (first ∷ others) (p - g.sib)
+      here = in_blocks g st.overflow (sized g t T) blocks.chain (p - g.sib) (long_place g st i p P h k)
+
   -- ---- behind the basic block: place p is a slot of an overflow block
 
   module _ (k : g.sib ≤ p) where
@@ -231,8 +236,8 @@ module _ {g : Layout} {t : List ℕ} {i p label : ℕ} (R : Relabellable g t i p
     abbrev slot : BlockSlot
     slot = block_slot_in g (first h ∷ others h) (p - g.sib)
 
-    pub here : InBlocks g st.overflow (sized g t T) (first h ∷ others h) (p - g.sib)
-    here = in_blocks g st.overflow (sized g t T) (blocks h).chain (p - g.sib) (long_place g st i p P h k)
+    within : InBlocks g st.overflow (sized g t T) (first h ∷ others h) (p - g.sib)
+    within = here h k
 
     pub reaches : (b : ℕ) → b ≡ first h → Reaches g st.overflow b (p - g.sib)
     reaches b e = rw e (record { ends = long_ends g st i P.followed P.is h; within = rw (blocks h).are (long_place g st i p P h k) })
@@ -251,7 +256,7 @@ module _ {g : Layout} {t : List ℕ} {i p label : ℕ} (R : Relabellable g t i p
         ∙ ap (λ (bs : List ℕ). block_slot_in g bs (p - g.sib)) (blocks h).are in
         let j : s.block.0 ≡ slot.block.0 = ap (λ (x : BlockSlot). x.block.0) is in
         let q : s.slot.0 ≡ slot.slot.0 = ap (λ (x : BlockSlot). x.slot.0) is in
-        record { is = is; low = omega (arith, here.low); few = omega (arith, here.few) }
+        record { is = is; low = omega (arith, within.low); few = omega (arith, within.few) }
 
     -- its label is within the table
     pub slot_ends : (s : BlockSlot) → SlotAt s → (z : ℕ) → z ≡ overflow_slot g s.block.0 s.slot.0 → z + g.bie + g.val ≤ g.bits
@@ -266,8 +271,8 @@ module _ {g : Layout} {t : List ℕ} {i p label : ℕ} (R : Relabellable g t i p
         ap (entry_of g)
         (ap (λ (n : ℕ). get_or (body h ++ tail h) n 0) e
         ∙ get_or-append-add (body h) (tail h) (p - g.sib) 0
-        ∙ here.holds
-        ∙ overflow_slot_is g t T slot.block.0 slot.slot.0 here.low here.few)
+        ∙ within.holds
+        ∙ overflow_slot_is g t T slot.block.0 slot.slot.0 within.low within.few)
         ∙ slot_entry g T.proper t over_there
 
     behind_is : relabelled g st i p label ≡ over_overflow slot.block.0 (with_slot slot.slot.0 (slot_from t over_there)) st
@@ -275,7 +280,7 @@ module _ {g : Layout} {t : List ℕ} {i p label : ℕ} (R : Relabellable g t i p
     behind_is =
         long_is h
         ∙ rw (le-ltb p g.sib k)
-        (ap (λ (os : List Overflow). mk_state st.free st.basic os) (here.stored (slot_of g (entry_of g (get_or (body h ++ tail h) p 0)) label))
+        (ap (λ (os : List Overflow). mk_state st.free st.basic os) (within.stored (slot_of g (entry_of g (get_or (body h ++ tail h) p 0)) label))
         ∙ ap (λ (e : ℕ). over_overflow slot.block.0 (with_slot slot.slot.0 (slot_of g e label)) st) behind_entry)
 
     pub relabelled_overflow : (s : BlockSlot) → SlotAt s → (z : ℕ) → z ≡ overflow_slot g s.block.0 s.slot.0 → (u : List ℕ)
@@ -283,7 +288,7 @@ module _ {g : Layout} {t : List ℕ} {i p label : ℕ} (R : Relabellable g t i p
     relabelled_overflow s S z ez u eu =
         let q : z ≡ over_there = ez ∙ ap (λ (b : BlockSlot). overflow_slot g b.block.0 b.slot.0) S.is in
         stored_as (relabelled g st i p label)
-        (stored_overflow_slot g t T slot.block.0 here.low slot.slot.0 (slot_from t over_there) here.few (slot_from_lt t over_there) u
+        (stored_overflow_slot g t T slot.block.0 within.low slot.slot.0 (slot_from t over_there) within.few (slot_from_lt t over_there) u
         (slot_put_lem g T.proper t u over_there (slot_from t over_there)
         (eu ∙ ap (λ (n : ℕ). put_field t (n + g.bie) g.val label) q ∙ label_put t over_there g.bie g.val (field t over_there g.bie) label refl hl)))
         (sym behind_is)

@@ -20,12 +20,14 @@ given c =
 pub returns-in_err-found : goal.returns-in_err-found
 returns-in_err-found c =
     let p = err_from_is_err_and c.from_residual.result c.from_residual.ensures.1 in
-    rw (p.1, p.2) (other_gives (given (goal.at.returns-in_err-found c).Start) _ c.in_err-found.was tt)
+    let G = given (goal.at.returns-in_err-found c).Start in
+    rw (p.1, p.2) (other_gives G.sought _ G.low _ c.in_err-found.was tt)
 
 pub returns-in_default : goal.returns-in_default
 returns-in_default c =
     let r = c.in_ok-found.found in
-    other_gives (given (goal.at.returns-in_default c).Start) (Ok r) c.in_ok-found.was
+    let G = given (goal.at.returns-in_default c).Start in
+    other_gives G.sought _ G.low (Ok r) c.in_ok-found.was
     (not_held r.word r.label r.compared r.slot c.in_default.not-Held)
 
 pub overflow_sub-n : goal.overflow_sub-n
